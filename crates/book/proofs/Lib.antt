@@ -1,0 +1,9 @@
+pub mod SoundLaws
+pub mod TableLaws
+pub mod StartLaws
+pub mod CodeLaws
+pub mod EarlyLaws
+pub mod Accepted
+pub mod Views
+pub mod ReportLaws
+pub mod Reports

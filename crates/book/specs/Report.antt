@@ -1,0 +1,50 @@
+-- A report names a task and a tick, and hands back the book as it stands after it.
+use Prim.Native.Nat.{ℕ, _-_}
+use mathlib.Core.Bool.{Bool, not, cond}
+use lib.Dec.{eqb}
+use lib.ListN.{set}
+use Rattle.theory.specs.Report.{reportCode}
+use Rattle.plan.specs.Answer.{refuse, granted, isGranted}
+use Rattle.plan.specs.declared.Answer.{Answer}
+use Rattle.book.specs.View.{planView, bookView}
+use Rattle.book.specs.Sound.{isSound}
+use Rattle.book.specs.Open.{letGoIn}
+use Rattle.book.specs.declared.Book.{Book}
+use Rattle.book.specs.declared.Reported.{Reported}
+
+-- the codes 10 to 15 by task number; task k from 1 is the theory's k - 1
+unfoldable pub codeOf : Book → ℕ → ℕ → ℕ
+codeOf book task tick = cond (eqb task 0) 10 (reportCode (planView book) (bookView book) (task - 1) tick)
+
+-- 9 to 15 as numbered; 10 to 15 say task and tick
+unfoldable pub reportAnswer : Book → ℕ → ℕ → Answer
+reportAnswer book task tick =
+    cond (not (isSound book)) (refuse 9 0 0)
+    (cond (eqb (codeOf book task tick) 0) granted (refuse (codeOf book task tick) task tick))
+
+-- task k from 0 ends at the tick
+unfoldable pub endedIn : Book → ℕ → ℕ → Book
+endedIn book k tick = record {
+  boards = book .boards;
+  tasks = book .tasks;
+  clock = tick;
+  board = book .board;
+  begin = book .begin;
+  finish = book .finish;
+  start = book .start;
+  end = set (book .end) k tick;
+  mark = set (book .mark) k 2;
+  holds = book .holds;
+  after = book .after;
+}
+
+-- end it, then let go whoever may go
+unfoldable pub nextBook : Book → ℕ → ℕ → Book
+nextBook book k tick = letGoIn (endedIn book k tick)
+
+-- a refused report gives the book it was given
+unfoldable pub reportedOf : Book → ℕ → ℕ → Reported
+reportedOf book task tick = record {
+  answer = reportAnswer book task tick;
+  book = cond (isGranted (reportAnswer book task tick)) (nextBook book (task - 1) tick) book;
+}

@@ -1,0 +1,60 @@
+-- For every task and every board, the last task waited for.
+use Prim.Native.Nat.{ℕ, _+_, _-_, _<_, _≤_}
+use mathlib.Core.Bool.{Bool, true, _&&_, _||_}
+use mathlib.Core.List.{List, []}
+use mathlib.Core.Logic.{_⊎_, _≢_}
+use mathlib.Core.Path.{_≡_}
+use lib.Dec.{eqb}
+use lib.ListN.{getD}
+use Rattle.laws.specs.Every.{every}
+use Rattle.laws.specs.Last.{lastOf}
+use Rattle.theory.specs.Plan.{Plan, Lawful}
+use Rattle.theory.specs.Book.{ended}
+use Rattle.plan.specs.Value.{at}
+use Rattle.book.specs.View.{planView}
+use Rattle.book.specs.declared.Book.{Book}
+use Rattle.theory.proofs.Boards.{OnBoards}
+pub use Rattle.theory.proofs.Boards.{InTurn}
+
+-- i waits for k, which is on the board
+abbrev pub waitsOn : Plan → (ℕ → ℕ) → ℕ → ℕ → ℕ → Bool
+waitsOn plan board i on k = plan .waits i k && eqb (board k) on
+
+-- the last task of the board that i waits for, counted from 1; 0 for none
+abbrev pub lastTask : Plan → (ℕ → ℕ) → ℕ → ℕ → ℕ
+lastTask plan board i on = lastOf (plan .tasks) (waitsOn plan board i on) (plan .finish)
+
+-- that task, if there is one, has ended
+abbrev pub hasEnded : (ℕ → ℕ) → ℕ → Bool
+hasEnded mark l = eqb l 0 || ended mark (l - 1)
+
+unfoldable pub rowEnded : (ℕ → ℕ) → List ℕ → Bool
+rowEnded mark row = every 8 (λ j. hasEnded mark (at row j))
+
+abbrev pub SmallRow : List ℕ → Type 0
+SmallRow row = (j : ℕ) → j < 8 → at row j ≤ 64
+
+-- a row of the table, with the tasks below n looked at
+pub record RowTo (plan : Plan) (board : ℕ → ℕ) (i n : ℕ) (row : List ℕ) : Type 0 where
+  pub cells : (j : ℕ) → j < 8 → at row j ≡ lastOf n (waitsOn plan board i (j + 1)) (plan .finish)
+
+-- the rows of those below n who wait
+pub record TableTo (plan : Plan) (board mark : ℕ → ℕ) (n : ℕ) (table : List (List ℕ)) : Type 0 where
+  pub rows : (i : ℕ) → i < n → mark i ≡ 0 → RowTo plan board i (plan .tasks) (getD table i [])
+
+-- boards are 1 to 8
+abbrev pub OnEight : Plan → (ℕ → ℕ) → Type 0
+OnEight plan board = OnBoards plan 8 board
+
+-- whoever a started task waits for has ended
+abbrev pub Closed : Plan → (ℕ → ℕ) → Type 0
+Closed plan mark =
+    (i j : ℕ) → i < plan .tasks → j < plan .tasks → mark i ≢ 0 → plan .waits i j ≡ true → mark j ≡ 2
+
+-- what the start rule asks of a book
+pub record Fit (book : Book) : Type 0 where
+  pub few : book .tasks ≤ 64
+  pub law : Lawful (planView book)
+  pub on : OnEight (planView book) (at (book .board))
+  pub turn : InTurn (planView book) (at (book .board))
+  pub closed : Closed (planView book) (at (book .mark))

@@ -1,0 +1,84 @@
+// What the tests in Rust call, and nothing else.
+ghost use mathlib.Core.Path.{_≡_};
+ghost use mathlib.Core.Bool.{cond};
+ghost use lib.ListN.{length};
+ghost use Rattle.plan.specs.Read.{readingOf};
+ghost use Rattle.plan.specs.Write.{writtenOf, bufferAfter};
+ghost use Rattle.plan.specs.Value.{isAccepted};
+ghost use Rattle.book.specs.Sound.{isSound};
+ghost use Rattle.book.specs.Open.{openingOf};
+ghost use Rattle.book.specs.Report.{reportedOf};
+ghost use Rattle.book.specs.Early.{figureOf};
+use book::Book;
+use book::Figure;
+use book::Opening;
+use book::Reported;
+use plan::Plan;
+use plan::Reading;
+use plan::Written;
+
+#[no_mangle]
+pub extern "C" fn dispatch_read_plan(text: &[u8]) -> Reading
+    ensures { λ r. ⌜ r ≡ readingOf (now (text .entry)) ⌝ }
+{
+    plan::read::read_plan(text)
+}
+
+fn number(yes: bool) -> u32
+    ensures { λ r. ⌜ r ≡ cond yes 1 0 ⌝ }
+{
+    if yes {
+        return 1;
+    }
+    0
+}
+
+#[no_mangle]
+pub extern "C" fn dispatch_is_accepted(plan: Plan) -> u32
+    ensures { λ r. ⌜ r ≡ cond (isAccepted plan) 1 0 ⌝ }
+{
+    number(plan::ranges::is_accepted(
+        plan.boards,
+        plan.tasks,
+        &plan.board,
+        &plan.begin,
+        &plan.finish,
+        &plan.holds,
+        &plan.after,
+    ))
+}
+
+#[no_mangle]
+pub extern "C" fn dispatch_is_sound(book: Book) -> u32
+    ensures { λ r. ⌜ r ≡ cond (isSound book) 1 0 ⌝ }
+{
+    number(book::is_sound(book))
+}
+
+#[no_mangle]
+pub extern "C" fn dispatch_open_book(plan: Plan) -> Opening
+    ensures { λ r. ⌜ r ≡ openingOf plan ⌝ }
+{
+    book::open_book(plan)
+}
+
+#[no_mangle]
+pub extern "C" fn dispatch_report(book: Book, task: u32, tick: u32) -> Reported
+    ensures { λ r. ⌜ r ≡ reportedOf book task tick ⌝ }
+{
+    book.report(task, tick)
+}
+
+#[no_mangle]
+pub extern "C" fn dispatch_minimum_early(book: Book) -> Figure
+    ensures { λ r. ⌜ r ≡ figureOf book ⌝ }
+{
+    book.minimum_early()
+}
+
+#[no_mangle]
+pub extern "C" fn dispatch_write_plan(plan: Plan, out: &mut [u8]) -> Written
+    ensures { λ r. ⌜ (r ≡ writtenOf plan (length (now (out .entry)))) × (now (out .exit) ≡ bufferAfter plan (now (out .entry))) ⌝ }
+{
+    plan::write::write_plan(plan, out)
+}

@@ -1,0 +1,17 @@
+pub mod Cases
+pub mod Every
+pub mod Latest
+pub mod Least
+pub mod Count
+pub mod Scan
+pub mod Each
+pub mod Lists
+pub mod Split
+pub mod Digits
+pub mod Rise
+pub mod Blank
+pub mod Conj
+pub mod Rows
+pub mod Seams
+pub mod Last
+pub mod Sets

@@ -1,0 +1,9 @@
+pub mod Answer
+pub mod Task
+pub mod Pairs
+pub mod Value
+pub mod Arrays
+pub mod Read
+pub mod Fields
+pub mod Write
+pub mod WriteParts

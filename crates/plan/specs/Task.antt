@@ -1,0 +1,22 @@
+-- One task of a plan, and the ranges and rules that its numbers and lists keep.
+use Prim.Native.Nat.{ℕ}
+use mathlib.Core.Bool.{Bool, _&&_}
+use mathlib.Core.List.{List}
+use lib.Dec.{leb, ltb}
+use Rattle.text.specs.Number.{most}
+use Rattle.text.specs.Items.{between, holdsOk, afterOk}
+
+pub record Task : Type 0 where
+  pub board : ℕ
+  pub begin : ℕ
+  pub finish : ℕ
+  pub holds : List ℕ
+  pub after : List ℕ
+
+-- Board is 1 to B. Planned finish is at least planned start + 1 and at most 1,000,000
+abbrev pub numbersOk : ℕ → Task → Bool
+numbersOk boards task =
+    between 1 boards (task .board) && (ltb (task .begin) (task .finish) && leb (task .finish) most)
+
+abbrev pub taskOk : ℕ → ℕ → Task → Bool
+taskOk boards tasks task = numbersOk boards task && (holdsOk (task .holds) && afterOk tasks (task .after))

@@ -1,0 +1,85 @@
+-- A plan as a value: its tasks, and when it is accepted, whatever its arrays hold.
+use Prim.Native.Nat.{ℕ, _+_, _*_}
+use mathlib.Core.Bool.{Bool, _&&_}
+use mathlib.Core.List.{List, []}
+use lib.Dec.{eqb}
+use lib.ListN.{getD, take, drop, replicate}
+use Rattle.laws.specs.Each.{each, rows}
+use Rattle.laws.specs.Every.{every}
+use Rattle.laws.specs.Lists.{allOf}
+use Rattle.laws.specs.Split.{indexOf, before}
+use Rattle.text.specs.Items.{between}
+use Rattle.plan.specs.Answer.{isGranted}
+use Rattle.plan.specs.Task.{Task, taskOk}
+use Rattle.plan.specs.Pairs.{firstFault}
+use Rattle.plan.specs.declared.Plan.{Plan}
+
+abbrev pub at : List ℕ → ℕ → ℕ
+at l i = getD l i 0
+
+-- the width places of task k
+abbrev pub row : ℕ → List ℕ → ℕ → List ℕ
+row width l k = take width (drop (width * k) l)
+
+-- items first, 0 after the last
+abbrev pub items : List ℕ → List ℕ
+items l = before 0 l
+
+-- the tasks that arrays hold
+abbrev pub tasksIn : List ℕ → List ℕ → List ℕ → List ℕ → List ℕ → ℕ → Task
+tasksIn board begin finish holds after k = record {
+  board = at board k;
+  begin = at begin k;
+  finish = at finish k;
+  holds = items (row 32 holds k);
+  after = items (row 64 after k);
+}
+
+abbrev pub taskAt : Plan → ℕ → Task
+taskAt plan = tasksIn (plan .board) (plan .begin) (plan .finish) (plan .holds) (plan .after)
+
+-- the plan of B boards and these T tasks; nothing is kept past its last task or a list's last item
+unfoldable pub planOf : ℕ → ℕ → (ℕ → Task) → Plan
+planOf boards tasks task = record {
+  boards = boards;
+  tasks = tasks;
+  board = each tasks (λ k. task k .board) (replicate 64 0);
+  begin = each tasks (λ k. task k .begin) (replicate 64 0);
+  finish = each tasks (λ k. task k .finish) (replicate 64 0);
+  holds = rows 32 tasks (λ k. task k .holds) (replicate 2048 0);
+  after = rows 64 tasks (λ k. task k .after) (replicate 4096 0);
+}
+
+abbrev pub zeroPlan : Plan
+zeroPlan = planOf 0 0 (λ k. record { board = 0; begin = 0; finish = 0; holds = []; after = [] })
+
+-- nothing is kept from place n on
+unfoldable pub blankFrom : ℕ → List ℕ → Bool
+blankFrom n l = allOf (eqb 0) (drop n l)
+
+-- nothing is kept past a list's last item
+abbrev pub isTrimmed : List ℕ → Bool
+isTrimmed l = blankFrom (indexOf 0 l) l
+
+unfoldable pub keptOk : Plan → ℕ → Bool
+keptOk plan k =
+    taskOk (plan .boards) (plan .tasks) (taskAt plan k)
+    && (isTrimmed (row 32 (plan .holds) k) && isTrimmed (row 64 (plan .after) k))
+
+-- nothing is kept past the last task
+abbrev pub pastBlank : Plan → Bool
+pastBlank plan =
+    blankFrom (plan .tasks) (plan .board)
+    && (blankFrom (plan .tasks) (plan .begin)
+    && (blankFrom (plan .tasks) (plan .finish)
+    && (blankFrom (32 * plan .tasks) (plan .holds) && blankFrom (64 * plan .tasks) (plan .after))))
+
+-- its numbers and lists keep the ranges and rules
+unfoldable pub rangesOk : Plan → Bool
+rangesOk plan =
+    between 1 8 (plan .boards)
+    && (between 1 64 (plan .tasks) && (every (plan .tasks) (keptOk plan) && pastBlank plan))
+
+-- and no pair is faulty
+unfoldable pub isAccepted : Plan → Bool
+isAccepted plan = rangesOk plan && isGranted (firstFault (plan .tasks) (taskAt plan))

@@ -1,0 +1,56 @@
+-- The text of a plan, and what the writer leaves in a buffer.
+use Prim.Native.Nat.{ℕ, zero, suc, _+_}
+use mathlib.Core.Bool.{not, cond}
+use mathlib.Core.List.{List, [], _∷_, _++_}
+use lib.Dec.{ltb}
+use lib.ListN.{length}
+use lib.Seq.{sets}
+use Rattle.laws.specs.Digits.{digitsOf}
+use Rattle.text.specs.Line.{lineText}
+use Rattle.text.specs.Items.{holdsText, afterText}
+use Rattle.plan.specs.Answer.{refuse, granted, isGranted}
+use Rattle.plan.specs.Task.{Task}
+use Rattle.plan.specs.Value.{taskAt, isAccepted}
+use Rattle.plan.specs.Read.{PLAN, TASK, EDITION}
+use Rattle.plan.specs.declared.Answer.{Answer}
+use Rattle.plan.specs.declared.Plan.{Plan}
+use Rattle.plan.specs.declared.Written.{Written}
+
+unfoldable pub sizesText : ℕ → ℕ → List ℕ
+sizesText boards tasks = lineText (PLAN ∷ EDITION ∷ digitsOf boards ∷ digitsOf tasks ∷ [])
+
+unfoldable pub taskText : ℕ → Task → List ℕ
+taskText number task =
+    lineText
+    (TASK
+    ∷ digitsOf number
+    ∷ digitsOf (task .board)
+    ∷ digitsOf (task .begin)
+    ∷ digitsOf (task .finish)
+    ∷ holdsText (task .holds)
+    ∷ afterText (task .after)
+    ∷ [])
+
+-- the lines of the first n tasks
+unfoldable pub taskTexts : (ℕ → Task) → ℕ → List ℕ
+taskTexts task zero = []
+taskTexts task (suc n) = taskTexts task n ++ taskText (n + 1) (task n)
+
+unfoldable pub textOf : Plan → List ℕ
+textOf plan = sizesText (plan .boards) (plan .tasks) ++ taskTexts (taskAt plan) (plan .tasks)
+
+-- 9 first; then 16, which says the bytes needed
+unfoldable pub writeAnswer : Plan → ℕ → Answer
+writeAnswer plan room =
+    cond (not (isAccepted plan)) (refuse 9 0 0)
+    (cond (ltb room (length (textOf plan))) (refuse 16 (length (textOf plan)) 0) granted)
+
+unfoldable pub writtenOf : Plan → ℕ → Written
+writtenOf plan room = record {
+  answer = writeAnswer plan room;
+  length = cond (isGranted (writeAnswer plan room)) (length (textOf plan)) 0;
+}
+
+-- A refused writer changes no byte; one that succeeds changes only the bytes of the text
+unfoldable pub bufferAfter : Plan → List ℕ → List ℕ
+bufferAfter plan out = cond (isGranted (writeAnswer plan (length out))) (sets out 0 (textOf plan)) out

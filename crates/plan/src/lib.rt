@@ -1,0 +1,74 @@
+// A plan as a value, and what reading and writing it answer.
+use text::Items;
+
+mod fields;
+mod pairs;
+pub mod ranges;
+pub mod read;
+pub mod write;
+
+// The refusal number and the table's two numbers; all 0 where nothing is refused.
+#[repr(C)]
+pub struct Answer {
+    pub code: u32,
+    pub first: u32,
+    pub second: u32,
+}
+
+// Task k from 0: its holds are the 32 places from 32 k, its after the 64 places from 64 k, items first, 0 after the last.
+#[repr(C)]
+pub struct Plan {
+    pub boards: u8,
+    pub tasks: u8,
+    pub board: [u8; 64],
+    pub begin: [u32; 64],
+    pub finish: [u32; 64],
+    pub holds: [u8; 2048],
+    pub after: [u8; 4096],
+}
+
+#[repr(C)]
+pub struct Reading {
+    pub answer: Answer,
+    pub plan: Plan,
+}
+
+#[repr(C)]
+pub struct Written {
+    pub answer: Answer,
+    pub length: u32,
+}
+
+// What single fields and lines say: a code, and values that are 0 where it refuses.
+pub(crate) struct Ranged {
+    pub code: u32,
+    pub value: u32,
+}
+
+pub(crate) struct Times {
+    pub code: u32,
+    pub begin: u32,
+    pub finish: u32,
+}
+
+pub(crate) struct Sizes {
+    pub ok: bool,
+    pub boards: u32,
+    pub tasks: u32,
+}
+
+pub(crate) struct Line {
+    pub code: u32,
+    pub board: u32,
+    pub begin: u32,
+    pub finish: u32,
+    pub holds: Items,
+    pub after: Items,
+}
+
+// The task lines read: the first refusal, or the plan they make and how many bytes follow.
+pub(crate) struct Lines {
+    pub answer: Answer,
+    pub left: usize,
+    pub plan: Plan,
+}

@@ -1,0 +1,195 @@
+// Two tasks examined, and the search for the first faulty pair.
+use crate::Answer;
+ghost use mathlib.Core.Path.{_≡_};
+ghost use mathlib.Core.Bool.{_&&_};
+ghost use mathlib.Core.List.{List};
+ghost use Prim.Native.Nat.{ℕ, _+_, _*_, _<_, _≤_};
+ghost use lib.ListN.{length};
+ghost use lib.Dec.{eqb};
+ghost use Rattle.laws.specs.Lists.{anyOf};
+ghost use Rattle.plan.specs.Pairs.{overlap, holdsClash, clashByDrive, isListed, breaksAfter, pairCode, firstFault};
+ghost use Rattle.plan.specs.Value.{row, items, tasksIn};
+ghost use Rattle.plan.specs.Arrays.{meetIn, breaksIn};
+
+fn holds_clash(g: u8, h: u8) -> bool
+    ensures { λ r. ⌜ r ≡ holdsClash g h ⌝ }
+{
+    (g / 2 == h / 2) & !((g % 2 == 1) & (h % 2 == 1))
+}
+
+// Does an item of the list, items first and 0 after the last, clash with the hold?
+fn meets(g: u8, those: &[u8]) -> bool
+    ensures { λ r. ⌜ r ≡ anyOf (holdsClash g) (items (now (those .entry))) ⌝ }
+{
+    let mut j = 0;
+    while j < those.len() {
+        let h = those[j];
+        if h == 0 {
+            return false;
+        }
+        if holds_clash(g, h) {
+            return true;
+        }
+        j += 1;
+    }
+    false
+}
+
+// Do the two lists have a drive in common, at least one exclusively?
+fn lists_clash(these: &[u8], those: &[u8]) -> bool
+    ensures { λ r. ⌜ r ≡ clashByDrive (items (now (these .entry))) (items (now (those .entry))) ⌝ }
+{
+    let mut i = 0;
+    while i < these.len() {
+        let g = these[i];
+        if g == 0 {
+            return false;
+        }
+        if meets(g, those) {
+            return true;
+        }
+        i += 1;
+    }
+    false
+}
+
+fn clash_by_drive(holds: &[u8; 2048], a: usize, b: usize) -> bool
+    requires { ⌜ (a < 64) × (b < 64) ⌝ }
+    ensures { λ r. ⌜ r ≡ clashByDrive (items (row 32 (now (holds .entry)) a)) (items (row 32 (now (holds .entry)) b)) ⌝ }
+{
+    let all = &holds[..];
+    let s = 32 * a;
+    let t = 32 * b;
+    let these = &all[s..s + 32];
+    let those = &all[t..t + 32];
+    lists_clash(these, those)
+}
+
+// Does the task number stand in the list?
+fn is_listed(list: &[u8], number: u8) -> bool
+    ensures { λ r. ⌜ r ≡ isListed (items (now (list .entry))) number ⌝ }
+{
+    let mut i = 0;
+    while i < list.len() {
+        let n = list[i];
+        if n == 0 {
+            return false;
+        }
+        if number == n {
+            return true;
+        }
+        i += 1;
+    }
+    false
+}
+
+fn lists<'a>(after: &'a [u8; 4096], a: usize, b: usize) -> bool
+    requires { ⌜ (a < 64) × (b < 64) ⌝ }
+    ensures { λ r. ⌜ r ≡ isListed (items (row 64 (now (after .entry)) a)) (b + 1) ⌝ }
+{
+    let all = &after[..];
+    let s = 64 * a;
+    is_listed(&all[s..s + 64], (b + 1) as u8)
+}
+
+// The planned times overlap, half open, of two different tasks.
+fn meet<'a>(begin: &'a [u32; 64], finish: &'a [u32; 64], a: usize, b: usize) -> bool
+    requires { ⌜ (a < 64) × (b < 64) ⌝ }
+    ensures { λ r. ⌜ r ≡ meetIn (now (begin .entry)) (now (finish .entry)) a b ⌝ }
+{
+    !(a == b) & ((begin[a] < finish[b]) & (begin[b] < finish[a]))
+}
+
+// The lists are walked only where the planned times overlap.
+fn meet_on_drive<'a>(met: bool, holds: &'a [u8; 2048], a: usize, b: usize) -> bool
+    requires { ⌜ (a < 64) × (b < 64) ⌝ }
+    ensures { λ r. ⌜ r ≡ (met && clashByDrive (items (row 32 (now (holds .entry)) a)) (items (row 32 (now (holds .entry)) b))) ⌝ }
+{
+    if met {
+        return clash_by_drive(holds, a, b);
+    }
+    false
+}
+
+// Task a lists task b under after, and b's planned finish is past a's planned start.
+fn breaks_after<'a>(
+    begin: &'a [u32; 64],
+    finish: &'a [u32; 64],
+    after: &'a [u8; 4096],
+    a: usize,
+    b: usize,
+) -> bool
+    requires { ⌜ (a < 64) × (b < 64) ⌝ }
+    ensures { λ r. ⌜ r ≡ breaksIn (now (begin .entry)) (now (finish .entry)) (now (after .entry)) a b ⌝ }
+{
+    if begin[a] < finish[b] {
+        return lists(after, a, b);
+    }
+    false
+}
+
+// 6, 7 or 8 where the pair is faulty, else 0.
+fn pair_code<'a>(
+    board: &'a [u8; 64],
+    begin: &'a [u32; 64],
+    finish: &'a [u32; 64],
+    holds: &'a [u8; 2048],
+    after: &'a [u8; 4096],
+    a: usize,
+    b: usize,
+) -> u32
+    requires { ⌜ (a < 64) × (b < 64) ⌝ }
+    ensures { λ r. ⌜ r ≡ pairCode (tasksIn (now (board .entry)) (now (begin .entry)) (now (finish .entry)) (now (holds .entry)) (now (after .entry))) a b ⌝ }
+{
+    let met = meet(begin, finish, a, b);
+    if met & (board[a] == board[b]) {
+        return 6;
+    }
+    if meet_on_drive(met, holds, a, b) {
+        return 7;
+    }
+    if breaks_after(begin, finish, after, a, b) {
+        return 8;
+    }
+    if breaks_after(begin, finish, after, b, a) {
+        return 8;
+    }
+    0
+}
+
+// The first faulty pair, by a and then by b; granted where there is none.
+pub(crate) fn first_fault<'a>(
+    board: &'a [u8; 64],
+    begin: &'a [u32; 64],
+    finish: &'a [u32; 64],
+    holds: &'a [u8; 2048],
+    after: &'a [u8; 4096],
+    tasks: usize,
+) -> Answer
+    requires { ⌜ tasks ≤ 64 ⌝ }
+    ensures { λ r. ⌜ r ≡ firstFault tasks (tasksIn (now (board .entry)) (now (begin .entry)) (now (finish .entry)) (now (holds .entry)) (now (after .entry))) ⌝ }
+{
+    let mut a: usize = 0;
+    'search: loop {
+        if tasks <= a {
+            break 'search Answer {
+                code: 0,
+                first: 0,
+                second: 0,
+            };
+        }
+        let mut b = a;
+        while b < tasks {
+            let code = pair_code(board, begin, finish, holds, after, a, b);
+            if code != 0 {
+                break 'search Answer {
+                    code,
+                    first: (a + 1) as u32,
+                    second: (b + 1) as u32,
+                };
+            }
+            b += 1;
+        }
+        a += 1;
+    }
+}

@@ -1,0 +1,3 @@
+pub mod PlanA
+pub mod Starred
+pub mod Listing

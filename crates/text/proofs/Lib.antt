@@ -1,0 +1,7 @@
+pub mod Parts
+pub mod Spell
+pub mod Rise
+pub mod Store
+pub mod Numerals
+pub mod Lists
+pub mod Answers

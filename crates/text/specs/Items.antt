@@ -1,0 +1,100 @@
+-- The two list fields of a line.
+use Prim.Native.Nat.{ℕ, _+_, _*_, _/_, _%_, min}
+use mathlib.Core.Bool.{Bool, false, not, cond, _&&_, _||_}
+use mathlib.Core.List.{List, [], _∷_, map}
+use lib.Dec.{leb, eqb}
+use Rattle.laws.specs.Lists.{allOf, rising, same}
+use Rattle.laws.specs.Split.{splitOn, joinOn}
+use Rattle.laws.specs.Digits.{digitsOf}
+use Rattle.text.specs.Bytes.{bytes}
+use Rattle.text.specs.Number.{isNumber, valueOf}
+use Rattle.text.specs.declared.Items.{Items}
+use lib.ListN.{length, replicate}
+use lib.Seq.{sets}
+
+abbrev pub between : ℕ → ℕ → ℕ → Bool
+between low high n = leb low n && leb n high
+
+abbrev pub COMMA : ℕ
+COMMA = 44
+
+-- The mark `-` means none
+abbrev pub NONE : List ℕ
+NONE = bytes "-"
+
+-- `-` or items joined by commas
+unfoldable pub isList : (List ℕ → Bool) → List ℕ → Bool
+isList isItem s = same s NONE || allOf isItem (splitOn COMMA s)
+
+unfoldable pub listOf : (List ℕ → ℕ) → List ℕ → List ℕ
+listOf item s = cond (same s NONE) [] (map item (splitOn COMMA s))
+
+unfoldable pub listText : (ℕ → List ℕ) → List ℕ → List ℕ
+listText text [] = NONE
+listText text (x ∷ l) = joinOn COMMA (map text (x ∷ l))
+
+-- A hold is one number: 2 d for drive d exclusively, 2 d + 1 for drive d shared
+abbrev pub hold : Bool → ℕ → ℕ
+hold shared drive = drive * 2 + cond shared 1 0
+
+abbrev pub driveOf : ℕ → ℕ
+driveOf h = h / 2
+
+abbrev pub isShared : ℕ → Bool
+isShared h = eqb (h % 2) 1
+
+-- each `e` (exclusive) or `s` (shared) and a drive number
+unfoldable pub isHold : List ℕ → Bool
+isHold [] = false
+isHold (b ∷ s) = (eqb b 101 || eqb b 115) && isNumber s
+
+unfoldable pub holdOf : List ℕ → ℕ
+holdOf [] = 0
+holdOf (b ∷ s) = hold (eqb b 115) (valueOf s)
+
+abbrev pub holdText : ℕ → List ℕ
+holdText h = cond (isShared h) 115 101 ∷ digitsOf (driveOf h)
+
+-- the fields holds and after
+abbrev pub isHolds : List ℕ → Bool
+isHolds s = isList isHold s
+
+abbrev pub holdsOf : List ℕ → List ℕ
+holdsOf s = listOf holdOf s
+
+abbrev pub holdsText : List ℕ → List ℕ
+holdsText l = listText holdText l
+
+abbrev pub isAfter : List ℕ → Bool
+isAfter s = isList isNumber s
+
+abbrev pub afterOf : List ℕ → List ℕ
+afterOf s = listOf valueOf s
+
+abbrev pub afterText : List ℕ → List ℕ
+afterText l = listText digitsOf l
+
+-- Drives numbered 1 to 32, drive numbers strictly rising
+unfoldable pub holdsOk : List ℕ → Bool
+holdsOk holds = allOf (λ h. between 1 32 (driveOf h)) holds && rising driveOf holds
+
+-- task numbers 1 to T, strictly rising
+unfoldable pub afterOk : ℕ → List ℕ → Bool
+afterOk tasks after = allOf (between 1 tasks) after && rising (λ n. n) after
+
+-- a list reader's answer: 3 for a misspelt list, 4 for one out of range or not rising, else its items, zeros after them
+abbrev pub noItems : ℕ → Items
+noItems code = record { code = code; count = 0; items = replicate 64 0 }
+
+abbrev pub someItems : List ℕ → Items
+someItems l = record { code = 0; count = length l; items = sets (replicate 64 0) 0 l }
+
+abbrev pub itemsOf : Bool → Bool → List ℕ → Items
+itemsOf spelt fine l = cond (not spelt) (noItems 3) (cond (not fine) (noItems 4) (someItems l))
+
+unfoldable pub holdsRead : List ℕ → Items
+holdsRead s = itemsOf (isHolds s) (holdsOk (holdsOf s)) (holdsOf s)
+
+-- there are never more than 64 tasks to come after
+unfoldable pub afterRead : List ℕ → ℕ → Items
+afterRead s tasks = itemsOf (isAfter s) (afterOk (min tasks 64) (afterOf s)) (afterOf s)

@@ -1,0 +1,7 @@
+pub mod Bytes
+pub mod Number
+pub mod Line
+pub mod Items
+pub mod Place
+pub mod Lettered
+pub mod Put

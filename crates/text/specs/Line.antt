@@ -1,0 +1,37 @@
+-- Lines of text, one record a line, fields parted by one tab, each line ended by one LF.
+use Prim.Native.Nat.{ℕ, zero, suc}
+use mathlib.Core.Bool.{Bool}
+use mathlib.Core.List.{List, [], _∷_, _++_}
+use lib.Dec.{ltb}
+use lib.ListN.{length, getD}
+use Rattle.laws.specs.Split.{indexOf, before, after, splitOn, joinOn}
+
+abbrev pub TAB : ℕ
+TAB = 9
+
+abbrev pub LF : ℕ
+LF = 10
+
+-- does a line begin the text, its LF included
+abbrev pub hasLine : List ℕ → Bool
+hasLine s = ltb (indexOf LF s) (length s)
+
+-- the text after its first n lines
+unfoldable pub skip : ℕ → List ℕ → List ℕ
+skip zero s = s
+skip (suc n) s = skip n (after LF s)
+
+-- line n of the text, from 0, without its LF
+abbrev pub lineAt : List ℕ → ℕ → List ℕ
+lineAt s n = before LF (skip n s)
+
+-- the fields of a line, and one of them, from 0
+abbrev pub fields : List ℕ → List (List ℕ)
+fields line = splitOn TAB line
+
+abbrev pub field : List ℕ → ℕ → List ℕ
+field line n = getD (fields line) n []
+
+-- a line made of its fields
+abbrev pub lineText : List (List ℕ) → List ℕ
+lineText parts = joinOn TAB parts ++ (LF ∷ [])

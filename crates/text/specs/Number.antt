@@ -1,0 +1,37 @@
+-- Numbers of a text.
+use Prim.Native.Nat.{ℕ}
+use mathlib.Core.Bool.{Bool, false, not, cond, _&&_}
+use mathlib.Core.List.{List, [], _∷_}
+use lib.Dec.{leb, eqb}
+use Rattle.laws.specs.Lists.{allOf}
+use Rattle.laws.specs.Digits.{valueAfter}
+use Rattle.text.specs.declared.Number.{Number}
+use Rattle.text.specs.declared.Number.the-variants.{Value, Over, Misspelt}
+
+-- the bytes `0` to `9`
+abbrev pub isDigit : ℕ → Bool
+isDigit b = leb 48 b && leb b 57
+
+-- Numbers are decimal digits with no leading zero, except the number `0` itself
+unfoldable pub isNumber : List ℕ → Bool
+isNumber [] = false
+isNumber (b ∷ []) = isDigit b
+isNumber (b ∷ c ∷ s) = not (eqb b 48) && allOf isDigit (b ∷ c ∷ s)
+
+-- the number that digits say, however many there are
+abbrev pub valueOf : List ℕ → ℕ
+valueOf s = valueAfter 0 s
+
+-- Ticks are whole numbers, 0 to 1,000,000; no number of a text is larger
+abbrev pub most : ℕ
+most = 1000000
+
+-- the number reader's answer
+unfoldable pub numberOf : List ℕ → Number
+numberOf s = cond (isNumber s) (cond (leb (valueOf s) most) (Value (valueOf s)) Over) Misspelt
+
+-- the refusal number of a line in which the answer stands: misspelt 3, out of range 4
+abbrev pub numberCode : Number → ℕ
+numberCode (Value v) = 0
+numberCode Over = 4
+numberCode Misspelt = 3

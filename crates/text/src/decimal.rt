@@ -1,0 +1,95 @@
+// Numbers of a text: decimal digits with no leading zero, except `0` itself.
+ghost use mathlib.Core.Path.{_≡_};
+ghost use mathlib.Core.Bool.{true};
+ghost use Prim.Native.Nat.{_+_, _-_, _*_, _≤_, min};
+ghost use lib.ListN.{length};
+ghost use Rattle.laws.specs.Lists.{allOf};
+ghost use Rattle.laws.specs.Digits.{digitsOf};
+ghost use Rattle.text.specs.Number.{isDigit, isNumber, valueOf, numberOf};
+use crate::Number;
+
+const MOST: u32 = 1000000;
+
+const HELD: u32 = 1000001;
+
+fn is_digit(b: u8) -> bool
+    ensures { λ r. ⌜ r ≡ isDigit b ⌝ }
+{
+    (b'0' <= b) & (b <= b'9')
+}
+
+fn all_digits(s: &[u8]) -> bool
+    ensures { λ r. ⌜ r ≡ allOf isDigit (now (s .entry)) ⌝ }
+{
+    let mut i = 0;
+    while i < s.len() {
+        if !is_digit(s[i]) {
+            return false;
+        }
+        i += 1;
+    }
+    true
+}
+
+pub fn is_number(field: &[u8]) -> bool
+    ensures { λ r. ⌜ r ≡ isNumber (now (field .entry)) ⌝ }
+{
+    let n = field.len();
+    if n == 0 {
+        return false;
+    }
+    // a leading zero
+    if (1 < n) & (field[0] == b'0') {
+        return false;
+    }
+    all_digits(field)
+}
+
+// One digit more, held at 1,000,001, so that no field is too long to read.
+fn grown(v: u32, b: u8) -> u32
+    requires { ⌜ (v ≤ 1000001) × (48 ≤ b) × (b ≤ 57) ⌝ }
+    ensures { λ r. ⌜ r ≡ min (v * 10 + (b - 48)) 1000001 ⌝ }
+{
+    let w = v * 10 + (b - b'0') as u32;
+    if w <= MOST { w } else { HELD }
+}
+
+fn value(s: &[u8]) -> u32
+    requires { ⌜ allOf isDigit (now s) ≡ true ⌝ }
+    ensures { λ r. ⌜ r ≡ min (valueOf (now (s .entry))) 1000001 ⌝ }
+{
+    let mut v = 0;
+    let mut i = 0;
+    while i < s.len() {
+        v = grown(v, s[i]);
+        i += 1;
+    }
+    v
+}
+
+pub fn read_number(field: &[u8]) -> Number
+    ensures { λ r. ⌜ r ≡ numberOf (now (field .entry)) ⌝ }
+{
+    if !is_number(field) {
+        return Number::Misspelt;
+    }
+    let v = value(field);
+    if v <= MOST {
+        Number::Value(v)
+    } else {
+        Number::Over
+    }
+}
+
+// How many digits n has.
+pub fn width(n: u32) -> usize
+    ensures { λ r. ⌜ r ≡ length (digitsOf n) ⌝ }
+{
+    let mut w = 1;
+    let mut rest = n;
+    while 10 <= rest {
+        rest /= 10;
+        w += 1;
+    }
+    w
+}

@@ -1,0 +1,89 @@
+// Parts of a text, between separators. A part is the caller's own bytes and no copy.
+ghost use mathlib.Core.Path.{_≡_};
+ghost use lib.ListN.{length};
+ghost use Rattle.laws.specs.Lists.{same};
+ghost use Rattle.laws.specs.Split.{before, after};
+ghost use Rattle.text.specs.Line.{fields, field};
+ghost use Rattle.text.specs.Place.{Place};
+
+pub const TAB: u8 = 9;
+
+pub const LF: u8 = 10;
+
+// The place of the first c; the length where there is none.
+pub fn find(s: &[u8], c: u8) -> usize
+    ensures { λ r. ⌜ Place c (now (s .entry)) r ⌝ }
+{
+    let mut i = 0;
+    while i < s.len() {
+        if s[i] == c {
+            return i;
+        }
+        i += 1;
+    }
+    i
+}
+
+pub fn part_before<'a>(s: &'a [u8], c: u8) -> &'a [u8]
+    ensures { λ r. ⌜ now r ≡ before c (now (s .entry)) ⌝ }
+{
+    let k = find(s, c);
+    &s[..k]
+}
+
+// Where there is no c, nothing stands after it.
+pub fn part_after<'a>(s: &'a [u8], c: u8) -> &'a [u8]
+    ensures { λ r. ⌜ now r ≡ after c (now (s .entry)) ⌝ }
+{
+    let k = find(s, c);
+    if k < s.len() {
+        return &s[k + 1..];
+    }
+    &s[k..]
+}
+
+// One field more than there are tabs.
+pub fn count_fields(line: &[u8]) -> usize
+    ensures { λ r. ⌜ r ≡ length (fields (now (line .entry))) ⌝ }
+{
+    let mut n = 1;
+    let mut i = 0;
+    while i < line.len() {
+        if line[i] == TAB {
+            n += 1;
+        }
+        i += 1;
+    }
+    n
+}
+
+// The n-th field of a line, from 0; past the last, the empty part.
+pub fn field<'a>(line: &'a [u8], n: usize) -> &'a [u8]
+    ensures { λ r. ⌜ now r ≡ field (now (line .entry)) n ⌝ }
+{
+    let mut rest = line;
+    let mut left = n;
+    while 0 < left {
+        let next = part_after(rest, TAB);
+        rest = next;
+        left -= 1;
+    }
+    part_before(rest, TAB)
+}
+
+pub fn same(s: &[u8], w: &[u8]) -> bool
+    ensures { λ r. ⌜ r ≡ same (now (s .entry)) (now (w .entry)) ⌝ }
+{
+    let n = s.len();
+    if n != w.len() {
+        return false;
+    }
+    let mut i = 0;
+    while i < n {
+        if s[i] != w[i] {
+            return false;
+        }
+        i += 1;
+    }
+    true
+}

@@ -1,0 +1,111 @@
+-- Minimum early is kept: whoever has not ended starts and ends at least that early, whatever is reported.
+use mathlib.Core.Path.{_≡_}
+use mathlib.Core.Logic.{_≢_}
+use mathlib.Core.Bool.{true}
+use mathlib.Core.List.{List}
+use mathlib.Core.Option.{Option·getD}
+use Prim.Native.Nat.{ℕ, zero, suc, _+_, _-_, _≤_, _<_}
+use native.Mathlib.Omega.{arith}
+use borrow.Author.Tests.{eq-eqb, eqb-true}
+use Rattle.laws.specs.Cases.{by-eq}
+use Rattle.laws.specs.Latest.{latest-under}
+use Rattle.laws.specs.Least.{least, least-or-over}
+use Rattle.theory.specs.Plan.{Plan, Lawful}
+use Rattle.theory.specs.Book.{Book, running, Sound}
+use Rattle.theory.specs.Report.{Report, run}
+use Rattle.theory.specs.Figure.{minimumEarly}
+use Rattle.theory.proofs.Task.{mark-range, waiting-why, ended-within, end-by-clock}
+use Rattle.theory.proofs.Step.{sound-run}
+use Rattle.theory.proofs.Later.{Later, later-run}
+use Rattle.theory.proofs.Boards.{OnBoards, figure-least, board-under}
+use Rattle.theory.proofs.Order.{in-order, started-due, never-late}
+
+module _ (plan : Plan) (boards : ℕ) (board : ℕ → ℕ) (book : Book) (on : OnBoards plan boards board) where
+  -- M is at most what each running task is early by
+  figure-under :
+      (j : ℕ) → j < plan .tasks → book .mark j ≡ 1
+      → minimumEarly plan boards board book ≤ plan .begin j - book .start j
+  figure-under j l m =
+      let u = figure-least plan boards board book (board j) ((on j l) .0) ((on j l) .1) in
+      let v = board-under plan board book j l m in
+      omega arith
+
+  -- so it is at most the least over all that run
+  pub figure-below-running :
+      (otherwise j : ℕ) → j < plan .tasks → book .mark j ≡ 1
+      → minimumEarly plan boards board book
+      ≤ Option·getD (least (plan .tasks) (running (book .mark)) (λ i. plan .begin i - book .start i)) otherwise
+  figure-below-running otherwise j l m =
+      least-or-over (plan .tasks) (running (book .mark)) _ otherwise _
+      (λ i li h. figure-under i li (eqb-true (book .mark i) 1 h)) j l (eq-eqb (book .mark j) 1 m)
+
+  pub running-low :
+      Lawful plan → Sound plan book → (j : ℕ) → j < plan .tasks → book .mark j ≡ 1
+      → book .start j + minimumEarly plan boards board book ≤ plan .begin j
+  running-low law sound j l m =
+      let u = figure-under j l m in let n = never-late plan book sound law j l (omega arith) in omega arith
+
+-- what is promised of a task in a later book: it starts and ends at least so many ticks early
+pub record EarlyBy (plan : Plan) (early : ℕ) (later : Book) (i : ℕ) : Type 0 where
+  pub starts : later .mark i ≢ 0 → later .start i + early ≤ plan .begin i
+  pub ends : later .mark i ≡ 2 → later .end i + early ≤ plan .finish i
+
+module _ (plan : Plan) (law : Lawful plan) (book later : Book) (sound : Sound plan book) (sound′ : Sound plan later)
+    (after : Later plan book later) (early : ℕ)
+    (low : (j : ℕ) → j < plan .tasks → book .mark j ≡ 1 → book .start j + early ≤ plan .begin j) where
+  -- one that starts early ends early
+  ends-early :
+      (j : ℕ) → j < plan .tasks → later .mark j ≡ 2 → later .start j + early ≤ plan .begin j
+      → later .end j + early ≤ plan .finish j
+  ends-early j l e s = let p = law .lasts j l in let w = ended-within (sound′ .task j l) e in omega arith
+
+  running-early : (j : ℕ) → j < plan .tasks → book .mark j ≡ 1 → later .start j + early ≤ plan .begin j
+  running-early j l m = let s = (after .started-stay j l (omega arith)) .1 in let q = low j l m in omega arith
+
+  -- a waiting task starts early if all it waits for end early that had not ended
+  waited-early :
+      (i : ℕ) → i < plan .tasks → book .mark i ≡ 0 → later .mark i ≢ 0
+      → ((j : ℕ) → j < plan .tasks → plan .waits i j ≡ true → book .mark j ≢ 2 → later .end j + early ≤ plan .begin i)
+      → later .start i + early ≤ plan .begin i
+  waited-early i l z h ends =
+      let d = started-due plan later sound′ i l h in
+      let b = waiting-why (sound .task i l) z in
+      let top = ends (b .who) (b .task) (b .held) (b .still) in
+      let e = (in-order plan later sound′ i (b .who) l (b .task) (b .held) h) .0 in
+      let c = after .new-ends (b .who) (b .task) (b .still) e in
+      let u =
+      latest-under (plan .tasks) (plan .waits i) (later .end) (plan .begin i - early) (λ j lj w.
+      by-eq (book .mark j) 2
+      (λ m. let k = (after .ended-stay j lj m) .1 in let q = end-by-clock (sound .task j lj) in omega arith)
+      (λ ne. let q = ends j lj w ne in omega arith)) in
+      omega arith
+
+  -- by induction on the planned start
+  starts-early :
+      (n i : ℕ) → plan .begin i < n → i < plan .tasks → book .mark i ≢ 2 → later .mark i ≢ 0
+      → later .start i + early ≤ plan .begin i
+  starts-early zero i f l z h = absurd (omega arith)
+  starts-early (suc n) i f l z h =
+      by-eq (book .mark i) 1 (running-early i l)
+      (λ n1.
+      let r = mark-range (sound .task i l) in
+      waited-early i l (omega arith) h (λ j lj w ne.
+      let e = (in-order plan later sound′ i j l lj w h) .0 in
+      let a = law .before i j l lj w in
+      let p = law .lasts j lj in
+      let q = ends-early j lj e (starts-early n j (omega arith) lj ne (omega arith)) in
+      omega arith))
+
+  pub early-kept : (i : ℕ) → i < plan .tasks → book .mark i ≢ 2 → EarlyBy plan early later i
+  early-kept i l z =
+      let s = starts-early (suc (plan .begin i)) i (omega arith) l z in
+      record { starts = s; ends = λ e. ends-early i l e (s (omega arith)) }
+
+-- whoever has not ended yet, started or not, is early by M for good
+pub figure-kept :
+    (plan : Plan) (boards : ℕ) (board : ℕ → ℕ) → Lawful plan → OnBoards plan boards board → (book : Book) → Sound plan book
+    → (reports : List Report) (i : ℕ) → i < plan .tasks → book .mark i ≢ 2
+    → EarlyBy plan (minimumEarly plan boards board book) (run plan book reports) i
+figure-kept plan boards board law on book sound reports =
+    early-kept plan law book (run plan book reports) sound (sound-run plan book reports sound) (later-run plan book reports)
+    (minimumEarly plan boards board book) (running-low plan boards board book on law sound)

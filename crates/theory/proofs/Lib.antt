@@ -1,0 +1,14 @@
+pub mod Reflect
+pub mod Task
+pub mod LetGo
+pub mod Step
+pub mod Run
+pub mod Later
+pub mod Order
+pub mod Boards
+pub mod Kept
+pub mod Past
+pub mod Same
+pub mod Progress
+pub mod EarlyStart
+pub mod Reach

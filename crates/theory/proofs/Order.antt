@@ -1,0 +1,102 @@
+-- Tasks start in order, when and only when they are due, and never late.
+use mathlib.Core.Path.{_≡_, sym, _∙_}
+use mathlib.Core.Logic.{_⊎_, inl, inr, _≢_, _↔_}
+use mathlib.Core.Bool.{true}
+use Prim.Native.Nat.{ℕ, zero, suc, _≤_, _<_}
+use native.Mathlib.Omega.{arith}
+use Rattle.laws.specs.Cases.{true-false}
+use Rattle.laws.specs.Latest.{latest-over, latest-under}
+use Rattle.theory.specs.Plan.{Plan, Lawful}
+use Rattle.theory.specs.Book.{Book, allEnded, due, Sound}
+use Rattle.theory.specs.Report.{Accepts, next}
+use Rattle.theory.proofs.Reflect.{all-ended-at}
+use Rattle.theory.proofs.Task.{started-all, started-at, ended-within}
+use Rattle.theory.proofs.Step.{sound-next, AtTask, next-at}
+use Rattle.theory.proofs.Later.{later-next}
+
+module _ (plan : Plan) (book : Book) (sound : Sound plan book) where
+  -- its start is the latest of the ends of those it waits for
+  pub started-due : (i : ℕ) → i < plan .tasks → book .mark i ≢ 0 → book .start i ≡ due plan (book .end) i
+  started-due i l n = started-at (sound .task i l) n
+
+  -- no task starts before one it waits for has ended
+  pub in-order :
+      (i j : ℕ) → i < plan .tasks → j < plan .tasks → plan .waits i j ≡ true → book .mark i ≢ 0
+      → (book .mark j ≡ 2) × (book .end j ≤ book .start i)
+  in-order i j li lj w n =
+      let d = started-due i li n in
+      let u = latest-over (plan .tasks) (plan .waits i) (book .end) j lj w in
+      (all-ended-at plan (book .mark) i (started-all (sound .task i li) n) j lj w, omega arith)
+
+  -- of two started tasks one of which waits for the other, one ended before the other started
+  pub one-after-other :
+      (i j : ℕ) → i < plan .tasks → j < plan .tasks → (plan .waits i j ≡ true) ⊎ (plan .waits j i ≡ true) → book .mark i ≢ 0
+      → book .mark j ≢ 0
+      → ((book .mark j ≡ 2) × (book .end j ≤ book .start i)) ⊎ ((book .mark i ≡ 2) × (book .end i ≤ book .start j))
+  one-after-other i j li lj (inl w) ni nj = inl (in-order i j li lj w ni)
+  one-after-other i j li lj (inr w) ni nj = inr (in-order j i lj li w nj)
+
+  module _ (law : Lawful plan) where
+    -- by induction on the planned start
+    not-late : (n i : ℕ) → plan .begin i < n → i < plan .tasks → book .mark i ≢ 0 → book .start i ≤ plan .begin i
+    not-late zero i f l m = absurd (omega arith)
+    not-late (suc n) i f l m =
+        let d = started-due i l m in
+        let u = latest-under (plan .tasks) (plan .waits i) (book .end) (plan .begin i) (λ j lj w.
+        let b = law .before i j l lj w in
+        let p = law .lasts j lj in
+        let z = (in-order i j l lj w m) .0 in
+        let e = ended-within (sound .task j lj) z in
+        let q = not-late n j (omega arith) lj (omega arith) in
+        omega arith) in
+        omega arith
+
+    -- no task starts later than planned
+    pub never-late : (i : ℕ) → i < plan .tasks → book .mark i ≢ 0 → book .start i ≤ plan .begin i
+    never-late i l m = not-late (suc (plan .begin i)) i (omega arith) l m
+
+    -- no task ends later than planned
+    pub in-time : (i : ℕ) → i < plan .tasks → book .mark i ≡ 2 → book .end i ≤ plan .finish i
+    in-time i l m =
+        let e = ended-within (sound .task i l) m in
+        let p = law .lasts i l in
+        let q = never-late i l (omega arith) in
+        omega arith
+
+-- what an accepted report does to the start of a waiting task
+pub record StartsExactly (plan : Plan) (tick : ℕ) (after : Book) (i : ℕ) : Type 0 where
+  pub when-free : (after .mark i ≢ 0) ↔ (allEnded plan (after .mark) i ≡ true)
+  pub then-runs : after .mark i ≢ 0 → after .mark i ≡ 1
+  pub at-tick : after .mark i ≢ 0 → after .start i ≡ tick
+  pub is-due : after .mark i ≢ 0 → tick ≡ due plan (after .end) i
+
+module _ (plan : Plan) (book : Book) (k tick : ℕ) (ok : Accepts plan book k tick) (sound : Sound plan book) where
+  -- a waiting task starts at the tick of the report after which all it waits for have ended, and at no other
+  pub start-exact : (i : ℕ) → i < plan .tasks → book .mark i ≡ 0 → StartsExactly plan tick (next plan book k tick) i
+  start-exact i l z = go (next-at plan book k tick i l)
+    where
+      go : AtTask plan book k tick (next plan book k tick) i → StartsExactly plan tick (next plan book k tick) i
+      go (AtTask.ends e m s v) = let q : book .mark i ≡ 1 = rw e (ok .runs) in absurd (omega arith)
+      go (AtTask.starts n z′ all m s v) =
+          let d = started-due plan (next plan book k tick) (sound-next plan book k tick ok sound) i l (omega arith) in
+          record {
+            when-free = (λ h. all, λ h. omega arith);
+            then-runs = λ h. m;
+            at-tick = λ h. s;
+            is-due = λ h. sym s ∙ d;
+          }
+      go (AtTask.stands n z′ m s v) = absurd (z′ z)
+      go (AtTask.lingers n z′ all m s v) =
+          let never : (next plan book k tick) .mark i ≢ 0 → ⊥ = λ h. h (m ∙ z) in
+          record {
+            when-free = (λ h. absurd (never h), λ h. true-false h all);
+            then-runs = λ h. absurd (never h);
+            at-tick = λ h. absurd (never h);
+            is-due = λ h. absurd (never h);
+          }
+
+  -- a task already started keeps its start
+  pub start-kept :
+      (i : ℕ) → i < plan .tasks → book .mark i ≢ 0
+      → ((next plan book k tick) .mark i ≢ 0) × ((next plan book k tick) .start i ≡ book .start i)
+  start-kept = (later-next plan book k tick ok) .started-stay

@@ -1,0 +1,4 @@
+pub mod Plan
+pub mod Book
+pub mod Report
+pub mod Figure

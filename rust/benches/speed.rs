@@ -1,0 +1,123 @@
+//! Times of the proved implementation and of the second dispatcher, on the
+//! same inputs in one run, and their ratio.
+//!
+//! `cargo bench` takes the times; `cargo test` only calls everything once.
+
+use dispatcher::sample::plans::full_plan;
+use dispatcher::sample::reports::{accepted_report, Report};
+use dispatcher::sample::{announced_seed, Rng};
+use dispatcher::text::plan_text;
+use dispatcher::values::LONGEST_TEXT;
+use dispatcher::{accepted, minimum_early, open_book, proved, read_plan, report, write_plan};
+use dispatcher::{Answer, Book, Plan};
+use std::hint::black_box;
+use std::time::{Duration, Instant};
+
+/// Short rounds and many, since others may be at work on the same machine.
+const ROUND: Duration = Duration::from_millis(2);
+const ROUNDS: u32 = 250;
+
+/// Prints the best times of both, their rounds taken in turn, and the ratio.
+fn time_both<T: PartialEq>(
+    rounds: u32,
+    what: &str,
+    mut proved: impl FnMut() -> T,
+    mut rust: impl FnMut() -> T,
+) {
+    assert!(proved() == rust(), "{what}: the answers differ");
+    if rounds == 0 {
+        println!("{what:<28}the answers agree");
+        return;
+    }
+    let (mut best_proved, mut best_rust) = (f64::MAX, f64::MAX);
+    for _ in 0..rounds {
+        best_proved = best_proved.min(mean_time(&mut proved));
+        best_rust = best_rust.min(mean_time(&mut rust));
+    }
+    let ratio = best_proved / best_rust;
+    println!("{what:<28}{best_proved:>12.0}{best_rust:>12.0}{ratio:>10.2}");
+}
+
+/// Nanoseconds a call, over calls in tens until the round is over.
+fn mean_time<T>(call: &mut impl FnMut() -> T) -> f64 {
+    let start = Instant::now();
+    let mut calls = 0;
+    loop {
+        for _ in 0..10 {
+            black_box(call());
+        }
+        calls += 10;
+        let elapsed = start.elapsed();
+        if elapsed >= ROUND {
+            return elapsed.as_nanos() as f64 / f64::from(calls);
+        }
+    }
+}
+
+fn time_texts(rounds: u32, plan: &Plan) {
+    let text = plan_text(plan);
+    assert_eq!(read_plan(&text).answer, Answer::ACCEPTED);
+    time_both(
+        rounds,
+        &format!("read 64 tasks, {} bytes", text.len()),
+        || proved::read_plan(black_box(&text)),
+        || read_plan(black_box(&text)),
+    );
+    time_both(
+        rounds,
+        "judge them as a value",
+        || proved::accepted(black_box(plan)),
+        || accepted(black_box(plan)),
+    );
+    let (mut out, mut other_out) = ([0; LONGEST_TEXT], [0; LONGEST_TEXT]);
+    time_both(
+        rounds,
+        "write them",
+        || proved::write_plan(black_box(plan), black_box(&mut out)),
+        || write_plan(black_box(plan), black_box(&mut other_out)),
+    );
+    assert!(out == other_out);
+}
+
+/// A book half way through its morning, and a report it accepts.
+fn half_a_morning(rng: &mut Rng, plan: &Plan) -> (Book, Report) {
+    let mut book = open_book(plan).book;
+    for _ in 0..plan.tasks / 2 {
+        let (task, tick) = accepted_report(rng, &book).expect("half the tasks have not ended");
+        book = report(&book, task, tick).book;
+    }
+    let next = accepted_report(rng, &book).expect("half the tasks have not ended");
+    (book, next)
+}
+
+fn time_book(rounds: u32, rng: &mut Rng, tasks: u8) {
+    let plan = full_plan(rng, tasks);
+    let (book, (task, tick)) = half_a_morning(rng, &plan);
+    assert_eq!(report(&book, task, tick).answer, Answer::ACCEPTED);
+    time_both(
+        rounds,
+        &format!("report, {tasks} tasks"),
+        || proved::report(black_box(&book), task, tick),
+        || report(black_box(&book), task, tick),
+    );
+    time_both(
+        rounds,
+        &format!("M, {tasks} tasks"),
+        || proved::minimum_early(black_box(&book)),
+        || minimum_early(black_box(&book)),
+    );
+}
+
+fn main() {
+    // Cargo says --bench to a benchmark only when times are wanted.
+    let times_wanted = std::env::args().any(|arg| arg == "--bench");
+    let rounds = if times_wanted { ROUNDS } else { 0 };
+    let mut rng = Rng::new(announced_seed("speed"));
+    if times_wanted {
+        println!("nanoseconds a call              proved        Rust     ratio");
+    }
+    time_texts(rounds, &full_plan(&mut rng, 64));
+    for tasks in [8, 16, 32, 64] {
+        time_book(rounds, &mut rng, tasks);
+    }
+}

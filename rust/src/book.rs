@@ -1,0 +1,187 @@
+//! The book of a morning: opening it, taking reports, the minimum-early figure.
+//!
+//! Settled here where the document is silent: a mark other than waiting,
+//! running and ended makes a book unsound; a report's tick above 1,000,000 is
+//! no fault of its own and meets codes 11 to 14 like any other tick.
+
+use crate::judge::accepted;
+use crate::values::{
+    refusal, Answer, Book, Figure, Opening, Plan, Reported, ENDED, RUNNING, WAITING,
+};
+
+/// A fresh book on the plan, or refusal 9 and a book of zeros.
+pub fn open_book(plan: &Plan) -> Opening {
+    if !accepted(plan) {
+        return Opening {
+            answer: Answer::UNSOUND,
+            book: Book::ZERO,
+        };
+    }
+    let mut book = Book {
+        boards: plan.boards,
+        tasks: plan.tasks,
+        board: plan.board,
+        begin: plan.begin,
+        finish: plan.finish,
+        holds: plan.holds,
+        after: plan.after,
+        ..Book::ZERO
+    };
+    start_all_that_can(&mut book);
+    Opening {
+        answer: Answer::ACCEPTED,
+        book,
+    }
+}
+
+/// Whether an accepted plan and accepted reports give this book.
+pub fn sound(book: &Book) -> bool {
+    if !accepted(&book.plan()) {
+        return false;
+    }
+    let count = usize::from(book.tasks);
+    (count..64).all(|i| nothing_known(book, i) && book.mark[i] == 0)
+        && (0..count).all(|i| task_is_sound(book, i))
+        && book.clock == greatest_end(book)
+}
+
+/// The book after the report, or the very book given and why it was refused.
+pub fn report(book: &Book, task: u32, tick: u32) -> Reported {
+    let answer = report_answer(book, task, tick);
+    if !answer.is_accepted() {
+        return Reported {
+            answer,
+            book: *book,
+        };
+    }
+    let mut next = *book;
+    let i = task as usize - 1;
+    next.mark[i] = ENDED;
+    next.end[i] = tick;
+    next.clock = tick;
+    start_all_that_can(&mut next);
+    Reported { answer, book: next }
+}
+
+/// M, the least figure over all boards, or refusal 9 and 0.
+pub fn minimum_early(book: &Book) -> Figure {
+    if !sound(book) {
+        return Figure {
+            answer: Answer::UNSOUND,
+            early: 0,
+        };
+    }
+    let figures = (1..=book.boards).map(|board| board_figure(book, board));
+    Figure {
+        answer: Answer::ACCEPTED,
+        early: figures.min().unwrap_or(0),
+    }
+}
+
+fn report_answer(book: &Book, task: u32, tick: u32) -> Answer {
+    if !sound(book) {
+        return Answer::UNSOUND;
+    }
+    if task == 0 || task > u32::from(book.tasks) {
+        return refusal(10, task, tick);
+    }
+    let i = task as usize - 1;
+    if book.mark[i] != RUNNING {
+        return refusal(11, task, tick);
+    }
+    if tick < book.clock {
+        return refusal(12, task, tick);
+    }
+    if tick <= book.start[i] {
+        return refusal(13, task, tick);
+    }
+    if u64::from(tick) > limit(book, i) {
+        return refusal(14, task, tick);
+    }
+    if other_limit_passed(book, i, tick) {
+        return refusal(15, task, tick);
+    }
+    Answer::ACCEPTED
+}
+
+fn other_limit_passed(book: &Book, i: usize, tick: u32) -> bool {
+    (0..usize::from(book.tasks))
+        .any(|j| j != i && book.mark[j] == RUNNING && limit(book, j) < u64::from(tick))
+}
+
+/// Starts, at the clock, every waiting task whose awaited tasks have all ended.
+fn start_all_that_can(book: &mut Book) {
+    for i in 0..usize::from(book.tasks) {
+        if book.mark[i] == WAITING && all_awaited_ended(book, i) {
+            book.mark[i] = RUNNING;
+            book.start[i] = book.clock;
+        }
+    }
+}
+
+/// The task indices i waits for: planned to finish by i's planned start.
+fn awaited(book: &Book, i: usize) -> impl Iterator<Item = usize> + '_ {
+    (0..usize::from(book.tasks)).filter(move |&j| book.finish[j] <= book.begin[i])
+}
+
+fn all_awaited_ended(book: &Book, i: usize) -> bool {
+    awaited(book, i).all(|j| book.mark[j] == ENDED)
+}
+
+/// Start plus length; wide enough for any start a book can hold.
+fn limit(book: &Book, i: usize) -> u64 {
+    u64::from(book.start[i]) + u64::from(book.finish[i] - book.begin[i])
+}
+
+fn greatest_end(book: &Book) -> u32 {
+    (0..usize::from(book.tasks))
+        .filter(|&i| book.mark[i] == ENDED)
+        .map(|i| book.end[i])
+        .max()
+        .unwrap_or(0)
+}
+
+fn nothing_known(book: &Book, i: usize) -> bool {
+    book.start[i] == 0 && book.end[i] == 0
+}
+
+fn task_is_sound(book: &Book, i: usize) -> bool {
+    match book.mark[i] {
+        WAITING => nothing_known(book, i) && !all_awaited_ended(book, i),
+        RUNNING => {
+            started_by_the_rule(book, i)
+                && book.end[i] == 0
+                && limit(book, i) >= u64::from(book.clock)
+        }
+        ENDED => {
+            started_by_the_rule(book, i)
+                && book.start[i] < book.end[i]
+                && u64::from(book.end[i]) <= limit(book, i)
+                && book.end[i] <= book.clock
+        }
+        _ => false,
+    }
+}
+
+/// The start is 0 for a task that waits for nobody, else the latest awaited end.
+fn started_by_the_rule(book: &Book, i: usize) -> bool {
+    let mut latest_end = 0;
+    for j in awaited(book, i) {
+        if book.mark[j] != ENDED {
+            return false;
+        }
+        latest_end = latest_end.max(book.end[j]);
+    }
+    book.start[i] == latest_end
+}
+
+fn board_figure(book: &Book, board: u8) -> u32 {
+    let here = || (0..usize::from(book.tasks)).filter(move |&i| book.board[i] == board);
+    if let Some(i) = here().find(|&i| book.mark[i] == RUNNING) {
+        return book.begin[i] - book.start[i];
+    }
+    let last_ended = here()
+        .filter(|&i| book.mark[i] == ENDED)
+        .max_by_key(|&i| book.end[i]);
+    last_ended.map_or(0, |i| book.finish[i] - book.end[i])
+}

@@ -1,0 +1,17 @@
+//! A dispatcher for planned tasks on boards: it reads, judges and writes plans,
+//! keeps a book of the morning, and says how early everything left will be.
+
+pub mod book;
+pub mod fields;
+pub mod judge;
+pub mod proved;
+pub mod runlog;
+pub mod sample;
+pub mod text;
+pub mod values;
+
+pub use book::{minimum_early, open_book, report, sound};
+pub use judge::{accepted, first_faulty_pair};
+pub use runlog::run_log;
+pub use text::{read_plan, write_plan};
+pub use values::{Answer, Book, Figure, Opening, Plan, Reading, Reported, Written};

@@ -1,0 +1,95 @@
+//! The output of the program `runlog`, from the contents of its two files.
+//!
+//! Settled here where the document is silent: a line of `ends.txt` that is
+//! both malformed and out of range is 3; a task number over 1,000,000 is 4 as
+//! a tick over it is; after a 3 or 4 nothing more is printed; with a refused
+//! plan `ends.txt` is not looked at, however long it is.
+
+use crate::book::{minimum_early, open_book, report};
+use crate::fields::{line_of, read_number, split_fields, split_line};
+use crate::text::read_plan;
+use crate::values::{refusal, Answer, Book, LAST_TICK, LONGEST_TEXT, RUNNING, WAITING};
+
+/// All that `runlog` prints. A missing file counts as empty.
+pub fn run_log(plan_text: &[u8], ends_text: &[u8]) -> Vec<u8> {
+    let reading = read_plan(plan_text);
+    if !reading.answer.is_accepted() {
+        return refused_line(reading.answer);
+    }
+    if ends_text.len() > LONGEST_TEXT {
+        return refused_line(refusal(1, 0, 0));
+    }
+    let book = open_book(&reading.plan).book;
+    let mut log = line_of("run", &[1, book.boards.into(), book.tasks.into()]);
+    let nobody_yet = Book {
+        mark: [WAITING; 64],
+        ..book
+    };
+    log_starts(&mut log, &nobody_yet, &book);
+    log_early(&mut log, &book);
+    log_reports(&mut log, book, ends_text);
+    log
+}
+
+fn log_reports(log: &mut Vec<u8>, mut book: Book, ends_text: &[u8]) {
+    let mut rest = ends_text;
+    let mut line_number = 0;
+    while !rest.is_empty() {
+        line_number += 1;
+        let Some((task, tick, next)) = read_end_line(rest) else {
+            log.extend(refused_line(refusal(3, line_number, 0)));
+            return;
+        };
+        if task > LAST_TICK || tick > LAST_TICK {
+            log.extend(refused_line(refusal(4, line_number, 0)));
+            return;
+        }
+        book = log_report(log, &book, task, tick);
+        rest = next;
+    }
+}
+
+/// The task and tick of a well formed line, and the rest; None is refusal 3.
+fn read_end_line(text: &[u8]) -> Option<(u32, u32, &[u8])> {
+    let (line, rest) = split_line(text)?;
+    let [word, task, tick] = split_fields(line)?;
+    if word != b"end" {
+        return None;
+    }
+    Some((read_number(task)?, read_number(tick)?, rest))
+}
+
+fn log_report(log: &mut Vec<u8>, book: &Book, task: u32, tick: u32) -> Book {
+    let reported = report(book, task, tick);
+    if !reported.answer.is_accepted() {
+        log.extend(refused_line(reported.answer));
+        return reported.book;
+    }
+    let i = task as usize - 1;
+    let early = book.finish[i] - tick;
+    log.extend(line_of("end", &[task, book.board[i].into(), tick, early]));
+    log_starts(log, book, &reported.book);
+    log_early(log, &reported.book);
+    reported.book
+}
+
+/// A start line for each task that waits in `before` and runs in `now`.
+fn log_starts(log: &mut Vec<u8>, before: &Book, now: &Book) {
+    for i in 0..usize::from(now.tasks) {
+        if before.mark[i] != WAITING || now.mark[i] != RUNNING {
+            continue;
+        }
+        let tick = now.start[i];
+        let early = now.begin[i] - tick;
+        let numbers = [i as u32 + 1, now.board[i].into(), tick, early];
+        log.extend(line_of("start", &numbers));
+    }
+}
+
+fn log_early(log: &mut Vec<u8>, book: &Book) {
+    log.extend(line_of("early", &[book.clock, minimum_early(book).early]));
+}
+
+fn refused_line(answer: Answer) -> Vec<u8> {
+    line_of("refused", &[answer.code, answer.first, answer.second])
+}

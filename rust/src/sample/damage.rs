@@ -1,0 +1,100 @@
+//! Plan and book values with some bytes changed.
+
+use super::Rng;
+use crate::values::{Book, Plan};
+
+const LIKELY_BYTES: [u8; 12] = [0, 1, 2, 3, 8, 9, 32, 64, 65, 66, 67, 255];
+const LIKELY_TICKS: [u32; 8] = [0, 1, 2, 3, 999_999, 1_000_000, 1_000_001, u32::MAX];
+
+/// The plan with one to three places changed; it may still be accepted.
+pub fn mutated_plan(rng: &mut Rng, plan: &Plan) -> Plan {
+    let mut changed = *plan;
+    for _ in 0..rng.within(1, 3) {
+        mutate_plan_once(rng, &mut changed);
+    }
+    changed
+}
+
+/// The book with one to three places changed; it may still be sound.
+pub fn mutated_book(rng: &mut Rng, book: &Book) -> Book {
+    let mut changed = *book;
+    for _ in 0..rng.within(1, 3) {
+        mutate_book_once(rng, &mut changed);
+    }
+    changed
+}
+
+fn mutate_plan_once(rng: &mut Rng, plan: &mut Plan) {
+    let i = likely_index(rng, plan.task_count());
+    match rng.within(1, 9) {
+        1 => plan.boards = rng.pick(&LIKELY_BYTES),
+        2 => plan.tasks = rng.pick(&LIKELY_BYTES),
+        3 => plan.board[i] = rng.pick(&LIKELY_BYTES),
+        4 => plan.begin[i] = nearby_tick(rng, plan.begin[i]),
+        5 => plan.finish[i] = nearby_tick(rng, plan.finish[i]),
+        6 => plan.holds[32 * i + rng.index(4)] = rng.pick(&LIKELY_BYTES),
+        7 => plan.holds[32 * i + rng.index(32)] = rng.byte(),
+        8 => plan.after[64 * i + rng.index(4)] = rng.pick(&LIKELY_BYTES),
+        _ => plan.after[64 * i + rng.index(64)] = rng.byte(),
+    }
+}
+
+fn mutate_book_once(rng: &mut Rng, book: &mut Book) {
+    let i = likely_index(rng, book.tasks.min(64).into());
+    match rng.within(1, 8) {
+        1 => book.clock = nearby_tick(rng, book.clock),
+        2 => book.start[i] = nearby_tick(rng, book.start[i]),
+        3 => book.end[i] = nearby_tick(rng, book.end[i]),
+        4 => book.mark[i] = rng.pick(&[0, 1, 2, 3, 255]),
+        5 => {
+            // Moves the clock along with an end, which may leave the book sound.
+            book.end[i] = nearby_tick(rng, book.end[i]);
+            book.clock = book.end.iter().max().copied().unwrap_or(0);
+        }
+        6 => reopen_task(book, i),
+        7 => close_task(rng, book, i),
+        _ => mutate_plan_of(rng, book),
+    }
+}
+
+/// Takes an end back as if the task had not been reported.
+fn reopen_task(book: &mut Book, i: usize) {
+    book.mark[i] = 1;
+    book.end[i] = 0;
+    book.clock = book.end.iter().max().copied().unwrap_or(0);
+}
+
+/// Writes an end in as if the task had been reported.
+fn close_task(rng: &mut Rng, book: &mut Book, i: usize) {
+    book.mark[i] = 2;
+    book.end[i] = book.start[i].saturating_add(rng.within(0, 5));
+    book.clock = book.clock.max(book.end[i]);
+}
+
+fn mutate_plan_of(rng: &mut Rng, book: &mut Book) {
+    let mut plan = book.plan();
+    mutate_plan_once(rng, &mut plan);
+    book.boards = plan.boards;
+    book.tasks = plan.tasks;
+    book.board = plan.board;
+    book.begin = plan.begin;
+    book.finish = plan.finish;
+    book.holds = plan.holds;
+    book.after = plan.after;
+}
+
+/// Mostly a task's index, sometimes one past the last task.
+fn likely_index(rng: &mut Rng, count: usize) -> usize {
+    if count == 0 || rng.chance(20) {
+        return rng.index(64);
+    }
+    rng.index(count)
+}
+
+fn nearby_tick(rng: &mut Rng, tick: u32) -> u32 {
+    match rng.within(1, 3) {
+        1 => tick.saturating_add(rng.within(1, 2)),
+        2 => tick.saturating_sub(rng.within(1, 2)),
+        _ => rng.pick(&LIKELY_TICKS),
+    }
+}

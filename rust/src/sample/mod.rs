@@ -1,0 +1,13 @@
+//! Inputs for tests: seeded random plans, texts, damaged values and reports.
+
+pub mod damage;
+pub mod faults;
+pub mod lines;
+pub mod plan_a;
+pub mod plans;
+pub mod reports;
+pub mod rng;
+pub mod tally;
+pub mod wild;
+
+pub use rng::{announced_seed, Rng};

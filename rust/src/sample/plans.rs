@@ -1,0 +1,160 @@
+//! Random accepted plans, placed so that clashing tasks never overlap.
+
+use super::Rng;
+use crate::judge::{clash, overlap};
+use crate::values::{Plan, AFTER_PLACES, HOLD_PLACES, LAST_TICK};
+
+/// How dense the lists are and how wide the times.
+struct Shape {
+    hold_percent: u32,
+    exclusive_percent: u32,
+    after_percent: u32,
+    longest: u32,
+    widest_gap: u32,
+}
+
+/// A random plan that keeps every rule.
+pub fn random_plan(rng: &mut Rng) -> Plan {
+    let largest = rng.pick(&[1, 3, 6, 12, 24, 64, 64]);
+    let tasks = if rng.chance(10) {
+        largest
+    } else {
+        rng.within(1, largest)
+    };
+    let boards = rng.within(1, 8);
+    let shape = random_shape(rng);
+    let mut plan = Plan {
+        boards: boards as u8,
+        tasks: tasks as u8,
+        ..Plan::ZERO
+    };
+    let mut order: Vec<usize> = (0..tasks as usize).collect();
+    if rng.chance(70) {
+        // Task numbers need not follow planned times.
+        rng.shuffle(&mut order);
+    }
+    for placed in 0..order.len() {
+        place_task(rng, &mut plan, &shape, &order[..placed], order[placed]);
+    }
+    fill_after_lists(rng, &mut plan, shape.after_percent);
+    if rng.chance(12) {
+        move_to_the_last_tick(&mut plan);
+    }
+    plan
+}
+
+/// A busy plan of that many tasks: 8 boards in turn, 4 to 8 holds a task, most
+/// of them shared so that boards work side by side, and up to 3 tasks under after.
+pub fn full_plan(rng: &mut Rng, tasks: u8) -> Plan {
+    let mut plan = Plan {
+        boards: 8,
+        tasks,
+        ..Plan::ZERO
+    };
+    for i in 0..plan.task_count() {
+        plan.board[i] = i as u8 % 8 + 1;
+        fill_some_holds(rng, &mut plan, i);
+        let clashing = (0..i).filter(|&j| clash(&plan, i, j));
+        let free_from = clashing.map(|j| plan.finish[j]).max().unwrap_or(0);
+        let length = rng.within(50, 2000);
+        set_times(&mut plan, i, free_from, length);
+        fill_some_after(rng, &mut plan, i);
+    }
+    plan
+}
+
+fn random_shape(rng: &mut Rng) -> Shape {
+    Shape {
+        hold_percent: rng.pick(&[0, 2, 5, 15, 60, 100]),
+        exclusive_percent: rng.pick(&[0, 10, 50, 100]),
+        after_percent: rng.pick(&[0, 3, 20, 70, 100]),
+        // 64 tasks one after the other must still finish by the last tick.
+        longest: rng.pick(&[1, 2, 4, 10, 100, 15_000]),
+        widest_gap: rng.pick(&[0, 0, 1, 5, 600]),
+    }
+}
+
+fn place_task(rng: &mut Rng, plan: &mut Plan, shape: &Shape, placed: &[usize], i: usize) {
+    plan.board[i] = rng.within(1, u32::from(plan.boards)) as u8;
+    fill_holds(rng, plan, shape, i);
+    let length = rng.within(1, shape.longest);
+    let latest = placed.iter().map(|&j| plan.finish[j]).max().unwrap_or(0);
+    for _ in 0..4 {
+        set_times(plan, i, rng.within(0, latest), length);
+        if fits(plan, placed, i) && plan.finish[i] <= latest.max(length) {
+            return;
+        }
+    }
+    let clashing = placed.iter().filter(|&&j| clash(plan, i, j));
+    let free_from = clashing.map(|&j| plan.finish[j]).max().unwrap_or(0);
+    let gap = rng.within(0, shape.widest_gap);
+    set_times(plan, i, free_from + gap, length);
+}
+
+fn set_times(plan: &mut Plan, i: usize, begin: u32, length: u32) {
+    plan.begin[i] = begin;
+    plan.finish[i] = begin + length;
+}
+
+fn fits(plan: &Plan, placed: &[usize], i: usize) -> bool {
+    !placed
+        .iter()
+        .any(|&j| clash(plan, i, j) && overlap(plan, i, j))
+}
+
+fn fill_holds(rng: &mut Rng, plan: &mut Plan, shape: &Shape, i: usize) {
+    let mut place = HOLD_PLACES * i;
+    for drive in 1..=32u8 {
+        if rng.chance(shape.hold_percent) {
+            let shared = !rng.chance(shape.exclusive_percent);
+            plan.holds[place] = 2 * drive + u8::from(shared);
+            place += 1;
+        }
+    }
+}
+
+fn fill_some_holds(rng: &mut Rng, plan: &mut Plan, i: usize) {
+    let mut drives: Vec<u8> = (1..=32).collect();
+    rng.shuffle(&mut drives);
+    drives.truncate(rng.within(4, 8) as usize);
+    drives.sort();
+    for (k, drive) in drives.into_iter().enumerate() {
+        let shared = !rng.chance(5);
+        plan.holds[HOLD_PLACES * i + k] = 2 * drive + u8::from(shared);
+    }
+}
+
+/// Up to 3 of the tasks before it that are planned to finish by its start.
+fn fill_some_after(rng: &mut Rng, plan: &mut Plan, i: usize) {
+    let mut earlier: Vec<usize> = (0..i)
+        .filter(|&j| plan.finish[j] <= plan.begin[i])
+        .collect();
+    rng.shuffle(&mut earlier);
+    earlier.truncate(rng.within(0, 3) as usize);
+    earlier.sort();
+    for (k, j) in earlier.into_iter().enumerate() {
+        plan.after[AFTER_PLACES * i + k] = j as u8 + 1;
+    }
+}
+
+fn fill_after_lists(rng: &mut Rng, plan: &mut Plan, percent: u32) {
+    for i in 0..plan.task_count() {
+        let mut place = AFTER_PLACES * i;
+        for j in 0..plan.task_count() {
+            if plan.finish[j] <= plan.begin[i] && rng.chance(percent) {
+                plan.after[place] = j as u8 + 1;
+                place += 1;
+            }
+        }
+    }
+}
+
+/// Moves the whole plan so that its last planned finish is the last tick.
+fn move_to_the_last_tick(plan: &mut Plan) {
+    let count = plan.task_count();
+    let latest = plan.finish[..count].iter().max().copied().unwrap_or(0);
+    for i in 0..count {
+        plan.begin[i] += LAST_TICK - latest;
+        plan.finish[i] += LAST_TICK - latest;
+    }
+}

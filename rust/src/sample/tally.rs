@@ -1,0 +1,88 @@
+//! How many inputs two dispatchers agreed on, and which answers they gave.
+
+use super::rng::chosen_seed;
+use super::Rng;
+use crate::values::Answer;
+use std::io::Write;
+use std::time::Instant;
+
+pub struct Tally {
+    title: &'static str,
+    since: Instant,
+    compared: u64,
+    compared_before: u64,
+    by_code: [u64; 17],
+}
+
+impl Tally {
+    fn new(title: &'static str) -> Tally {
+        Tally {
+            title,
+            since: Instant::now(),
+            compared: 0,
+            compared_before: 0,
+            by_code: [0; 17],
+        }
+    }
+
+    /// An empty table, and random numbers from the seed it announces.
+    pub fn seeded(title: &'static str) -> (Rng, Tally) {
+        let seed = chosen_seed();
+        say(&format!("{title}: SEED={seed}"));
+        (Rng::new(seed), Tally::new(title))
+    }
+
+    /// Counts one input on which both gave this answer.
+    pub fn count(&mut self, answer: Answer) {
+        self.compared += 1;
+        self.by_code[answer.code as usize] += 1;
+    }
+
+    /// Counts one input that both answered yes or no to.
+    pub fn count_judged(&mut self, yes: bool) {
+        let answer = if yes {
+            Answer::ACCEPTED
+        } else {
+            Answer::UNSOUND
+        };
+        self.count(answer);
+    }
+
+    /// Says how many inputs were compared since the last kind was finished.
+    pub fn finish_kind(&mut self, kind: &str) {
+        let of_this_kind = self.compared - self.compared_before;
+        self.compared_before = self.compared;
+        let millis = self.since.elapsed().as_millis();
+        say(&format!(
+            "{}: {of_this_kind} {kind} ({millis} ms)",
+            self.title
+        ));
+    }
+
+    /// Says how many of the inputs compared were of one sort.
+    pub fn say_part(&self, part: u64, sort: &str) {
+        say(&format!("{}: {part} {sort} among them", self.title));
+    }
+
+    /// Prints the table; every code named must not be rare.
+    pub fn finish(&self, least_inputs: u64, codes: &[u32]) {
+        say(&format!(
+            "{}: {} inputs compared in all",
+            self.title, self.compared
+        ));
+        for (code, times) in self.by_code.iter().enumerate() {
+            if *times > 0 {
+                say(&format!("{}: code {code:2}: {times}", self.title));
+            }
+        }
+        assert!(self.compared >= least_inputs, "too few inputs");
+        for &code in codes {
+            assert!(self.by_code[code as usize] >= 200, "code {code} is rare");
+        }
+    }
+}
+
+/// Prints a line that is shown also for a test that passes.
+pub fn say(line: &str) {
+    writeln!(std::io::stdout(), "{line}").expect("standard output takes a line");
+}

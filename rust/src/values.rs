@@ -1,0 +1,180 @@
+//! The values handed in and handed back, laid out as C structs.
+//!
+//! Task number k sits at index k - 1. A hold byte is 2 * drive (exclusive) or
+//! 2 * drive + 1 (shared); an after byte is a task number; 0 ends a list early.
+
+pub const MOST_BOARDS: u8 = 8;
+pub const MOST_TASKS: u8 = 64;
+pub const MOST_DRIVES: u32 = 32;
+pub const LAST_TICK: u32 = 1_000_000;
+pub const LONGEST_TEXT: usize = 32_768;
+
+/// Places kept for one task's holds and for one task's after list.
+pub const HOLD_PLACES: usize = 32;
+pub const AFTER_PLACES: usize = 64;
+
+pub const WAITING: u8 = 0;
+pub const RUNNING: u8 = 1;
+pub const ENDED: u8 = 2;
+
+#[repr(C)]
+#[derive(Clone, Copy, PartialEq, Eq, Debug)]
+pub struct Answer {
+    pub code: u32,
+    pub first: u32,
+    pub second: u32,
+}
+
+#[repr(C)]
+#[derive(Clone, Copy, PartialEq, Eq, Debug)]
+pub struct Plan {
+    pub boards: u8,
+    pub tasks: u8,
+    pub board: [u8; 64],
+    pub begin: [u32; 64],
+    pub finish: [u32; 64],
+    pub holds: [u8; 2048],
+    pub after: [u8; 4096],
+}
+
+#[repr(C)]
+#[derive(Clone, Copy, PartialEq, Eq, Debug)]
+pub struct Book {
+    pub boards: u8,
+    pub tasks: u8,
+    pub clock: u32,
+    pub board: [u8; 64],
+    pub begin: [u32; 64],
+    pub finish: [u32; 64],
+    pub start: [u32; 64],
+    pub end: [u32; 64],
+    pub mark: [u8; 64],
+    pub holds: [u8; 2048],
+    pub after: [u8; 4096],
+}
+
+#[repr(C)]
+#[derive(Clone, Copy, PartialEq, Eq, Debug)]
+pub struct Reading {
+    pub answer: Answer,
+    pub plan: Plan,
+}
+
+#[repr(C)]
+#[derive(Clone, Copy, PartialEq, Eq, Debug)]
+pub struct Opening {
+    pub answer: Answer,
+    pub book: Book,
+}
+
+#[repr(C)]
+#[derive(Clone, Copy, PartialEq, Eq, Debug)]
+pub struct Reported {
+    pub answer: Answer,
+    pub book: Book,
+}
+
+#[repr(C)]
+#[derive(Clone, Copy, PartialEq, Eq, Debug)]
+pub struct Figure {
+    pub answer: Answer,
+    pub early: u32,
+}
+
+#[repr(C)]
+#[derive(Clone, Copy, PartialEq, Eq, Debug)]
+pub struct Written {
+    pub answer: Answer,
+    pub length: u32,
+}
+
+impl Answer {
+    pub const ACCEPTED: Answer = refusal(0, 0, 0);
+    /// A plan handed in is not accepted, or a book is not sound.
+    pub const UNSOUND: Answer = refusal(9, 0, 0);
+
+    pub fn is_accepted(&self) -> bool {
+        *self == Answer::ACCEPTED
+    }
+}
+
+/// A refusal's number and the two numbers it says besides.
+pub const fn refusal(code: u32, first: u32, second: u32) -> Answer {
+    Answer {
+        code,
+        first,
+        second,
+    }
+}
+
+impl Plan {
+    pub const ZERO: Plan = Plan {
+        boards: 0,
+        tasks: 0,
+        board: [0; 64],
+        begin: [0; 64],
+        finish: [0; 64],
+        holds: [0; 2048],
+        after: [0; 4096],
+    };
+
+    /// How many tasks can be looked at, also when the count itself is out of range.
+    pub fn task_count(&self) -> usize {
+        self.tasks.min(MOST_TASKS) as usize
+    }
+
+    /// All places of task index i's holds, the empty ones included.
+    pub fn hold_places(&self, i: usize) -> &[u8] {
+        &self.holds[HOLD_PLACES * i..HOLD_PLACES * (i + 1)]
+    }
+
+    /// All places of task index i's after list, the empty ones included.
+    pub fn after_places(&self, i: usize) -> &[u8] {
+        &self.after[AFTER_PLACES * i..AFTER_PLACES * (i + 1)]
+    }
+}
+
+impl Book {
+    pub const ZERO: Book = Book {
+        boards: 0,
+        tasks: 0,
+        clock: 0,
+        board: [0; 64],
+        begin: [0; 64],
+        finish: [0; 64],
+        start: [0; 64],
+        end: [0; 64],
+        mark: [0; 64],
+        holds: [0; 2048],
+        after: [0; 4096],
+    };
+
+    /// The plan the book was opened on.
+    pub fn plan(&self) -> Plan {
+        Plan {
+            boards: self.boards,
+            tasks: self.tasks,
+            board: self.board,
+            begin: self.begin,
+            finish: self.finish,
+            holds: self.holds,
+            after: self.after,
+        }
+    }
+}
+
+/// The items of a list: its places up to the first empty one.
+pub fn items(places: &[u8]) -> &[u8] {
+    let length = places.iter().position(|&b| b == 0);
+    &places[..length.unwrap_or(places.len())]
+}
+
+/// The drive a hold byte names.
+pub fn drive_of(hold: u8) -> u32 {
+    u32::from(hold / 2)
+}
+
+/// Whether a hold byte is for exclusive use.
+pub fn is_exclusive(hold: u8) -> bool {
+    hold.is_multiple_of(2)
+}

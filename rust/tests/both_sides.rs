@@ -1,0 +1,122 @@
+//! "Both sides of each line": the starred items and the run-only ones.
+
+use dispatcher::sample::plan_a::{PLAN_A, REPORTS_A};
+use dispatcher::values::refusal;
+use dispatcher::{minimum_early, open_book, read_plan, report, Answer, Book};
+
+fn fresh_book() -> Book {
+    let reading = read_plan(PLAN_A);
+    assert!(reading.answer.is_accepted());
+    let opening = open_book(&reading.plan);
+    assert!(opening.answer.is_accepted());
+    opening.book
+}
+
+fn after_end_of_2() -> Book {
+    let reported = report(&fresh_book(), 2, 3);
+    assert!(reported.answer.is_accepted());
+    reported.book
+}
+
+fn check_report(book: &Book, task: u32, tick: u32, code: u32) {
+    let reported = report(book, task, tick);
+    if code == 0 {
+        assert_eq!(reported.answer, Answer::ACCEPTED, "end {task} at {tick}");
+        assert_eq!(reported.book.end[task as usize - 1], tick);
+        assert_eq!(reported.book.clock, tick);
+        return;
+    }
+    assert_eq!(
+        reported.answer,
+        refusal(code, task, tick),
+        "end {task} at {tick}"
+    );
+    assert_eq!(reported.book, *book);
+}
+
+/// Plan A with one line replaced.
+fn plan_a_with(line: usize, new_line: &str) -> Vec<u8> {
+    let text = String::from_utf8(PLAN_A.to_vec()).unwrap();
+    let mut lines: Vec<&str> = text.lines().collect();
+    lines[line - 1] = new_line;
+    (lines.join("\n") + "\n").into_bytes()
+}
+
+/// A plan of that many unit tasks in a row on one board.
+fn row_of_tasks(tasks: u32) -> Vec<u8> {
+    let mut text = format!("plan\t1\t1\t{tasks}\n");
+    for k in 1..=tasks {
+        text.push_str(&format!("task\t{k}\t1\t{}\t{k}\t-\t-\n", k - 1));
+    }
+    text.into_bytes()
+}
+
+fn one_task(begin: u32, finish: u32) -> Vec<u8> {
+    format!("plan\t1\t1\t1\ntask\t1\t1\t{begin}\t{finish}\t-\t-\n").into_bytes()
+}
+
+#[test]
+fn reports_on_a_fresh_book() {
+    let book = fresh_book();
+    check_report(&book, 2, 4, 0);
+    check_report(&book, 2, 5, 14);
+    check_report(&book, 2, 0, 13);
+    check_report(&book, 1, 4, 0);
+    check_report(&book, 1, 5, 15);
+    check_report(&book, 1, 7, 14);
+    check_report(&book, 3, 3, 11);
+    check_report(&book, 6, 3, 10);
+}
+
+#[test]
+fn reports_after_the_end_of_task_2() {
+    let book = after_end_of_2();
+    check_report(&book, 1, 2, 12);
+    check_report(&book, 3, 3, 13);
+    check_report(&book, 2, 4, 11);
+}
+
+#[test]
+fn the_figures_of_the_run() {
+    let mut book = fresh_book();
+    let mut figures = vec![minimum_early(&book).early];
+    for (task, tick) in REPORTS_A {
+        check_report(&book, task, tick, 0);
+        book = report(&book, task, tick).book;
+        let figure = minimum_early(&book);
+        assert!(figure.answer.is_accepted());
+        figures.push(figure.early);
+    }
+    assert_eq!(figures, [0, 0, 1, 3, 3, 3]);
+}
+
+#[test]
+fn sixty_four_tasks_are_read_and_sixty_five_are_not() {
+    assert_eq!(read_plan(&row_of_tasks(64)).answer, Answer::ACCEPTED);
+    assert_eq!(read_plan(&row_of_tasks(65)).answer, refusal(2, 1, 0));
+}
+
+#[test]
+fn the_last_tick() {
+    assert_eq!(read_plan(&one_task(0, 1_000_000)).answer, Answer::ACCEPTED);
+    assert_eq!(read_plan(&one_task(0, 1_000_001)).answer, refusal(4, 2, 0));
+    assert_eq!(read_plan(&one_task(999_999, 1_000_000)).plan.tasks, 1);
+}
+
+#[test]
+fn finish_equal_to_start() {
+    assert_eq!(read_plan(&one_task(7, 7)).answer, refusal(4, 2, 0));
+    assert_eq!(read_plan(&one_task(7, 8)).answer, Answer::ACCEPTED);
+}
+
+#[test]
+fn task_3_of_plan_a_moved_to_start_3() {
+    let text = plan_a_with(4, "task\t3\t2\t3\t9\ts2\t-");
+    assert_eq!(read_plan(&text).answer, refusal(6, 2, 3));
+}
+
+#[test]
+fn task_2_of_plan_a_listing_itself() {
+    let text = plan_a_with(3, "task\t2\t2\t0\t4\t-\t2");
+    assert_eq!(read_plan(&text).answer, refusal(8, 2, 2));
+}

@@ -1,0 +1,463 @@
+//! What must hold on random plans, runs and damaged inputs.
+//! Each test prints its seed; set SEED to repeat or to try another.
+
+use dispatcher::judge::clash;
+use dispatcher::sample::damage::{mutated_book, mutated_plan};
+use dispatcher::sample::faults::{damaged_text, faulty_pair_plan, one_fault};
+use dispatcher::sample::plans::random_plan;
+use dispatcher::sample::reports::{
+    accepted_report, any_report, last_moment_report, one_tick_reports, random_book, running_tasks,
+};
+use dispatcher::sample::{announced_seed, Rng};
+use dispatcher::text::plan_text;
+use dispatcher::values::{items, LONGEST_TEXT};
+use dispatcher::{
+    accepted, first_faulty_pair, minimum_early, open_book, read_plan, report, run_log, sound,
+    write_plan,
+};
+use dispatcher::{Answer, Book, Plan};
+
+fn rng_for(test: &str) -> Rng {
+    Rng::new(announced_seed(test))
+}
+
+fn count(book: &Book) -> usize {
+    usize::from(book.tasks)
+}
+
+fn written_text(plan: &Plan) -> Vec<u8> {
+    let mut out = vec![7u8; LONGEST_TEXT];
+    let written = write_plan(plan, &mut out);
+    assert_eq!(written.answer, Answer::ACCEPTED);
+    out.truncate(written.length as usize);
+    out
+}
+
+fn must_report(book: &Book, task: u32, tick: u32) -> Book {
+    let reported = report(book, task, tick);
+    assert_eq!(reported.answer, Answer::ACCEPTED, "end {task} at {tick}");
+    reported.book
+}
+
+/// A whole morning: every book from the fresh one to the last.
+fn random_morning(rng: &mut Rng, plan: &Plan) -> Vec<Book> {
+    let opening = open_book(plan);
+    assert_eq!(opening.answer, Answer::ACCEPTED);
+    let mut books = vec![opening.book];
+    while let Some((task, tick)) = accepted_report(rng, &books[books.len() - 1]) {
+        let next = must_report(&books[books.len() - 1], task, tick);
+        books.push(next);
+    }
+    books
+}
+
+#[test]
+fn written_plans_read_back_the_same() {
+    let mut rng = rng_for("written_plans_read_back_the_same");
+    let (mut tasks, mut longest) = (0, 0);
+    for _ in 0..1500 {
+        let plan = random_plan(&mut rng);
+        let text = written_text(&plan);
+        let reading = read_plan(&text);
+        assert_eq!(reading.answer, Answer::ACCEPTED);
+        assert!(reading.plan == plan);
+        assert_eq!(written_text(&reading.plan), text);
+        tasks += usize::from(plan.tasks);
+        longest = longest.max(text.len());
+    }
+    println!("1500 plans, {tasks} tasks, longest text {longest} bytes");
+}
+
+/// Ten damaged texts of each of that many plans.
+fn damaged_texts(rng: &mut Rng, plans: u32) -> Vec<Vec<u8>> {
+    let mut texts = Vec::new();
+    for _ in 0..plans {
+        let text = plan_text(&random_plan(rng));
+        texts.extend((0..10).map(|_| damaged_text(rng, &text)));
+    }
+    texts
+}
+
+#[test]
+fn read_texts_write_back_the_same_bytes() {
+    let mut rng = rng_for("read_texts_write_back_the_same_bytes");
+    let mut read = 0;
+    for text in damaged_texts(&mut rng, 3000) {
+        let reading = read_plan(&text);
+        if reading.answer.is_accepted() {
+            assert_eq!(written_text(&reading.plan), text);
+            read += 1;
+        } else {
+            assert!(reading.plan == Plan::ZERO);
+            assert!((1..=8).contains(&reading.answer.code));
+        }
+    }
+    println!("30000 damaged texts, {read} of them still plans");
+    assert!(read > 100);
+}
+
+#[test]
+fn one_fault_texts_meet_their_refusal() {
+    let mut rng = rng_for("one_fault_texts_meet_their_refusal");
+    for _ in 0..2000 {
+        let plan = random_plan(&mut rng);
+        for _ in 0..10 {
+            let fault = one_fault(&mut rng, &plan);
+            let reading = read_plan(&fault.text);
+            let shown = String::from_utf8_lossy(&fault.text);
+            assert_eq!(reading.answer, fault.answer, "{shown}");
+            assert!(reading.plan == Plan::ZERO);
+        }
+    }
+    println!("20000 texts of one fault");
+}
+
+/// All faults of all pairs, straight from the document's table, as (a, b, code).
+fn every_pair_fault(plan: &Plan) -> Vec<(u32, u32, u32)> {
+    let mut faults = Vec::new();
+    for a in 0..plan.task_count() {
+        for b in a..plan.task_count() {
+            let pair = (a as u32 + 1, b as u32 + 1);
+            let both_busy =
+                plan.begin[a].max(plan.begin[b]) < plan.finish[a].min(plan.finish[b]) && a != b;
+            if both_busy && plan.board[a] == plan.board[b] {
+                faults.push((pair.0, pair.1, 6));
+            }
+            if both_busy && (1..=32).any(|drive| drive_in_conflict(plan, a, b, drive)) {
+                faults.push((pair.0, pair.1, 7));
+            }
+            if late_for(plan, a, b) || late_for(plan, b, a) {
+                faults.push((pair.0, pair.1, 8));
+            }
+        }
+    }
+    faults
+}
+
+fn drive_in_conflict(plan: &Plan, a: usize, b: usize, drive: u8) -> bool {
+    let hold = |i: usize, byte: u8| items(plan.hold_places(i)).contains(&byte);
+    let (exclusive, shared) = (2 * drive, 2 * drive + 1);
+    let any = |i: usize| hold(i, exclusive) || hold(i, shared);
+    (hold(a, exclusive) && any(b)) || (hold(b, exclusive) && any(a))
+}
+
+fn late_for(plan: &Plan, i: usize, j: usize) -> bool {
+    let listed = items(plan.after_places(i)).contains(&(j as u8 + 1));
+    listed && plan.begin[i] < plan.finish[j]
+}
+
+#[test]
+fn the_least_faulty_pair_is_the_one_named() {
+    let mut rng = rng_for("the_least_faulty_pair_is_the_one_named");
+    let mut by_code = [0u32; 9];
+    for _ in 0..2000 {
+        let accepted_plan = random_plan(&mut rng);
+        assert!(every_pair_fault(&accepted_plan).is_empty());
+        let plan = faulty_pair_plan(&mut rng, &accepted_plan);
+        let expected = every_pair_fault(&plan).into_iter().min();
+        let found = first_faulty_pair(&plan).map(|f| (f.first, f.second, f.code));
+        assert_eq!(found, expected);
+        let reading = read_plan(&plan_text(&plan));
+        assert_eq!(reading.answer.code, expected.map_or(0, |f| f.2));
+        by_code[reading.answer.code as usize] += 1;
+    }
+    println!(
+        "accepted {}, by code 6 to 8: {:?}",
+        by_code[0],
+        &by_code[6..]
+    );
+    assert!(by_code[6..].iter().all(|&n| n > 0));
+}
+
+#[test]
+fn a_plan_value_is_accepted_exactly_when_its_text_reads_back_as_it() {
+    let mut rng = rng_for("a_plan_value_is_accepted_exactly");
+    let mut kept = 0;
+    for _ in 0..3000 {
+        let plan = random_plan(&mut rng);
+        for _ in 0..10 {
+            let changed = mutated_plan(&mut rng, &plan);
+            let reading = read_plan(&plan_text(&changed));
+            let same = reading.answer.is_accepted() && reading.plan == changed;
+            assert_eq!(accepted(&changed), same, "{changed:?}");
+            kept += u32::from(same);
+        }
+    }
+    println!("30000 changed plans, {kept} of them accepted");
+    assert!(kept > 100 && kept < 29_900);
+}
+
+fn check_clashing_tasks_keep_plan_order(last: &Book) {
+    let plan = last.plan();
+    for a in 0..count(last) {
+        for b in 0..count(last) {
+            if clash(&plan, a, b) && plan.finish[a] <= plan.begin[b] {
+                assert!(last.end[a] <= last.start[b]);
+            }
+        }
+    }
+}
+
+fn check_starts_are_the_latest_awaited_ends(last: &Book) {
+    for i in 0..count(last) {
+        let mut latest = 0;
+        for j in 0..count(last) {
+            if last.finish[j] <= last.begin[i] {
+                latest = latest.max(last.end[j]);
+            }
+        }
+        assert_eq!(last.start[i], latest);
+        assert!(last.start[i] <= last.begin[i]);
+        assert!(last.start[i] < last.end[i] && last.end[i] <= last.finish[i]);
+    }
+}
+
+/// What starts or ends after a moment is at least that moment's figure early.
+fn check_figure_is_kept(moment: &Book, last: &Book) {
+    let figure = minimum_early(moment);
+    assert_eq!(figure.answer, Answer::ACCEPTED);
+    for i in 0..count(last) {
+        if moment.mark[i] == 0 {
+            assert!(last.begin[i] - last.start[i] >= figure.early);
+        }
+        if moment.mark[i] != 2 {
+            assert!(last.finish[i] - last.end[i] >= figure.early);
+        }
+    }
+}
+
+#[test]
+fn mornings_keep_what_the_plan_promises() {
+    let mut rng = rng_for("mornings_keep_what_the_plan_promises");
+    let (mut reports, mut early) = (0, 0);
+    for _ in 0..400 {
+        let plan = random_plan(&mut rng);
+        let books = random_morning(&mut rng, &plan);
+        let last = &books[books.len() - 1];
+        assert_eq!(books.len(), count(last) + 1);
+        check_clashing_tasks_keep_plan_order(last);
+        check_starts_are_the_latest_awaited_ends(last);
+        let mut figure_before = 0;
+        for book in &books {
+            assert!(sound(book));
+            check_figure_is_kept(book, last);
+            let figure = minimum_early(book).early;
+            assert!(figure >= figure_before, "M never falls");
+            figure_before = figure;
+            early += u32::from(figure > 0);
+        }
+        reports += books.len() - 1;
+    }
+    println!("400 mornings, {reports} reports, M above 0 in {early} books");
+    assert!(early > 100);
+}
+
+#[test]
+fn no_two_clashing_tasks_ever_run_at_once() {
+    let mut rng = rng_for("no_two_clashing_tasks_ever_run_at_once");
+    for _ in 0..300 {
+        let plan = random_plan(&mut rng);
+        for book in random_morning(&mut rng, &plan) {
+            let plan = book.plan();
+            let running = running_tasks(&book);
+            for (k, &a) in running.iter().enumerate() {
+                assert!(running[k + 1..].iter().all(|&b| !clash(&plan, a, b)));
+            }
+        }
+    }
+}
+
+#[test]
+fn the_least_limit_is_always_accepted() {
+    let mut rng = rng_for("the_least_limit_is_always_accepted");
+    let mut tried = 0;
+    for _ in 0..150 {
+        let mut book = open_book(&random_plan(&mut rng)).book;
+        while let Some((task, tick)) = last_moment_report(&book) {
+            tried += 1;
+            let at_limit = must_report(&book, task, tick);
+            let (task, tick) = accepted_report(&mut rng, &book).unwrap();
+            let other = must_report(&book, task, tick);
+            book = if rng.chance(50) { at_limit } else { other };
+        }
+        assert!(book.mark[..count(&book)].iter().all(|&mark| mark == 2));
+    }
+    println!("{tried} least limits");
+}
+
+#[test]
+fn reports_of_one_tick_may_come_in_any_order() {
+    let mut rng = rng_for("reports_of_one_tick_may_come_in_any_order");
+    let mut groups = 0;
+    for _ in 0..600 {
+        let book = random_book(&mut rng);
+        let mut reports = one_tick_reports(&mut rng, &book);
+        rng.shuffle(&mut reports);
+        reports.truncate(8);
+        let take_all =
+            |order: &[(u32, u32)]| order.iter().fold(book, |b, r| must_report(&b, r.0, r.1));
+        let first = take_all(&reports);
+        for _ in 0..3 {
+            rng.shuffle(&mut reports);
+            assert!(take_all(&reports) == first);
+        }
+        groups += u32::from(reports.len() > 1);
+    }
+    println!("{groups} groups of two or more reports");
+    assert!(groups > 50);
+}
+
+/// The code a report must meet, from the table's sentences, on a sound book.
+fn expected_code(book: &Book, task: u32, tick: u32) -> u32 {
+    if !(1..=u32::from(book.tasks)).contains(&task) {
+        return 10;
+    }
+    let limit = |i: usize| u64::from(book.start[i] + book.finish[i] - book.begin[i]);
+    let i = task as usize - 1;
+    let late = |j: &usize| *j != i && limit(*j) < u64::from(tick);
+    let checks = [
+        (11, book.mark[i] != 1),
+        (12, tick < book.clock),
+        (13, tick <= book.start[i]),
+        (14, u64::from(tick) > limit(i)),
+        (15, running_tasks(book).iter().any(late)),
+    ];
+    checks
+        .iter()
+        .find(|check| check.1)
+        .map_or(0, |check| check.0)
+}
+
+#[test]
+fn refused_reports_leave_the_book() {
+    let mut rng = rng_for("refused_reports_leave_the_book");
+    let mut by_code = [0u32; 17];
+    for _ in 0..400 {
+        let book = random_book(&mut rng);
+        for _ in 0..30 {
+            let (task, tick) = any_report(&mut rng, &book);
+            let reported = report(&book, task, tick);
+            let code = expected_code(&book, task, tick);
+            assert_eq!(reported.answer.code, code, "end {task} at {tick}");
+            by_code[code as usize] += 1;
+            if code != 0 {
+                assert_eq!(
+                    (reported.answer.first, reported.answer.second),
+                    (task, tick)
+                );
+                assert!(reported.book == book);
+            }
+        }
+    }
+    println!(
+        "accepted {}, codes 10 to 15: {:?}",
+        by_code[0],
+        &by_code[10..16]
+    );
+    assert!(by_code[10..16].iter().all(|&n| n > 0));
+}
+
+/// The book that its own plan and its own ends give, if those are accepted.
+fn replayed(book: &Book) -> Option<Book> {
+    let opening = open_book(&book.plan());
+    if !opening.answer.is_accepted() {
+        return None;
+    }
+    let mut ended: Vec<usize> = (0..count(book)).filter(|&i| book.mark[i] == 2).collect();
+    ended.sort_by_key(|&i| book.end[i]);
+    let mut replay = opening.book;
+    for i in ended {
+        let reported = report(&replay, i as u32 + 1, book.end[i]);
+        if !reported.answer.is_accepted() {
+            return None;
+        }
+        replay = reported.book;
+    }
+    Some(replay)
+}
+
+#[test]
+fn sound_books_are_exactly_those_a_run_gives() {
+    let mut rng = rng_for("sound_books_are_exactly_those_a_run_gives");
+    let mut kept = 0;
+    for _ in 0..600 {
+        let book = random_book(&mut rng);
+        for _ in 0..15 {
+            let changed = mutated_book(&mut rng, &book);
+            let given_by_a_run = replayed(&changed) == Some(changed);
+            assert_eq!(sound(&changed), given_by_a_run, "{changed:?}");
+            kept += u32::from(given_by_a_run);
+        }
+    }
+    println!("9000 changed books, {kept} of them sound");
+    assert!(kept > 50 && kept < 8950);
+}
+
+#[test]
+fn runlog_prints_each_task_once_and_ends_with_the_last_figure() {
+    let mut rng = rng_for("runlog_prints_each_task_once");
+    for _ in 0..150 {
+        let plan = random_plan(&mut rng);
+        let books = random_morning(&mut rng, &plan);
+        let last = &books[books.len() - 1];
+        let mut ended: Vec<usize> = (0..count(last)).collect();
+        ended.sort_by_key(|&i| last.end[i]);
+        let lines = ended
+            .iter()
+            .map(|&i| format!("end\t{}\t{}\n", i + 1, last.end[i]));
+        let ends: String = lines.collect();
+        let log = String::from_utf8(run_log(&plan_text(&plan), ends.as_bytes())).unwrap();
+        let lines_of = |word: &str| log.lines().filter(|l| l.starts_with(word)).count();
+        assert_eq!(lines_of("start\t"), count(last));
+        assert_eq!(lines_of("end\t"), count(last));
+        assert_eq!(lines_of("early\t"), count(last) + 1);
+        assert_eq!(lines_of("refused\t"), 0);
+        let closing = format!("early\t{}\t{}\n", last.clock, minimum_early(last).early);
+        assert!(log.ends_with(&closing));
+    }
+}
+
+/// One damaged input of a random kind; the refusal number it met, or 0.
+fn code_of_a_damaged_input(rng: &mut Rng) -> u32 {
+    let plan = random_plan(rng);
+    match rng.within(1, 6) {
+        1 => read_plan(&one_fault(rng, &plan).text).answer.code,
+        2 => read_plan(&damaged_text(rng, &plan_text(&plan))).answer.code,
+        3 => {
+            read_plan(&plan_text(&faulty_pair_plan(rng, &plan)))
+                .answer
+                .code
+        }
+        4 => {
+            let plan = if rng.chance(50) {
+                mutated_plan(rng, &plan)
+            } else {
+                plan
+            };
+            let mut out = vec![7u8; rng.within(0, 4000) as usize];
+            write_plan(&plan, &mut out).answer.code
+        }
+        5 => {
+            let book = random_book(rng);
+            let (task, tick) = any_report(rng, &book);
+            report(&book, task, tick).answer.code
+        }
+        _ => {
+            let book = random_book(rng);
+            minimum_early(&mutated_book(rng, &book)).answer.code
+        }
+    }
+}
+
+#[test]
+fn every_refusal_number_is_reached() {
+    let mut rng = rng_for("every_refusal_number_is_reached");
+    let mut by_code = [0u32; 17];
+    for _ in 0..8000 {
+        by_code[code_of_a_damaged_input(&mut rng) as usize] += 1;
+    }
+    for (code, times) in by_code.iter().enumerate() {
+        println!("code {code}: {times}");
+        assert!(*times > 0, "code {code} was never reached");
+    }
+}

@@ -1,0 +1,175 @@
+//! The four shortcuts that break a morning, each coded as a small variant.
+
+use dispatcher::judge::clash_by_drive;
+use dispatcher::sample::plan_a::PLAN_A;
+use dispatcher::{minimum_early, open_book, read_plan, report, Book, Plan};
+
+/// Whether waiting task index i may start now, reporter being the index ended.
+type StartRule = fn(book: &Book, i: usize, reporter: Option<usize>) -> bool;
+
+fn ended(book: &Book, i: usize) -> bool {
+    book.mark[i] == 2
+}
+
+fn count(book: &Book) -> usize {
+    usize::from(book.tasks)
+}
+
+/// The document's rule, as the variants' common starting point.
+fn awaited_ended(book: &Book, i: usize, _: Option<usize>) -> bool {
+    (0..count(book)).all(|j| book.finish[j] > book.begin[i] || ended(book, j))
+}
+
+/// Shortcut: the board's earlier tasks have ended and its drives are free.
+fn board_and_drives_free(book: &Book, i: usize, _: Option<usize>) -> bool {
+    let plan = book.plan();
+    (0..count(book)).all(|j| {
+        let in_front = book.board[j] == book.board[i] && book.begin[j] < book.begin[i];
+        let in_use = book.mark[j] == 1 && clash_by_drive(&plan, i, j);
+        (!in_front || ended(book, j)) && !in_use
+    })
+}
+
+/// Shortcut: waits only for tasks that finish strictly before.
+fn strictly_earlier_ended(book: &Book, i: usize, _: Option<usize>) -> bool {
+    (0..count(book)).all(|j| book.finish[j] >= book.begin[i] || ended(book, j))
+}
+
+/// Shortcut: looks for starts on the reporter's board only.
+fn on_the_reporters_board(book: &Book, i: usize, reporter: Option<usize>) -> bool {
+    let looked_at = reporter.is_none_or(|r| book.board[r] == book.board[i]);
+    looked_at && awaited_ended(book, i, reporter)
+}
+
+fn start_by(rule: StartRule, book: &mut Book, reporter: Option<usize>) {
+    for i in 0..count(book) {
+        if book.mark[i] == 0 && rule(book, i, reporter) {
+            book.mark[i] = 1;
+            book.start[i] = book.clock;
+        }
+    }
+}
+
+fn open_by(rule: StartRule, plan: &Plan) -> Book {
+    let mut book = open_book(plan).book;
+    book.mark = [0; 64];
+    start_by(rule, &mut book, None);
+    book
+}
+
+fn report_by(rule: StartRule, book: &Book, task: usize, tick: u32) -> Book {
+    let mut next = *book;
+    next.mark[task - 1] = 2;
+    next.end[task - 1] = tick;
+    next.clock = tick;
+    start_by(rule, &mut next, Some(task - 1));
+    next
+}
+
+/// Every task takes its full length; ends are reported as they come.
+fn full_length_starts(rule: StartRule, plan: &Plan) -> Vec<u32> {
+    let mut book = open_by(rule, plan);
+    while let Some((tick, i)) = next_end(&book) {
+        book = report_by(rule, &book, i + 1, tick);
+    }
+    book.start[..count(&book)].to_vec()
+}
+
+fn next_end(book: &Book) -> Option<(u32, usize)> {
+    (0..count(book))
+        .filter(|&i| book.mark[i] == 1)
+        .map(|i| (book.start[i] + book.finish[i] - book.begin[i], i))
+        .min()
+}
+
+fn plan_a() -> Plan {
+    let reading = read_plan(PLAN_A);
+    assert!(reading.answer.is_accepted());
+    reading.plan
+}
+
+fn accepted_reports(plan: &Plan, reports: &[(u32, u32)]) -> Book {
+    let mut book = open_book(plan).book;
+    for &(task, tick) in reports {
+        let reported = report(&book, task, tick);
+        assert!(reported.answer.is_accepted(), "end {task} at {tick}");
+        book = reported.book;
+    }
+    book
+}
+
+#[test]
+fn starting_once_board_and_drives_are_free() {
+    let text = b"plan\t1\t2\t4
+task\t1\t1\t0\t4\t-\t-
+task\t2\t2\t0\t5\t-\t-
+task\t3\t2\t5\t6\te1\t-
+task\t4\t1\t6\t9\te1\t-
+";
+    let plan = read_plan(text).plan;
+    assert_eq!(
+        full_length_starts(board_and_drives_free, &plan),
+        [0, 0, 7, 4]
+    );
+    assert_eq!(full_length_starts(awaited_ended, &plan), [0, 0, 5, 6]);
+
+    let real = accepted_reports(&plan, &[(1, 4), (2, 5), (3, 6), (4, 9)]);
+    assert_eq!(real.start[..4], plan.begin[..4]);
+    assert_eq!(real.end[..4], plan.finish[..4]);
+}
+
+#[test]
+fn waiting_only_for_strictly_earlier_finishes() {
+    let wrong = open_by(strictly_earlier_ended, &plan_a());
+    assert_eq!(wrong.mark[..5], [1, 1, 1, 0, 0]);
+    assert_eq!(wrong.start[2], 0);
+    assert_eq!(wrong.board[1], wrong.board[2]);
+
+    let real = open_book(&plan_a()).book;
+    assert_eq!(real.mark[..5], [1, 1, 0, 0, 0]);
+}
+
+#[test]
+fn looking_on_the_reporters_board_only() {
+    let before = accepted_reports(&plan_a(), &[(2, 3), (1, 4)]);
+    let wrong = report_by(on_the_reporters_board, &before, 3, 6);
+    assert_eq!(wrong.mark[..5], [2, 2, 2, 0, 1]);
+
+    let real = report(&before, 3, 6).book;
+    assert_eq!(real.mark[..5], [2, 2, 2, 1, 1]);
+    assert_eq!(real.start[3], 6);
+}
+
+/// Shortcut: the figure of the report just taken.
+fn early_of_last_report(book: &Book) -> u32 {
+    let last = (0..count(book)).find(|&i| ended(book, i) && book.end[i] == book.clock);
+    last.map_or(0, |i| book.finish[i] - book.end[i])
+}
+
+/// Shortcut: the largest figure of any board.
+fn early_of_largest_board(book: &Book) -> u32 {
+    let figures = (1..=book.boards).map(|board| {
+        let here = || (0..count(book)).filter(move |&i| book.board[i] == board);
+        match here().find(|&i| book.mark[i] == 1) {
+            Some(i) => book.begin[i] - book.start[i],
+            None => here()
+                .filter(|&i| ended(book, i))
+                .max_by_key(|&i| book.end[i])
+                .map_or(0, |i| book.finish[i] - book.end[i]),
+        }
+    });
+    figures.max().unwrap_or(0)
+}
+
+#[test]
+fn taking_the_figure_from_one_report_or_the_largest_board() {
+    let book = accepted_reports(&plan_a(), &[(2, 3), (1, 4)]);
+    assert_eq!(early_of_last_report(&book), 2);
+    assert_eq!(early_of_largest_board(&book), 2);
+    assert_eq!(minimum_early(&book).early, 1);
+
+    let later = report(&book, 3, 8);
+    assert!(later.answer.is_accepted());
+    let task_4_early = later.book.begin[3] - later.book.start[3];
+    assert_eq!(task_4_early, 1);
+}
