@@ -11,47 +11,51 @@ use Rattle.laws.specs.Cases.{by-bool, and-l, and-r, and-of, true-false}
 use Rattle.text.specs.Number.{isNumber, valueOf, numberOf, most}
 use Rattle.text.specs.Items.{between}
 use Rattle.text.specs.declared.Number.{Number}
-use Rattle.text.specs.declared.Number.the-variants.{Value}
+use Rattle.text.specs.declared.Number.the-variants.{Value, Misspelt}
 use Rattle.text.proofs.Rise.{NoValue, over-is, value-is}
 use Rattle.plan.specs.Fields.{codeFor, worse, noRanged, rangedRead, noTimes, timesRead}
 use Rattle.plan.specs.declared.Ranged.{Ranged}
 use Rattle.plan.specs.declared.Times.{Times}
 
 -- a number in a range
-module _ (low high : ℕ) (s : List ℕ) {t : Bool} (p : t ≡ isNumber s) where
-  pub ranged-misspelt : not t ≡ true → noRanged 3 ≡ rangedRead low high s
+module _ (low high : ℕ) (s : List ℕ) {r : Number} (q : r ≡ numberOf s) where
+  pub ranged-none : NoValue r → high ≤ 1000000 → cond (isNumber s) (noRanged 4) (noRanged 3) ≡ rangedRead low high s
   unfolding rangedRead
-  ranged-misspelt h = rw (sym p ∙ not-true t h)
+  ranged-none none few =
+      by-bool (isNumber s)
+      (λ n.
+      let big = over-is s r n q none in
+      let off : between low high (valueOf s) ≡ false = go (leb low (valueOf s)) (lt-leb (valueOf s) high (omega arith)) in
+      rw (n, off))
+      (λ n. rw n)
+    where
+      go : (a : Bool) {b : Bool} → b ≡ false → (a && b) ≡ false
+      go true e = e
+      go false e = refl
 
-  module _ (spelt : not t ≡ false) {r : Number} (q : r ≡ numberOf s) where
-    pub ranged-over : NoValue r → high ≤ 1000000 → noRanged 4 ≡ rangedRead low high s
+  module _ {v : ℕ} (k : r ≡ Value v) where
+    is-spelt-number : isNumber s ≡ true
+    unfolding numberOf
+    is-spelt-number =
+        by-bool (isNumber s)
+        (λ n. n)
+        (λ n. let e : Value v ≡ Misspelt = sym k ∙ q ∙ rw n in let z : _≡_ {A = ℕ} 0 1 = cc in absurd (omega arith))
+
+    pub ranged-off : not (leb low v && leb v high) ≡ true → noRanged 4 ≡ rangedRead low high s
     unfolding rangedRead
-    ranged-over none few =
-        let n : isNumber s ≡ true = sym p ∙ not-false t spelt in
-        let big = over-is s r n q none in
-        let off : between low high (valueOf s) ≡ false = go (leb low (valueOf s)) (lt-leb (valueOf s) high (omega arith)) in
-        rw (n, off)
-      where
-        go : (a : Bool) {b : Bool} → b ≡ false → (a && b) ≡ false
-        go true e = e
-        go false e = refl
+    ranged-off h =
+        let e : v ≡ valueOf s = value-is s r v q k in
+        let off : between low high (valueOf s) ≡ false = rw e at (not-true (leb low v && leb v high) h) in
+        rw (is-spelt-number, off)
 
-    module _ {v : ℕ} (k : r ≡ Value v) where
-      pub ranged-off : not (leb low v && leb v high) ≡ true → noRanged 4 ≡ rangedRead low high s
-      unfolding rangedRead
-      ranged-off h =
-          let n : isNumber s ≡ true = sym p ∙ not-false t spelt in
-          let e : v ≡ valueOf s = value-is s r v q k in
-          let off : between low high (valueOf s) ≡ false = rw e at (not-true (leb low v && leb v high) h) in
-          rw (n, off)
-
-      pub ranged-in : not (leb low v && leb v high) ≡ false → _≡_ {A = Ranged} (record { code = 0; value = v }) (rangedRead low high s)
-      unfolding rangedRead
-      ranged-in h =
-          let n : isNumber s ≡ true = sym p ∙ not-false t spelt in
-          let e : v ≡ valueOf s = value-is s r v q k in
-          let fine : between low high (valueOf s) ≡ true = rw e at (not-false (leb low v && leb v high) h) in
-          rw (n, fine, e)
+    pub ranged-in :
+        not (leb low v && leb v high) ≡ false
+        → _≡_ {A = Ranged} (record { code = 0; value = v }) (rangedRead low high s)
+    unfolding rangedRead
+    ranged-in h =
+        let e : v ≡ valueOf s = value-is s r v q k in
+        let fine : between low high (valueOf s) ≡ true = rw e at (not-false (leb low v && leb v high) h) in
+        rw (is-spelt-number, fine, e)
 
 -- the codes of two parts make the code of both
 pub worse-both : (a b c d : Bool) → worse (codeFor a b) (codeFor c d) ≡ codeFor (a && c) (b && d)

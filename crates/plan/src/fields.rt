@@ -1,6 +1,8 @@
 // The fields of a plan line. A code is 3 where something is misspelt, else 4 where something is out of range, else 0.
 ghost use mathlib.Core.Path.{_≡_};
+ghost use mathlib.Core.Bool.{cond};
 ghost use Prim.Native.Nat.{_≤_};
+ghost use Rattle.text.specs.Number.{isNumber};
 ghost use Rattle.plan.specs.Fields.{worse, rangedRead, timesRead, sizesRead, lineRead, noRanged, noTimes, noSizes, noLine};
 use crate::Line;
 use crate::Ranged;
@@ -24,16 +26,23 @@ fn no_ranged(code: u32) -> Ranged
     Ranged { code, value: 0 }
 }
 
+// A field that is no number, or one too large for any range.
+fn unread(field: &[u8]) -> Ranged
+    ensures { λ r. ⌜ r ≡ cond (isNumber (now (field .entry))) (noRanged 4) (noRanged 3) ⌝ }
+{
+    if is_number(field) {
+        return no_ranged(4);
+    }
+    no_ranged(3)
+}
+
 // A number from low to high.
 fn read_ranged(field: &[u8], low: u32, high: u32) -> Ranged
     requires { ⌜ high ≤ 1000000 ⌝ }
     ensures { λ r. ⌜ r ≡ rangedRead low high (now (field .entry)) ⌝ }
 {
-    if !is_number(field) {
-        return no_ranged(3);
-    }
     let Number::Value(value) = read_number(field) else {
-        return no_ranged(4);
+        return unread(field);
     };
     if !((low <= value) & (value <= high)) {
         return no_ranged(4);

@@ -28,10 +28,11 @@ fn next_line(rest: &[u8], boards: u32, tasks: u32, k: u32) -> Line
     requires { ⌜ (boards ≤ 8) × (tasks ≤ 64) × (k ≤ 64) ⌝ }
     ensures { λ r. ⌜ r ≡ nextLine boards tasks (now (rest .entry)) k ⌝ }
 {
-    if find(rest, LF) == rest.len() {
+    let end = find(rest, LF);
+    if end == rest.len() {
         return no_line(3);
     }
-    read_line(part_before(rest, LF), boards, tasks, k)
+    read_line(&rest[..end], boards, tasks, k)
 }
 
 fn zero_plan() -> Plan

@@ -1,13 +1,13 @@
 -- Document 01's plan A, by its text, and a book on it after some reports.
 use Prim.Native.Nat.{ℕ}
-use mathlib.Core.List.{List, [], _∷_}
+use mathlib.Core.List.{List}
 use Rattle.text.specs.Bytes.{bytes}
 use Rattle.plan.specs.Read.{readingOf}
 use Rattle.plan.specs.declared.Plan.{Plan}
 use Rattle.theory.specs.Report.{Report}
 use Rattle.book.specs.Open.{openingOf}
-use Rattle.book.specs.Report.{reportedOf}
 use Rattle.book.specs.declared.Book.{Book}
+use Rattle.promises.specs.Runs.{bookAfter}
 
 abbrev pub textA : List ℕ
 textA =
@@ -20,11 +20,6 @@ planA = readingOf textA .plan
 -- `end`, task, tick
 abbrev pub end : ℕ → ℕ → Report
 end task tick = record { task = task; tick = tick }
-
--- the book that reports leave, refused ones among them
-unfoldable pub bookAfter : Book → List Report → Book
-bookAfter book [] = book
-bookAfter book (r ∷ rs) = bookAfter (reportedOf book (r .task) (r .tick) .book) rs
 
 unfoldable pub bookA : List Report → Book
 bookA reports = bookAfter (openingOf planA .book) reports

@@ -25,7 +25,8 @@ use Rattle.book.specs.Sound.{isSound}
 use Rattle.book.specs.Open.{blankBook, letGoIn, openedOn, openingOf}
 use Rattle.book.specs.Report.{codeOf, reportAnswer, endedIn, nextBook, reportedOf}
 use Rattle.book.specs.Early.{figureOf}
-use Rattle.promises.specs.PlanA.{planA, end, bookAfter, bookA}
+use Rattle.promises.specs.Runs.{bookAfter}
+use Rattle.promises.specs.PlanA.{planA, end, bookA}
 
 -- after these reports, an end gives a code, 0 for accepted; or the figure shows a number
 pub data Item : Type 0 where

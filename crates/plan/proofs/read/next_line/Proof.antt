@@ -1,4 +1,5 @@
-use mathlib.Core.Path.{_∙_}
+use mathlib.Core.Path.{_∙_, sym}
+use lib.Seq.{length-take-le}
 use Rattle.plan.proofs.ReadLaws.{next-missing, next-there}
 use borrow.Author.Needs.{needs}
 use Rattle.plan.proofs.read.next_line.Statement.{statement}
@@ -8,32 +9,31 @@ use Rattle.plan.proofs.read.next_line.Lts as lts
 use Rattle.plan.proofs.fields.no_line.Reads as no-line-reads
 use Rattle.plan.proofs.fields.read_line.Reads as read-line-reads
 use Rattle.text.proofs.part.find.Reads as find-reads
-use Rattle.text.proofs.part.part_before.Reads as part-before-reads
 
--- src/read.rt:31:8
+-- src/read.rt:31:9
 find-requires : tie.Need-find-requires
 find-requires c κs = search needs
 
--- src/read.rt:32:9
+-- src/read.rt:33:9
 no-line-requires : tie.Need-no-line-requires
 no-line-requires c κs = search needs
 
--- src/read.rt:32:9
+-- src/read.rt:33:9
 returns : tie.Need-returns
 returns c = c .no-line .ensures ∙ next-missing _ _ _ _ (c .before .before .find .ensures) (c .before .if1 .taken)
 
--- src/read.rt:34:15
-part-before-requires : tie.Need-part-before-requires
-part-before-requires c κs = search needs
+-- src/read.rt:35:15
+slice-aggregate-read-line : tie.Need-slice-aggregate-read-line
+slice-aggregate-read-line c = sym (length-take-le _ _ (c .before .before .find .ensures .within))
 
--- src/read.rt:34:5
+-- src/read.rt:35:5
 read-line-requires : tie.Need-read-line-requires
 read-line-requires c κs = search needs
 
 -- src/read.rt:27:1
 returns-2 : tie.Need-returns-2
 returns-2 c =
-    rw (c .before .part-before .ensures) at (c .read-line .ensures)
+    rw (c .before .before .before .find .ensures .first) at (c .read-line .ensures)
     ∙ next-there _ _ _ _ (c .before .before .before .find .ensures) (c .before .before .if1 .left)
 
 pub next-line-spec : {M : Type 1} → statement M
@@ -43,6 +43,6 @@ next-line-spec =
     find-requires
     no-line-requires
     returns
-    part-before-requires
+    slice-aggregate-read-line
     read-line-requires
     returns-2)

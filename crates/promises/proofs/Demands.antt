@@ -1,0 +1,267 @@
+-- Demands 1, 2 and 3, over the definitions that the functions' contracts cite.
+-- Tasks are counted from 0: a report names task i by i + 1.
+use Prim.Native.Nat.{ℕ, _+_, _-_, _≤_, _<_}
+use mathlib.Core.Path.{_≡_}
+use mathlib.Core.Logic.{_≢_, _↔_, _⊎_}
+use mathlib.Core.Bool.{true}
+use mathlib.Core.List.{List, _++_}
+use lib.ListN.{length, take, drop}
+use Rattle.theory.specs.Report.{Report, Accepts}
+use Rattle.theory.specs.Figure.{minimumEarly}
+use Rattle.plan.specs.Answer.{granted}
+use Rattle.plan.specs.Pairs.{clash}
+use Rattle.plan.specs.Value.{at, taskAt, isAccepted}
+use Rattle.plan.specs.Read.{readingOf}
+use Rattle.plan.specs.Write.{textOf, writtenOf, bufferAfter}
+use Rattle.plan.specs.declared.Plan.{Plan}
+use Rattle.plan.proofs.RoundPlan as round-plan
+use Rattle.book.specs.View.{planIn, planView, bookView}
+use Rattle.book.specs.Sound.{isSound}
+use Rattle.book.specs.Open.{openingOf}
+use Rattle.book.specs.Report.{reportedOf}
+use Rattle.book.specs.Early.{figureOf}
+use Rattle.book.specs.declared.Book.{Book}
+use Rattle.book.proofs.Views.{SizedPlan, Sized}
+use Rattle.promises.specs.Runs.{openedBook, runOf, acceptedOf, SameReports, Waiting, Running, Ended, Started, startOf, endOf}
+use Rattle.promises.specs.Runs.{WaitsFor, dueOf, AllEnded, InOrder, EarlyBy, StartsExactly, boardFigure}
+use Rattle.promises.specs.Says.{ReadingSays, OpeningSays, ReportSays, FigureSays, WriteSays}
+use Rattle.promises.proofs.RunView as run-view
+use Rattle.promises.proofs.SoundBook as sound-book
+use Rattle.promises.proofs.Codes as codes
+use Rattle.promises.proofs.Figures as figures
+use Rattle.promises.proofs.Rounds as rounds
+
+-- DEMAND 1. Every call answers one of its table's numbers, says what the table says, and leaves what document 01 says
+
+pub reading-code : (text : List ℕ) → readingOf text .answer .code ≤ 8
+reading-code = codes.reading-code
+
+pub reading-says : (text : List ℕ) → ReadingSays text (readingOf text)
+reading-says = codes.reading-says
+
+pub opening-code : (plan : Plan) → (openingOf plan .answer .code ≡ 0) ⊎ (openingOf plan .answer .code ≡ 9)
+opening-code = codes.opening-code
+
+pub opening-says : (plan : Plan) → OpeningSays plan (openingOf plan)
+opening-says = codes.opening-says
+
+pub report-code :
+    (book : Book) (task tick : ℕ)
+    → (reportedOf book task tick .answer .code ≡ 0)
+    ⊎ ((9 ≤ reportedOf book task tick .answer .code) × (reportedOf book task tick .answer .code ≤ 15))
+report-code = codes.report-code
+
+pub report-says : (book : Book) (task tick : ℕ) → ReportSays book task tick (reportedOf book task tick)
+report-says = codes.report-says
+
+pub figure-code : (book : Book) → (figureOf book .answer .code ≡ 0) ⊎ (figureOf book .answer .code ≡ 9)
+figure-code = codes.figure-code
+
+pub figure-says : (book : Book) → FigureSays book (figureOf book)
+figure-says = codes.figure-says
+
+pub write-code :
+    (plan : Plan) (out : List ℕ)
+    → (writtenOf plan (length out) .answer .code ≡ 0)
+    ⊎ ((writtenOf plan (length out) .answer .code ≡ 9) ⊎ (writtenOf plan (length out) .answer .code ≡ 16))
+write-code = codes.write-code
+
+pub write-says : (plan : Plan) (out : List ℕ) → WriteSays plan out (writtenOf plan (length out)) (bufferAfter plan out)
+write-says = codes.write-says
+
+-- what is handed out has the arrays' lengths
+pub reading-sized : (text : List ℕ) → SizedPlan (readingOf text .plan)
+reading-sized = codes.reading-sized
+
+pub opening-sized : (plan : Plan) → SizedPlan plan → Sized (openingOf plan .book)
+opening-sized = codes.opening-sized
+
+pub report-sized : (book : Book) (task tick : ℕ) → Sized book → Sized (reportedOf book task tick .book)
+report-sized = codes.reported-sized
+
+-- DEMAND 2. A report is accepted exactly when none of codes 9 to 15 applies
+pub report-accepted :
+    (book : Book) (task tick : ℕ)
+    → (reportedOf book task tick .answer .code ≡ 0)
+    ↔ ((isSound book ≡ true) × (0 < task) × Accepts (planView book) (bookView book) (task - 1) tick)
+report-accepted = codes.report-accepted
+
+-- what is due: no end of those it waits for is later, it is one of these ends, and 0 where it waits for nobody
+pub due-over : (book : Book) (i j : ℕ) → j < book .tasks → WaitsFor book i j → endOf book j ≤ dueOf book i
+due-over = sound-book.due-over
+
+pub due-met :
+    (book : Book) (i : ℕ)
+    → (dueOf book i ≡ 0) ⊎ ((j : ℕ) × (j < book .tasks) × WaitsFor book i j × (endOf book j ≡ dueOf book i))
+due-met = sound-book.due-met
+
+pub due-none :
+    (book : Book) (i : ℕ) → ((j : ℕ) → j < book .tasks → WaitsFor book i j → ⊥) → dueOf book i ≡ 0
+due-none = sound-book.due-none
+
+-- of an accepted plan, its opened book and any list of reports
+module _ (plan : Plan) (size : SizedPlan plan) (ok : isAccepted plan ≡ true) where
+  -- A task that waits for nobody starts at tick 0, and no other then
+  pub opening-starts :
+      (i : ℕ) → i < openedBook plan .tasks
+      → (Started (openedBook plan) i ↔ ((j : ℕ) → j < openedBook plan .tasks → WaitsFor (openedBook plan) i j → ⊥))
+      × (Started (openedBook plan) i → startOf (openedBook plan) i ≡ 0)
+  opening-starts = sound-book.opened-starts plan size ok
+
+  module _ (reports : List Report) where
+    -- the plan stays, the book is sound, the arrays keep their lengths
+    pub run-plan : planIn (runOf plan reports) ≡ plan
+    run-plan = sound-book.on-run plan size ok reports .same
+
+    pub run-sound : isSound (runOf plan reports) ≡ true
+    run-sound = sound-book.on-run plan size ok reports .good .sound
+
+    pub run-sized : Sized (runOf plan reports)
+    run-sized = sound-book.on-run plan size ok reports .good .sized
+
+    -- its start is the latest of the ends of those it waits for, 0 where it waits for nobody
+    pub start-is-due :
+        (i : ℕ) → i < runOf plan reports .tasks → Started (runOf plan reports) i
+        → startOf (runOf plan reports) i ≡ dueOf (runOf plan reports) i
+    start-is-due = sound-book.start-due (runOf plan reports) (sound-book.on-run plan size ok reports .good)
+
+    -- a task has started exactly when all it waits for have ended
+    pub started-when-free :
+        (i : ℕ) → i < runOf plan reports .tasks → Started (runOf plan reports) i ↔ AllEnded (runOf plan reports) i
+    started-when-free = sound-book.started-free (runOf plan reports) (sound-book.on-run plan size ok reports .good)
+
+    -- every waiting task has one it waits for that has not ended
+    pub waiting-for-one :
+        (i : ℕ) → i < runOf plan reports .tasks → Waiting (runOf plan reports) i
+        → (j : ℕ) × (j < runOf plan reports .tasks) × WaitsFor (runOf plan reports) i j × (Ended (runOf plan reports) j → ⊥)
+    waiting-for-one = sound-book.waiting-for (runOf plan reports) (sound-book.on-run plan size ok reports .good)
+
+-- of any sound book and an accepted report
+module _ (book : Book) (size : Sized book) (sound : isSound book ≡ true) where
+  module _ (task tick : ℕ) (taken : reportedOf book task tick .answer .code ≡ 0) where
+    -- the reported task has ended at the tick, which is the clock now
+    pub report-ends :
+        Ended (reportedOf book task tick .book) (task - 1)
+        × (endOf (reportedOf book task tick .book) (task - 1) ≡ tick)
+        × (reportedOf book task tick .book .clock ≡ tick)
+    report-ends =
+        sound-book.report-ends
+        book (record { sized = size; sound = sound }) task tick (sound-book.code-of book task tick sound taken)
+
+    -- and nobody else has ended by it
+    pub others-stay :
+        (i : ℕ) → i < book .tasks → i ≢ task - 1
+        → (Ended (reportedOf book task tick .book) i ↔ Ended book i)
+        × (endOf (reportedOf book task tick .book) i ≡ endOf book i)
+    others-stay =
+        sound-book.others-stay
+        book (record { sized = size; sound = sound }) task tick (sound-book.code-of book task tick sound taken)
+
+    -- a waiting task starts exactly when all it waits for have ended after it, and then at its tick
+    pub starts-exactly :
+        (i : ℕ) → i < book .tasks → Waiting book i → StartsExactly tick (reportedOf book task tick .book) i
+    starts-exactly =
+        sound-book.report-starts
+        book (record { sized = size; sound = sound }) task tick (sound-book.code-of book task tick sound taken)
+
+    -- a started task keeps its start
+    pub starts-stay :
+        (i : ℕ) → i < book .tasks → Started book i
+        → Started (reportedOf book task tick .book) i × (startOf (reportedOf book task tick .book) i ≡ startOf book i)
+    starts-stay =
+        sound-book.report-keeps
+        book (record { sized = size; sound = sound }) task tick (sound-book.code-of book task tick sound taken)
+
+  -- M is the least over all boards 1 to B
+  pub figure-is-defined :
+      figureOf book
+      ≡ record { answer = granted; early = minimumEarly (planView book) (book .boards) (at (book .board)) (bookView book) }
+  figure-is-defined = figures.figure-is book sound
+
+  pub figure-least : (on : ℕ) → 0 < on → on ≤ book .boards → figureOf book .early ≤ boardFigure book on
+  figure-least = figures.least-of-boards book (record { sized = size; sound = sound })
+
+  pub figure-met : (on : ℕ) × (0 < on) × (on ≤ book .boards) × (figureOf book .early ≡ boardFigure book on)
+  figure-met = figures.one-of-boards book (record { sized = size; sound = sound })
+
+  -- For each board: if a task runs there, its planned start − start
+  pub board-running :
+      (i : ℕ) → i < book .tasks → Running book i
+      → boardFigure book (at (book .board) i) ≡ at (book .begin) i - startOf book i
+  board-running = figures.board-running book (record { sized = size; sound = sound })
+
+  -- else, if one has ended there, planned finish − end of the last to end
+  pub board-ended :
+      (i : ℕ) → i < book .tasks → Ended book i
+      → ((j : ℕ) → j < book .tasks → at (book .board) j ≡ at (book .board) i → Running book j → ⊥)
+      → ((j : ℕ) → j < book .tasks → at (book .board) j ≡ at (book .board) i → Ended book j → endOf book j ≤ endOf book i)
+      → boardFigure book (at (book .board) i) ≡ at (book .finish) i - endOf book i
+  board-ended = figures.board-ended book (record { sized = size; sound = sound })
+
+-- else 0
+pub board-idle :
+    (book : Book) (on : ℕ) → ((j : ℕ) → j < book .tasks → at (book .board) j ≡ on → Running book j → ⊥)
+    → ((j : ℕ) → j < book .tasks → at (book .board) j ≡ on → Ended book j → ⊥) → boardFigure book on ≡ 0
+board-idle = figures.board-idle
+
+-- both round trips: an accepted text is written back byte for byte
+pub text-back : (text : List ℕ) → readingOf text .answer .code ≡ 0 → textOf (readingOf text .plan) ≡ text
+text-back = rounds.text-back
+
+pub text-written :
+    (text out : List ℕ) → readingOf text .answer .code ≡ 0 → length text ≤ length out
+    → take (length text) (bufferAfter (readingOf text .plan) out) ≡ text
+text-written = rounds.text-written
+
+-- a read plan is accepted
+pub reading-accepted : (text : List ℕ) → readingOf text .answer .code ≡ 0 → isAccepted (readingOf text .plan) ≡ true
+reading-accepted = rounds.reading-accepted
+
+-- an accepted plan's text is never longer than 32,768 bytes
+pub text-fits : (plan : Plan) → isAccepted plan ≡ true → length (textOf plan) ≤ 32768
+text-fits = round-plan.text-length
+
+-- an accepted plan, written where it fits, reads back as itself
+pub plan-back :
+    (plan : Plan) (out : List ℕ) → SizedPlan plan → isAccepted plan ≡ true → length (textOf plan) ≤ length out
+    → readingOf (take (writtenOf plan (length out) .length) (bufferAfter plan out)) ≡ record { answer = granted; plan = plan }
+plan-back = rounds.plan-back
+
+-- A writer that succeeds changes only the bytes of the text
+pub rest-stays :
+    (plan : Plan) (out : List ℕ) → isAccepted plan ≡ true → length (textOf plan) ≤ length out
+    → drop (length (textOf plan)) (bufferAfter plan out) ≡ drop (length (textOf plan)) out
+rest-stays = rounds.rest-stays
+
+-- DEMAND 3. Of an accepted plan, its opened book and any list of reports
+module _ (plan : Plan) (size : SizedPlan plan) (ok : isAccepted plan ≡ true) where
+  module _ (reports : List Report) where
+    -- clashing tasks stand in plan order, and the later one starts no sooner than the earlier one has ended
+    pub clashing-in-order :
+        (a b : ℕ) → a < plan .tasks → b < plan .tasks → a ≢ b → clash (taskAt plan) a b ≡ true
+        → InOrder plan (runOf plan reports) a b ⊎ InOrder plan (runOf plan reports) b a
+    clashing-in-order = sound-book.clash-order plan size ok (runOf plan reports) (sound-book.on-run plan size ok reports)
+
+    -- and never run at once
+    pub clashing-never-at-once :
+        (a b : ℕ) → a < plan .tasks → b < plan .tasks → a ≢ b → clash (taskAt plan) a b ≡ true
+        → Running (runOf plan reports) a → Running (runOf plan reports) b → ⊥
+    clashing-never-at-once = sound-book.never-both plan size ok (runOf plan reports) (sound-book.on-run plan size ok reports)
+
+    -- no task starts after its planned start
+    pub nobody-late :
+        (i : ℕ) → i < plan .tasks → Started (runOf plan reports) i → startOf (runOf plan reports) i ≤ at (plan .begin) i
+    nobody-late = sound-book.not-late plan size ok (runOf plan reports) (sound-book.on-run plan size ok reports)
+
+    -- the figure shown is kept: every task not ended then, so every one not started then, starts and ends at least that early
+    pub figure-kept :
+        (later : List Report) (i : ℕ) → i < plan .tasks → (Ended (runOf plan reports) i → ⊥)
+        → EarlyBy plan (figureOf (runOf plan reports) .early) (runOf plan (reports ++ later)) i
+    figure-kept = sound-book.kept-run plan size ok reports
+
+  -- the same accepted reports, in whatever order, leave the same book
+  pub same-book :
+      (reports others : List Report)
+      → SameReports (acceptedOf (openedBook plan) reports) (acceptedOf (openedBook plan) others)
+      → runOf plan reports ≡ runOf plan others
+  same-book reports others same = run-view.same-after (openedBook plan) reports others (run-view.opened-good plan ok size) same

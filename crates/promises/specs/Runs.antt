@@ -1,0 +1,110 @@
+-- The words of the promises: reports on a book, and what a book says of a task.
+-- Tasks are counted from 0 here, so a report names task i by i + 1.
+use Prim.Native.Nat.{ℕ, _+_, _≤_, _<_}
+use mathlib.Core.Path.{_≡_}
+use mathlib.Core.Logic.{_≢_, _↔_}
+use mathlib.Core.Bool.{cond}
+use mathlib.Core.List.{List, [], _∷_, List·Memᴰ}
+use Rattle.theory.specs.Report.{Report}
+use Rattle.theory.specs.Book as theory-book
+use Rattle.theory.specs.Figure.{boardEarly}
+use Rattle.plan.specs.Answer.{granted, isGranted}
+use Rattle.plan.specs.Value.{at}
+use Rattle.plan.specs.declared.Plan.{Plan}
+use Rattle.book.specs.View.{planView, bookView}
+use Rattle.book.specs.Open.{openingOf}
+use Rattle.book.specs.Report.{reportedOf}
+use Rattle.book.specs.declared.Book.{Book}
+
+-- the book opened on a plan
+abbrev pub openedBook : Plan → Book
+openedBook plan = openingOf plan .book
+
+-- the book that reports leave, refused ones among them
+unfoldable pub bookAfter : Book → List Report → Book
+bookAfter book [] = book
+bookAfter book (r ∷ rs) = bookAfter (reportedOf book (r .task) (r .tick) .book) rs
+
+-- the accepted ones of a list of reports
+unfoldable pub acceptedOf : Book → List Report → List Report
+acceptedOf book [] = []
+acceptedOf book (r ∷ rs) =
+    let later = acceptedOf (reportedOf book (r .task) (r .tick) .book) rs in
+    cond (isGranted (reportedOf book (r .task) (r .tick) .answer)) (r ∷ later) later
+
+-- the same reports, in whatever order
+abbrev pub SameReports : List Report → List Report → Type 0
+SameReports these those = (report : Report) → List·Memᴰ report these ↔ List·Memᴰ report those
+
+-- what a book says of task i
+abbrev pub Waiting : Book → ℕ → Type 0
+Waiting book i = at (book .mark) i ≡ 0
+
+abbrev pub Running : Book → ℕ → Type 0
+Running book i = at (book .mark) i ≡ 1
+
+abbrev pub Ended : Book → ℕ → Type 0
+Ended book i = at (book .mark) i ≡ 2
+
+abbrev pub Started : Book → ℕ → Type 0
+Started book i = at (book .mark) i ≢ 0
+
+abbrev pub startOf : Book → ℕ → ℕ
+startOf book i = at (book .start) i
+
+abbrev pub endOf : Book → ℕ → ℕ
+endOf book i = at (book .end) i
+
+-- its limit is its start + length
+abbrev pub limitOf : Book → ℕ → ℕ
+limitOf book i = theory-book.limit (planView book) (bookView book) i
+
+-- task i waits for task j
+abbrev pub WaitsFor : Book → ℕ → ℕ → Type 0
+WaitsFor book i j = at (book .finish) j ≤ at (book .begin) i
+
+-- the latest of the ends of those it waits for, 0 where it waits for nobody
+abbrev pub dueOf : Book → ℕ → ℕ
+dueOf book i = theory-book.due (planView book) (at (book .end)) i
+
+abbrev pub AllEnded : Book → ℕ → Type 0
+AllEnded book i = (j : ℕ) → j < book .tasks → WaitsFor book i j → Ended book j
+
+-- a stands before b in the plan, and in the book
+pub record InOrder (plan : Plan) (book : Book) (a b : ℕ) : Type 0 where
+  pub planned : at (plan .finish) a ≤ at (plan .begin) b
+  pub over : Started book b → Ended book a
+  pub after : Started book b → endOf book a ≤ startOf book b
+
+-- so many ticks early against the plan
+pub record EarlyBy (plan : Plan) (early : ℕ) (book : Book) (i : ℕ) : Type 0 where
+  pub starts : Started book i → startOf book i + early ≤ at (plan .begin) i
+  pub ends : Ended book i → endOf book i + early ≤ at (plan .finish) i
+
+-- a plan's opened book after reports
+abbrev pub runOf : Plan → List Report → Book
+runOf plan reports = bookAfter (openedBook plan) reports
+
+-- a task that waited starts when all it waits for have ended, and then at this tick
+pub record StartsExactly (tick : ℕ) (after : Book) (i : ℕ) : Type 0 where
+  pub when-free : Started after i ↔ AllEnded after i
+  pub at-tick : Started after i → startOf after i ≡ tick
+  pub runs : Started after i → Running after i
+
+-- a running task of least limit, accepted at its limit
+pub record Progress (book : Book) : Type 0 where
+  pub who : ℕ
+  pub task : who < book .tasks
+  pub runs : Running book who
+  pub least : (j : ℕ) → j < book .tasks → Running book j → limitOf book who ≤ limitOf book j
+  pub taken : reportedOf book (who + 1) (limitOf book who) .answer ≡ granted
+
+-- accepted reports after which every task has ended
+pub record Finishes (book : Book) : Type 0 where
+  pub reports : List Report
+  pub each-accepted : acceptedOf book reports ≡ reports
+  pub all-ended : (i : ℕ) → i < book .tasks → Ended (bookAfter book reports) i
+
+-- the figure of one board
+abbrev pub boardFigure : Book → ℕ → ℕ
+boardFigure book on = boardEarly (planView book) (at (book .board)) (bookView book) on

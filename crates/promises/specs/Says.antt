@@ -1,0 +1,64 @@
+-- What each call may answer: the table's numbers, what they say besides, and what a refusal leaves.
+use Prim.Native.Nat.{ℕ, _+_, _≤_, _<_}
+use mathlib.Core.Path.{_≡_}
+use mathlib.Core.Logic.{_⊎_}
+use mathlib.Core.Bool.{true, false}
+use mathlib.Core.List.{List}
+use lib.ListN.{length}
+use lib.Seq.{sets}
+use Rattle.plan.specs.Answer.{refuse, granted}
+use Rattle.plan.specs.Value.{zeroPlan, isAccepted}
+use Rattle.plan.specs.Read.{tasksOf}
+use Rattle.plan.specs.Write.{textOf}
+use Rattle.plan.specs.declared.Plan.{Plan}
+use Rattle.plan.specs.declared.Reading.{Reading}
+use Rattle.plan.specs.declared.Written.{Written}
+use Rattle.book.specs.Sound.{isSound}
+use Rattle.book.specs.Open.{openedOn, zeroBook}
+use Rattle.book.specs.declared.Book.{Book}
+use Rattle.book.specs.declared.Opening.{Opening}
+use Rattle.book.specs.declared.Reported.{Reported}
+use Rattle.book.specs.declared.Figure.{Figure}
+
+-- A refused reading gives a plan of zeros
+abbrev pub noPlan : ℕ → ℕ → ℕ → Reading
+noPlan code first second = record { answer = refuse code first second; plan = zeroPlan }
+
+pub data ReadingSays (text : List ℕ) (r : Reading) : Type 0 where
+  read : r .answer ≡ granted → isAccepted (r .plan) ≡ true → ReadingSays text r
+  too-long : r ≡ noPlan 1 0 0 → ReadingSays text r
+  first-line : r ≡ noPlan 2 1 0 → ReadingSays text r
+  task-line :
+      (code line : ℕ) → (code ≡ 3) ⊎ (code ≡ 4) → 2 ≤ line → line ≤ tasksOf text + 1 → r ≡ noPlan code line 0
+      → ReadingSays text r
+  more-bytes : r ≡ noPlan 5 (tasksOf text + 2) 0 → ReadingSays text r
+  faulty-pair :
+      (code a b : ℕ) → 6 ≤ code → code ≤ 8 → 1 ≤ a → a ≤ b → b ≤ tasksOf text → r ≡ noPlan code a b
+      → ReadingSays text r
+
+pub data OpeningSays (plan : Plan) (r : Opening) : Type 0 where
+  opened : isAccepted plan ≡ true → r ≡ record { answer = granted; book = openedOn plan } → OpeningSays plan r
+  refused : isAccepted plan ≡ false → r ≡ record { answer = refuse 9 0 0; book = zeroBook } → OpeningSays plan r
+
+pub data ReportSays (book : Book) (task tick : ℕ) (r : Reported) : Type 0 where
+  taken : isSound book ≡ true → r .answer ≡ granted → ReportSays book task tick r
+  unsound : isSound book ≡ false → r ≡ record { answer = refuse 9 0 0; book = book } → ReportSays book task tick r
+  refused :
+      (code : ℕ) → isSound book ≡ true → 10 ≤ code → code ≤ 15
+      → r ≡ record { answer = refuse code task tick; book = book } → ReportSays book task tick r
+
+pub data FigureSays (book : Book) (r : Figure) : Type 0 where
+  shown : isSound book ≡ true → r .answer ≡ granted → FigureSays book r
+  refused : isSound book ≡ false → r ≡ record { answer = refuse 9 0 0; early = 0 } → FigureSays book r
+
+pub data WriteSays (plan : Plan) (out : List ℕ) (r : Written) (after : List ℕ) : Type 0 where
+  written :
+      isAccepted plan ≡ true → length (textOf plan) ≤ length out
+      → r ≡ record { answer = granted; length = length (textOf plan) }
+      → after ≡ sets out 0 (textOf plan) → WriteSays plan out r after
+  unaccepted :
+      isAccepted plan ≡ false → r ≡ record { answer = refuse 9 0 0; length = 0 } → after ≡ out
+      → WriteSays plan out r after
+  too-short :
+      isAccepted plan ≡ true → length out < length (textOf plan)
+      → r ≡ record { answer = refuse 16 (length (textOf plan)) 0; length = 0 } → after ≡ out → WriteSays plan out r after
