@@ -13,7 +13,18 @@ extern "C" {
     fn dispatch_is_sound(book: Book) -> u32;
     fn dispatch_report(book: Book, task: u32, tick: u32) -> Reported;
     fn dispatch_minimum_early(book: Book) -> Figure;
+    fn dispatch_run_log(
+        plan: *const u8,
+        plan_length: usize,
+        ends: *const u8,
+        ends_length: usize,
+        out: *mut u8,
+        length: usize,
+    ) -> usize;
 }
+
+/// No log is longer, and a shorter buffer gets nothing.
+pub const LONGEST_LOG: usize = 212_992;
 
 pub fn read_plan(text: &[u8]) -> Reading {
     // Also an empty slice's pointer is not null, and no byte is read past its length.
@@ -42,6 +53,20 @@ pub fn report(book: &Book, task: u32, tick: u32) -> Reported {
 
 pub fn minimum_early(book: &Book) -> Figure {
     unsafe { dispatch_minimum_early(*book) }
+}
+
+/// Writes the log into the buffer and answers its length.
+pub fn write_log(plan: &[u8], ends: &[u8], out: &mut [u8]) -> usize {
+    unsafe {
+        dispatch_run_log(
+            plan.as_ptr(),
+            plan.len(),
+            ends.as_ptr(),
+            ends.len(),
+            out.as_mut_ptr(),
+            out.len(),
+        )
+    }
 }
 
 /// The truth values the library answers are 1 and 0, and no other number.

@@ -9,6 +9,7 @@ ghost use Rattle.book.specs.Sound.{isSound};
 ghost use Rattle.book.specs.Open.{openingOf};
 ghost use Rattle.book.specs.Report.{reportedOf};
 ghost use Rattle.book.specs.Early.{figureOf};
+ghost use Rattle.log.specs.Ends.{Ran};
 use book::Book;
 use book::Figure;
 use book::Opening;
@@ -81,4 +82,11 @@ pub extern "C" fn dispatch_write_plan(plan: Plan, out: &mut [u8]) -> Written
     ensures { λ r. ⌜ (r ≡ writtenOf plan (length (now (out .entry)))) × (now (out .exit) ≡ bufferAfter plan (now (out .entry))) ⌝ }
 {
     plan::write::write_plan(plan, out)
+}
+
+#[no_mangle]
+pub extern "C" fn dispatch_run_log(plan: &[u8], ends: &[u8], out: &mut [u8]) -> usize
+    ensures { λ r. ⌜ Ran (now (plan .entry)) (now (ends .entry)) (now (out .entry)) (now (out .exit)) r ⌝ }
+{
+    log::run_log(plan, ends, out)
 }

@@ -15,3 +15,4 @@ pub mod Rows
 pub mod Seams
 pub mod Last
 pub mod Sets
+pub mod Width

@@ -1,3 +1,5 @@
 pub mod Entries
 pub mod Lines
 pub mod Log
+pub mod Writes
+pub mod Ends

@@ -1,4 +1,5 @@
 pub mod ItemLaws
+pub mod MergeLaws
 pub mod PairLaws
 pub mod RangeLaws
 pub mod FieldLaws

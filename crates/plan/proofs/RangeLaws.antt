@@ -1,19 +1,21 @@
 -- What is kept of a task, in the two halves that are tested.
 use Prim.Native.Nat.{ℕ, _≤_}
-use mathlib.Core.Path.{_≡_, refl}
+use mathlib.Core.Path.{_≡_, refl, sym, _∙_}
 use mathlib.Core.Bool.{Bool, true, false, not, _&&_}
 use mathlib.Core.List.{List}
 use lib.Dec.{leb}
 use borrow.Author.Tests.{not-true, not-false, leb-true}
-use Rattle.laws.specs.Cases.{and-r}
+use Rattle.laws.specs.Cases.{and-l, and-r}
 use Rattle.laws.specs.Rise.{risesFrom, rises-is}
-use Rattle.laws.specs.Every.{every}
+use Rattle.laws.specs.Every.{every, every-at}
+use Rattle.laws.specs.Lists.{allOf, rising}
 use Rattle.text.specs.Items.{between, driveOf, holdsOk, afterOk}
 use Rattle.text.specs.Lettered.{keyOf}
 use Rattle.plan.specs.Answer.{isGranted}
+use Rattle.plan.specs.Task.{Task, numbersOk, taskOk}
 use Rattle.plan.specs.Pairs.{firstFault}
 use Rattle.plan.specs.Value.{row, items, isTrimmed, keptOk, pastBlank, rangesOk, isAccepted, taskAt}
-use Rattle.plan.specs.Arrays.{planWith, numbersIn, listsIn}
+use Rattle.plan.specs.Arrays.{planWith, numbersIn, listsIn, RowRises, RowsRise}
 use Rattle.plan.specs.declared.Plan.{Plan}
 
 regroup : (numbers holds after one two : Bool) → ((numbers && (holds && after)) && (one && two)) ≡ (numbers && ((holds && one) && (after && two)))
@@ -49,6 +51,20 @@ few-tasks boards tasks h =
     leb-true tasks 64
     (and-r (leb 1 tasks) (leb tasks 64) (and-r (between 1 8 boards) (between 1 64 tasks) (not-false (between 1 8 boards && between 1 64 tasks) h)))
 
+-- the holds of a task that keeps the rules rise
+pub task-rises : (boards tasks : ℕ) (task : Task) → taskOk boards tasks task ≡ true → rising driveOf (task .holds) ≡ true
+unfolding holdsOk
+task-rises boards tasks task h =
+    let lists = and-r (numbersOk boards task) (holdsOk (task .holds) && afterOk tasks (task .after)) h in
+    let holds = and-l (holdsOk (task .holds)) (afterOk tasks (task .after)) lists in
+    and-r (allOf (λ x. between 1 32 (driveOf x)) (task .holds)) (rising driveOf (task .holds)) holds
+
+row-rises : (plan : Plan) (k : ℕ) → keptOk plan k ≡ true → RowRises (plan .holds) k
+unfolding keptOk
+row-rises plan k h =
+    task-rises (plan .boards) (plan .tasks) (taskAt plan k)
+    (and-l (taskOk (plan .boards) (plan .tasks) (taskAt plan k)) (isTrimmed (row 32 (plan .holds) k) && isTrimmed (row 64 (plan .after) k)) h)
+
 module _ (plan : Plan) where
   abbrev sizes : Bool
   sizes = between 1 8 (plan .boards) && between 1 64 (plan .tasks)
@@ -71,3 +87,9 @@ module _ (plan : Plan) where
     pub judged-by-pairs : not (kept && past) ≡ false → isGranted (firstFault (plan .tasks) (taskAt plan)) ≡ isAccepted plan
     judged-by-pairs h =
         let r : ranges ≡ true = rw (k, p) at (not-false (kept && past) h) in rw (accepted-is, not-false sizes s, r)
+
+    -- the holds of what is kept rise
+    pub kept-rises : not (kept && past) ≡ false → plan .tasks ≤ 64 → RowsRise (plan .holds) (plan .tasks)
+    kept-rises h few =
+        let all : every (plan .tasks) (keptOk plan) ≡ true = sym k ∙ and-l kept past (not-false (kept && past) h) in
+        record { few = few; rise = λ j l. row-rises plan j (every-at (plan .tasks) (keptOk plan) all j l) }

@@ -9,6 +9,8 @@ use lib.Dec.{ltb, leb, eqb}
 use lib.ListN.{length}
 use borrow.Author.Tests.{le-ltb, lt-ltb, eq-eqb, ne-eqb, not-true, not-false, eqb-true, leb-true}
 use Rattle.laws.specs.Cases.{by-bool}
+use Rattle.plan.specs.Task.{Task}
+use Rattle.plan.specs.Arrays.{RowsRise}
 use Rattle.laws.specs.Split.{indexOf, before}
 use Rattle.text.specs.Line.{LF, hasLine, skip, lineAt, field}
 use Rattle.text.specs.Number.{valueOf}
@@ -25,6 +27,7 @@ use Rattle.plan.specs.declared.Reading.{Reading}
 use Rattle.plan.specs.declared.Sizes.{Sizes}
 use Rattle.plan.proofs.FirstFault.{fault-same}
 use Rattle.plan.proofs.PlanTasks.{made-task}
+use Rattle.plan.proofs.RangeLaws.{task-rises}
 use Rattle.plan.proofs.RoundLines.{sizes-test, number-range}
 use Rattle.plan.proofs.RoundText.{LineOk, lines-ok}
 
@@ -128,6 +131,19 @@ module _ (s : List ℕ) where
                 let more : ltb 0 (length (skip (tasksOf s + 1) s)) ≡ true = lt-ltb 0 (length (skip (tasksOf s + 1) s)) (omega (arith, left-is, n)) in
                 let t = first-read .tasks-are in
                 reading-refused (answer-lines ∙ rw (passed, more, t)) (omega arith)
+
+            -- the holds of what was read rise
+            pub read-rises : RowsRise (lines .plan .holds) (sizes .tasks)
+            read-rises =
+                let few : tasksOf s ≤ 64 = omega (arith, first-read .few-tasks, first-read .tasks-are) in
+                record {
+                  few = first-read .few-tasks;
+                  rise = λ k h.
+                      let low : k < tasksOf s = omega (arith, first-read .tasks-are) in
+                      let ranges = lines-ok s (ap not passed) k low .ranges in
+                      let made = made-task (boardsOf s) (tasksOf s) (textTask s) few (λ j b. lines-ok s (ap not passed) j b .ranges) k low in
+                      rw (all, ap (λ (t : Task). t .holds) made) (task-rises (boardsOf s) (tasksOf s) (textTask s k) ranges);
+                }
 
             module _ (ends : lines .left ≡ 0) {fault : Answer} (f : fault ≡ firstFault (sizes .tasks) (taskAt (lines .plan))) where
               answer-pairs : textAnswer s ≡ fault

@@ -1,11 +1,13 @@
 -- Short names for what single functions say of lent arrays.
-use Prim.Native.Nat.{ℕ, _+_}
+use Prim.Native.Nat.{ℕ, _+_, _≤_, _<_}
+use mathlib.Core.Path.{_≡_}
 use mathlib.Core.Bool.{Bool, true, false, not, _&&_}
 use mathlib.Core.List.{List}
 use lib.Dec.{ltb, leb, eqb}
 use Rattle.laws.specs.Rise.{risesFrom}
 use Rattle.text.specs.Number.{most}
-use Rattle.text.specs.Items.{between}
+use Rattle.laws.specs.Lists.{rising}
+use Rattle.text.specs.Items.{between, driveOf}
 use Rattle.text.specs.Lettered.{keyOf}
 use Rattle.plan.specs.Pairs.{isListed}
 use Rattle.plan.specs.Value.{at, row, items, isTrimmed}
@@ -39,3 +41,22 @@ listIn drives high l = risesFrom (keyOf drives) high 0 (items l) && isTrimmed l
 
 abbrev pub listsIn : ℕ → List ℕ → List ℕ → ℕ → Bool
 listsIn tasks holds after k = listIn true 32 (row 32 holds k) && listIn false tasks (row 64 after k)
+
+-- how far a walk goes on
+unfoldable pub oneIf : Bool → ℕ
+oneIf true = 1
+oneIf false = 0
+
+-- the holds of a task rise by drive
+abbrev pub RowRises : List ℕ → ℕ → Type 0
+RowRises holds k = rising driveOf (items (row 32 holds k)) ≡ true
+
+pub record PairRises (holds : List ℕ) (a b : ℕ) : Type 0 where
+  pub below-a : a < 64
+  pub below-b : b < 64
+  pub rise-a : RowRises holds a
+  pub rise-b : RowRises holds b
+
+pub record RowsRise (holds : List ℕ) (tasks : ℕ) : Type 0 where
+  pub few : tasks ≤ 64
+  pub rise : (k : ℕ) → k < tasks → RowRises holds k

@@ -1,15 +1,16 @@
 // Two tasks examined, and the search for the first faulty pair.
 use crate::Answer;
 ghost use mathlib.Core.Path.{_≡_};
-ghost use mathlib.Core.Bool.{_&&_};
+ghost use mathlib.Core.Bool.{true, _&&_};
 ghost use mathlib.Core.List.{List};
 ghost use Prim.Native.Nat.{ℕ, _+_, _*_, _<_, _≤_};
 ghost use lib.ListN.{length};
 ghost use lib.Dec.{eqb};
-ghost use Rattle.laws.specs.Lists.{anyOf};
+ghost use Rattle.laws.specs.Lists.{rising};
+ghost use Rattle.text.specs.Items.{driveOf};
 ghost use Rattle.plan.specs.Pairs.{overlap, holdsClash, clashByDrive, isListed, breaksAfter, pairCode, firstFault};
 ghost use Rattle.plan.specs.Value.{row, items, tasksIn};
-ghost use Rattle.plan.specs.Arrays.{meetIn, breaksIn};
+ghost use Rattle.plan.specs.Arrays.{meetIn, breaksIn, oneIf, PairRises, RowsRise};
 
 fn holds_clash(g: u8, h: u8) -> bool
     ensures { λ r. ⌜ r ≡ holdsClash g h ⌝ }
@@ -17,12 +18,30 @@ fn holds_clash(g: u8, h: u8) -> bool
     (g / 2 == h / 2) & !((g % 2 == 1) & (h % 2 == 1))
 }
 
-// Does an item of the list, items first and 0 after the last, clash with the hold?
-fn meets(g: u8, those: &[u8]) -> bool
-    ensures { λ r. ⌜ r ≡ anyOf (holdsClash g) (items (now (those .entry))) ⌝ }
+fn one_if(yes: bool) -> usize
+    ensures { λ r. ⌜ r ≡ oneIf yes ⌝ }
 {
+    if yes {
+        return 1;
+    }
+    0
+}
+
+// Do the two lists have a drive in common, at least one exclusively? They rise, so the lower drive is passed at each turn.
+fn lists_clash(these: &[u8], those: &[u8]) -> bool
+    requires { ⌜ (rising driveOf (items (now these)) ≡ true) × (rising driveOf (items (now those)) ≡ true) ⌝ }
+    ensures { λ r. ⌜ r ≡ clashByDrive (items (now (these .entry))) (items (now (those .entry))) ⌝ }
+{
+    let mut i = 0;
     let mut j = 0;
-    while j < those.len() {
+    while i < these.len() {
+        let g = these[i];
+        if g == 0 {
+            return false;
+        }
+        if those.len() <= j {
+            return false;
+        }
         let h = those[j];
         if h == 0 {
             return false;
@@ -30,31 +49,15 @@ fn meets(g: u8, those: &[u8]) -> bool
         if holds_clash(g, h) {
             return true;
         }
-        j += 1;
-    }
-    false
-}
-
-// Do the two lists have a drive in common, at least one exclusively?
-fn lists_clash(these: &[u8], those: &[u8]) -> bool
-    ensures { λ r. ⌜ r ≡ clashByDrive (items (now (these .entry))) (items (now (those .entry))) ⌝ }
-{
-    let mut i = 0;
-    while i < these.len() {
-        let g = these[i];
-        if g == 0 {
-            return false;
-        }
-        if meets(g, those) {
-            return true;
-        }
-        i += 1;
+        let lower = g / 2 <= h / 2;
+        i += one_if(lower);
+        j += one_if(!lower);
     }
     false
 }
 
 fn clash_by_drive(holds: &[u8; 2048], a: usize, b: usize) -> bool
-    requires { ⌜ (a < 64) × (b < 64) ⌝ }
+    requires { ⌜ PairRises (now holds) a b ⌝ }
     ensures { λ r. ⌜ r ≡ clashByDrive (items (row 32 (now (holds .entry)) a)) (items (row 32 (now (holds .entry)) b)) ⌝ }
 {
     let all = &holds[..];
@@ -102,7 +105,7 @@ fn meet<'a>(begin: &'a [u32; 64], finish: &'a [u32; 64], a: usize, b: usize) -> 
 
 // The lists are walked only where the planned times overlap.
 fn meet_on_drive<'a>(met: bool, holds: &'a [u8; 2048], a: usize, b: usize) -> bool
-    requires { ⌜ (a < 64) × (b < 64) ⌝ }
+    requires { ⌜ PairRises (now holds) a b ⌝ }
     ensures { λ r. ⌜ r ≡ (met && clashByDrive (items (row 32 (now (holds .entry)) a)) (items (row 32 (now (holds .entry)) b))) ⌝ }
 {
     if met {
@@ -138,7 +141,7 @@ fn pair_code<'a>(
     a: usize,
     b: usize,
 ) -> u32
-    requires { ⌜ (a < 64) × (b < 64) ⌝ }
+    requires { ⌜ PairRises (now holds) a b ⌝ }
     ensures { λ r. ⌜ r ≡ pairCode (tasksIn (now (board .entry)) (now (begin .entry)) (now (finish .entry)) (now (holds .entry)) (now (after .entry))) a b ⌝ }
 {
     let met = meet(begin, finish, a, b);
@@ -166,7 +169,7 @@ pub(crate) fn first_fault<'a>(
     after: &'a [u8; 4096],
     tasks: usize,
 ) -> Answer
-    requires { ⌜ tasks ≤ 64 ⌝ }
+    requires { ⌜ RowsRise (now holds) tasks ⌝ }
     ensures { λ r. ⌜ r ≡ firstFault tasks (tasksIn (now (board .entry)) (now (begin .entry)) (now (finish .entry)) (now (holds .entry)) (now (after .entry))) ⌝ }
 {
     let mut a: usize = 0;

@@ -1,7 +1,7 @@
 -- What each call answers, case by case.
 use Prim.Native.Nat.{ℕ, _+_, _-_, _≤_, _<_}
 use native.Mathlib.Omega.{arith}
-use mathlib.Core.Bool.{Bool, true, false, not, cond, _&&_, _||_}
+use mathlib.Core.Bool.{true, false, not, cond, _&&_, _||_}
 use mathlib.Core.List.{List}
 use mathlib.Core.Path.{_≡_, refl, sym, ap, subst, _∙_}
 use mathlib.Core.Logic.{_≢_, _↔_, _⊎_, inl, inr, ⊎-elim}
@@ -19,7 +19,7 @@ use Rattle.theory.proofs.Reflect.{accepts-code}
 use Rattle.plan.specs.Answer.{refuse, granted, isGranted, isRefused}
 use Rattle.plan.specs.Task.{Task, taskOk}
 use Rattle.plan.specs.Pairs.{overlap, sameBoard, clashByDrive, breaksAfter, pairCode, firstFault}
-use Rattle.plan.specs.Value.{zeroPlan, planOf, isAccepted}
+use Rattle.plan.specs.Value.{zeroPlan, isAccepted}
 use Rattle.plan.specs.Read.{sizesOk, boardsOf, tasksOf, isTaskLine, lineTask, lineCode, lineAnswer, linesAnswer, textTask, textAnswer, readingOf}
 use Rattle.plan.specs.Write.{textOf, writeAnswer, writtenOf, bufferAfter}
 use Rattle.plan.specs.declared.Answer.{Answer}
@@ -32,8 +32,8 @@ use Rattle.plan.proofs.PlanTasks.{planOf-sized}
 use Rattle.plan.proofs.RoundText.{read-accepted}
 use Rattle.book.specs.View.{planView, bookView}
 use Rattle.book.specs.Sound.{isSound}
-use Rattle.book.specs.Open.{openedOn, zeroBook, openingOf}
-use Rattle.book.specs.Report.{codeOf, reportAnswer, nextBook, reportedOf}
+use Rattle.book.specs.Open.{openingOf}
+use Rattle.book.specs.Report.{codeOf, reportAnswer, reportedOf}
 use Rattle.book.specs.Early.{figureOf}
 use Rattle.book.specs.declared.Book.{Book}
 use Rattle.book.specs.declared.Opening.{Opening}
@@ -42,7 +42,7 @@ use Rattle.book.specs.declared.Figure.{Figure}
 use Rattle.book.proofs.Views.{SizedPlan, Sized, sized-blank, sized-opened}
 use Rattle.book.proofs.ReportLaws.{code-zero}
 use Rattle.book.proofs.Reports.{report-sized}
-use Rattle.promises.specs.Says.{noPlan, ReadingSays, OpeningSays, ReportSays, FigureSays, WriteSays}
+use Rattle.promises.specs.Says.{ReadingSays, OpeningSays, ReportSays, FigureSays, WriteSays}
 use Rattle.promises.proofs.RunView.{answer-code}
 
 -- the same five lengths

@@ -1,6 +1,6 @@
 -- Demands 1, 2 and 3, over the definitions that the functions' contracts cite.
 -- Tasks are counted from 0: a report names task i by i + 1.
-use Prim.Native.Nat.{ℕ, _+_, _-_, _≤_, _<_}
+use Prim.Native.Nat.{ℕ, _-_, _≤_, _<_}
 use mathlib.Core.Path.{_≡_}
 use mathlib.Core.Logic.{_≢_, _↔_, _⊎_}
 use mathlib.Core.Bool.{true}

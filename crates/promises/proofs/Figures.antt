@@ -1,8 +1,7 @@
 -- Minimum early of a sound book, board by board.
 use Prim.Native.Nat.{ℕ, _-_, _≤_, _<_}
 use mathlib.Core.Bool.{true}
-use mathlib.Core.Path.{_≡_, ap, sym, _∙_}
-use mathlib.Core.Logic.{_≢_}
+use mathlib.Core.Path.{_≡_, ap}
 use Rattle.theory.specs.Figure.{minimumEarly}
 use Rattle.theory.proofs.Boards as boards
 use Rattle.plan.specs.Answer.{granted}

@@ -1,24 +1,20 @@
 -- Any list of reports on a sound book is the theory's run on its view, where task k is the theory's k - 1.
-use Prim.Native.Nat.{ℕ, _+_, _-_, _<_}
+use Prim.Native.Nat.{ℕ, _+_, _-_}
 use native.Mathlib.Omega.{arith}
 use mathlib.Core.Bool.{true, cond}
 use mathlib.Core.List.{List, [], _∷_, _++_, map, List·Memᴰ, List·Memᴰ·head, List·Memᴰ·tail, List·Memᴰ·cases-cons, List·Memᴰ·not-nil}
 use mathlib.Core.Path.{_≡_, refl, sym, ap, _∙_}
 use mathlib.Core.Logic.{_≢_, ⊎-elim}
 use lib.Dec.{eqb}
-use lib.ListN.{length}
 use lib.Seq.{ext-getD}
 use borrow.Author.Tests.{eq-eqb, ne-eqb}
 use Rattle.laws.specs.Cases.{by-eq}
-use Rattle.theory.specs.Plan as theory-plan
 use Rattle.theory.specs.Book as theory-book
 use Rattle.theory.specs.Report.{Report, reportCode, run, accepted}
-use Rattle.theory.specs.Report as theory-report
 use Rattle.theory.proofs.Same.{same-book}
 use Rattle.plan.specs.Answer.{granted, isGranted}
 use Rattle.plan.specs.Value.{at, isAccepted}
 use Rattle.plan.specs.declared.Plan.{Plan}
-use Rattle.plan.specs.declared.Answer.{Answer}
 use Rattle.book.specs.View.{planIn, planView, bookView}
 use Rattle.book.specs.Sound.{isSound}
 use Rattle.book.specs.Open.{openedOn, openingOf}
@@ -26,7 +22,7 @@ use Rattle.book.specs.Report.{codeOf, reportAnswer, reportedOf}
 use Rattle.book.specs.declared.Book.{Book}
 use Rattle.book.specs.declared.Opening.{Opening}
 use Rattle.book.proofs.Accepted.{planFor}
-use Rattle.book.proofs.Views.{SizedPlan, Sized, SoundFacts, is-sound-facts, sized-opened, plan-opened, opened-is-sound}
+use Rattle.book.proofs.Views.{SizedPlan, Sized, is-sound-facts, sized-opened, plan-opened, opened-is-sound}
 use Rattle.book.proofs.ReportLaws.{code-zero}
 use Rattle.book.proofs.Reports.{reportBook, theoryTask, code-seen-by, report-plan, report-sized, report-sound, report-view}
 use Rattle.promises.specs.Runs.{openedBook, bookAfter, acceptedOf, SameReports}

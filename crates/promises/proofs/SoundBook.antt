@@ -1,7 +1,7 @@
 -- What the theory says of a sound book, in the words of the promises.
 use Prim.Native.Nat.{ℕ, _+_, _-_, _≤_, _<_}
 use native.Mathlib.Omega.{arith}
-use mathlib.Core.Bool.{true, false, cond}
+use mathlib.Core.Bool.{true}
 use mathlib.Core.List.{List, _++_, map}
 use mathlib.Core.Path.{_≡_, refl, sym, ap, subst, _∙_}
 use mathlib.Core.Logic.{_≢_, _↔_, _⊎_, inl, inr, ⊎-elim}
@@ -12,7 +12,7 @@ use Rattle.theory.specs.Book as theory-book
 use Rattle.theory.specs.Report as theory-report
 use Rattle.theory.specs.Report.{Report, run}
 use Rattle.theory.specs.Figure.{minimumEarly}
-use Rattle.theory.proofs.Reflect.{all-ended-at, all-ended-of, accepts-code}
+use Rattle.theory.proofs.Reflect.{all-ended-at, all-ended-of}
 use Rattle.theory.proofs.Task.{waiting-why, started-all, free-started, ended-within, end-by-clock}
 use Rattle.theory.proofs.Step.{AtTask, next-at, next-clock}
 use Rattle.theory.proofs.Later.{next-ends}
@@ -31,9 +31,8 @@ use Rattle.book.specs.Open.{blankBook, letGoIn, openedOn}
 use Rattle.book.specs.Report.{codeOf, nextBook, reportedOf}
 use Rattle.book.specs.Early.{figureOf}
 use Rattle.book.specs.declared.Book.{Book}
-use Rattle.book.specs.declared.Figure.{Figure}
-use Rattle.book.proofs.Accepted.{planFor, TaskFacts, plan-facts, plan-lawful, clash-waits}
-use Rattle.book.proofs.Views.{SizedPlan, Sized, SoundFacts, is-sound-facts, PastFacts, past-facts, view-opened, view-next, plan-next}
+use Rattle.book.proofs.Accepted.{planFor, plan-facts, plan-lawful, clash-waits}
+use Rattle.book.proofs.Views.{SizedPlan, SoundFacts, is-sound-facts, past-facts, view-opened, view-next, plan-next}
 use Rattle.book.proofs.ReportLaws.{code-zero, book-granted}
 use Rattle.book.proofs.Reports.{reportBook, theoryTask, code-seen-by}
 use Rattle.promises.specs.Runs.{openedBook, bookAfter, acceptedOf, Waiting, Running, Ended, Started, startOf, endOf, limitOf, WaitsFor, dueOf, AllEnded, InOrder, EarlyBy, runOf, StartsExactly, Progress, Finishes}

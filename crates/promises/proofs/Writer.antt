@@ -1,7 +1,7 @@
 -- A writer that writes nothing is no writer: into 200 zeros plan A's text is written.
 use Prim.Native.Nat.{ℕ, _≤_}
 use native.Mathlib.Omega.{arith}
-use mathlib.Core.Path.{_≡_, refl, sym, ap, _∙_}
+use mathlib.Core.Path.{_≡_, sym, ap, _∙_}
 use mathlib.Core.List.{List}
 use lib.ListN.{length, take, getD, replicate}
 use Rattle.plan.specs.Read.{readingOf}

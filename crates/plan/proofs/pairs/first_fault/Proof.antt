@@ -1,5 +1,6 @@
 use Prim.Native.Nat.{_-_}
 use mathlib.Core.Path.{refl}
+use native.Mathlib.Omega.{arith}
 use Rattle.plan.specs.Pairs.{firstFault, rowFault}
 use Rattle.plan.specs.Value.{tasksIn}
 use Rattle.plan.proofs.PairLaws.{RowsFrom, PairsFrom, pair-passed, row-passed, pair-found, none-found}
@@ -36,7 +37,15 @@ loop-holds c = refl
 
 -- src/pairs.rt:183:17
 pair-code-requires : tie.Need-pair-code-requires Inv-loop μ-loop Inv-search μ-search
-pair-code-requires c κs = search needs
+pair-code-requires c κs =
+    let low = c .before .before .if1 .left in
+    let few = c .before .before .before .before .pre .few in
+    record {
+      below-a = omega arith;
+      below-b = omega arith;
+      rise-a = c .before .before .before .before .pre .rise _ low;
+      rise-b = c .before .before .before .before .pre .rise _ (c .loop-test .taken);
+    }
 
 -- src/pairs.rt:187:29
 add-t13 : tie.Need-add-t13 Inv-loop μ-loop Inv-search μ-search

@@ -1,7 +1,9 @@
+use denote.Ref.{now}
+use Rattle.plan.specs.Arrays.{planWith}
 use mathlib.Core.Path.{ap, _∙_}
 use Rattle.plan.specs.Answer.{isGranted}
 use Rattle.plan.specs.declared.Answer.{Answer}
-use Rattle.plan.proofs.RangeLaws.{few-tasks, refused-sizes, refused-ranges, judged-by-pairs}
+use Rattle.plan.proofs.RangeLaws.{few-tasks, refused-sizes, refused-ranges, judged-by-pairs, kept-rises}
 use borrow.Author.Needs.{needs}
 use Rattle.plan.proofs.ranges.is_accepted.Statement.{statement}
 use Rattle.plan.proofs.ranges.is_accepted.Tie as tie
@@ -31,7 +33,9 @@ returns-2 c =
 
 -- src/ranges.rt:187:9
 first-fault-requires : tie.Need-first-fault-requires
-first-fault-requires c κs = few-tasks (c .before .before .before .before .args .boards) (c .before .before .before .before .args .tasks) (c .before .before .before .if1 .left)
+first-fault-requires c κs =
+    kept-rises (planWith (c .before .before .before .before .args .boards) (c .before .before .before .before .args .tasks) (now (c .before .before .before .before .args .board)) (now (c .before .before .before .before .args .begin)) (now (c .before .before .before .before .args .finish)) (now (c .before .before .before .before .args .holds)) (now (c .before .before .before .before .args .after))) (c .before .before .before .if1 .left) (c .before .before .all-kept .ensures) (c .before .past-blank .ensures) (c .if2 .left)
+    (few-tasks (c .before .before .before .before .args .boards) (c .before .before .before .before .args .tasks) (c .before .before .before .if1 .left))
 
 -- src/ranges.rt:168:1
 returns-3 : tie.Need-returns-3

@@ -1,7 +1,7 @@
 use native.Mathlib.Omega.{arith}
 use mathlib.Core.Path.{ap, _∙_}
 use Rattle.plan.specs.Fields.{refusedReading}
-use Rattle.plan.proofs.ReadingLaws.{reading-long, reading-no-line, reading-no-sizes, first-read, reading-line, reading-extra, reading-pair, reading-in}
+use Rattle.plan.proofs.ReadingLaws.{reading-long, reading-no-line, reading-no-sizes, first-read, reading-line, reading-extra, reading-pair, reading-in, read-rises}
 use borrow.Author.Needs.{needs}
 use Rattle.plan.proofs.read.read_plan.Statement.{statement}
 use Rattle.plan.proofs.read.read_plan.Tie as tie
@@ -116,8 +116,9 @@ cast-first-fault c = search needs
 -- src/read.rt:164:9
 first-fault-requires : tie.Need-first-fault-requires
 first-fault-requires c κs =
-    first-read _ (c .before .before .before .before .before .before .before .before .before .before .before .before .before .before .before .before .before .before .before .before .if1 .left) (c .before .before .before .before .before .before .before .before .before .before .before .before .before .before .before .before .before .before .before .find .ensures) (c .before .before .before .before .before .before .before .before .before .before .before .before .before .before .before .before .before .before .if2 .left)
-    (rw (c .before .before .before .before .before .before .before .before .before .before .before .before .before .before .before .before .before .part-before .ensures) at (c .before .before .before .before .before .before .before .before .before .before .before .before .before .before .before .before .read-sizes .ensures)) (c .before .before .before .before .before .before .before .before .before .before .before .before .before .before .if3 .left) .few-tasks
+    read-rises _ (c .before .before .before .before .before .before .before .before .before .before .before .before .before .before .before .before .before .before .before .before .if1 .left) (c .before .before .before .before .before .before .before .before .before .before .before .before .before .before .before .before .before .before .before .find .ensures) (c .before .before .before .before .before .before .before .before .before .before .before .before .before .before .before .before .before .before .if2 .left)
+    (rw (c .before .before .before .before .before .before .before .before .before .before .before .before .before .before .before .before .before .part-before .ensures) at (c .before .before .before .before .before .before .before .before .before .before .before .before .before .before .before .before .read-sizes .ensures)) (c .before .before .before .before .before .before .before .before .before .before .before .before .before .before .if3 .left)
+    (c .before .before .before .before .before .before .before .before .before .before .before .before .before .read-lines .ensures) (c .before .before .before .before .before .before .before .before .before .before .if4 .left)
 
 -- src/read.rt:166:9
 refused-requires-6 : tie.Need-refused-requires-6

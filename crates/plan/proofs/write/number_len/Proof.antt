@@ -1,5 +1,5 @@
 use native.Mathlib.Omega.{arith}
-use Rattle.plan.proofs.RunLaws.{ten-digits}
+use Rattle.laws.specs.Width.{ten-digits}
 use borrow.Author.Needs.{needs}
 use Rattle.plan.proofs.write.number_len.Statement.{statement}
 use Rattle.plan.proofs.write.number_len.Tie as tie

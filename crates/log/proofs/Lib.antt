@@ -1,0 +1,5 @@
+pub mod EntryLaws
+pub mod WriteLaws
+pub mod ReportLaws
+pub mod EndsLaws
+pub mod LogLaws
