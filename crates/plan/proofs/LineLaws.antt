@@ -1,19 +1,21 @@
 -- The answers of the readers of whole lines, by the tests that lead to them.
-use Prim.Native.Nat.{ℕ, _≤_, _<_, min}
+use Prim.Native.Nat.{ℕ, suc, _≤_, _<_, min}
 use mathlib.Core.Path.{_≡_, refl, sym, ap, _∙_}
 use mathlib.Core.Logic.{_≢_}
 use mathlib.Core.Bool.{Bool, true, false, not, cond, _&&_, _||_}
 use mathlib.Core.List.{List}
 use native.Mathlib.Omega.{arith}
 use lib.Dec.{ltb, leb, eqb}
-use lib.ListN.{length}
+use lib.ListN.{length, drop}
 use borrow.Author.Tests.{not-true, not-false, le-leb, leb-true, eqb-true, eq-eqb, ne-eqb}
 use Rattle.laws.specs.Cases.{by-bool, and-l, and-r, and-of, same-test}
 use Rattle.laws.specs.Lists.{same}
+use Rattle.laws.specs.Split.{before}
 use Rattle.text.specs.Number.{isNumber, valueOf, most}
-use Rattle.text.specs.Line.{fields, field}
+use Rattle.text.specs.Line.{TAB, fields, field}
 use Rattle.text.specs.Items.{between, isHolds, holdsOf, isAfter, afterOf, holdsOk, afterOk, noItems, someItems, itemsOf, holdsRead, afterRead}
 use Rattle.text.specs.declared.Items.{Items}
+use Rattle.text.proofs.Parts.{From, from-start, from-field, from-next}
 use Rattle.plan.specs.Task.{taskOk}
 use Rattle.plan.specs.Read.{PLAN, TASK, EDITION, ranged, sizesOk, isTaskLine, lineTask, lineCode}
 use Rattle.plan.specs.Fields.{codeFor, worse, rangedRead, timesRead, noTimes, noSizes, sizesRead, noLine, lineRead}
@@ -119,6 +121,43 @@ regroup-spelt true true true d e f = refl
 regroup-fine : (a b c d e : Bool) → (((a && b) && c) && (d && e)) ≡ (a && ((b && c) && (d && e)))
 regroup-fine false b c d e = refl
 regroup-fine true b c d e = refl
+
+-- a task line cut into its fields, each looked for where the one before it ends
+pub record Cut (line p0 p1 p2 p3 p4 p5 p6 : List ℕ) : Type 0 where
+  pub word : p0 ≡ field line 0
+  pub number : p1 ≡ field line 1
+  pub board : p2 ≡ field line 2
+  pub begin : p3 ≡ field line 3
+  pub finish : p4 ≡ field line 4
+  pub holds : p5 ≡ field line 5
+  pub after : p6 ≡ field line 6
+
+pub line-cut :
+    {line p0 r1 p1 r2 p2 r3 p3 r4 p4 r5 p5 r6 p6 : List ℕ}
+    → p0 ≡ before TAB line → r1 ≡ drop (suc (length p0)) line
+    → p1 ≡ before TAB r1 → r2 ≡ drop (suc (length p1)) r1
+    → p2 ≡ before TAB r2 → r3 ≡ drop (suc (length p2)) r2
+    → p3 ≡ before TAB r3 → r4 ≡ drop (suc (length p3)) r3
+    → p4 ≡ before TAB r4 → r5 ≡ drop (suc (length p4)) r4
+    → p5 ≡ before TAB r5 → r6 ≡ drop (suc (length p5)) r5
+    → p6 ≡ before TAB r6 → Cut line p0 p1 p2 p3 p4 p5 p6
+line-cut {line} e0 q1 e1 q2 e2 q3 e3 q4 e4 q5 e5 q6 e6 =
+    let f0 : From TAB line 0 _ = from-start TAB line in
+    let f1 : From TAB line 1 _ = from-next TAB line 0 _ _ f0 e0 _ q1 in
+    let f2 : From TAB line 2 _ = from-next TAB line 1 _ _ f1 e1 _ q2 in
+    let f3 : From TAB line 3 _ = from-next TAB line 2 _ _ f2 e2 _ q3 in
+    let f4 : From TAB line 4 _ = from-next TAB line 3 _ _ f3 e3 _ q4 in
+    let f5 : From TAB line 5 _ = from-next TAB line 4 _ _ f4 e4 _ q5 in
+    let f6 : From TAB line 6 _ = from-next TAB line 5 _ _ f5 e5 _ q6 in
+    record {
+      word = from-field TAB line 0 _ _ f0 e0;
+      number = from-field TAB line 1 _ _ f1 e1;
+      board = from-field TAB line 2 _ _ f2 e2;
+      begin = from-field TAB line 3 _ _ f3 e3;
+      finish = from-field TAB line 4 _ _ f4 e4;
+      holds = from-field TAB line 5 _ _ f5 e5;
+      after = from-field TAB line 6 _ _ f6 e6;
+    }
 
 module _ (boards tasks : ℕ) (line : List ℕ) (k : ℕ) where
   pub line-count : (length (fields line) ≡ 7 → ⊥) → noLine 3 ≡ lineRead boards tasks line k

@@ -1,12 +1,12 @@
 -- The task lines read one after another: what each adds, the first refusal, the end.
-use Prim.Native.Nat.{ℕ, _+_, _-_, _*_, _≤_, _<_}
+use Prim.Native.Nat.{ℕ, suc, _+_, _-_, _*_, _≤_, _<_}
 use mathlib.Core.Path.{_≡_, refl, sym, ap, _∙_}
 use mathlib.Core.Logic.{_≢_}
 use mathlib.Core.Bool.{Bool, true, false, not, cond, _&&_}
 use mathlib.Core.List.{List}
 use native.Mathlib.Omega.{arith}
 use lib.Dec.{ltb, eqb}
-use lib.ListN.{length, take, set, replicate, length-replicate}
+use lib.ListN.{length, take, drop, set, replicate, length-replicate}
 use lib.Seq.{sets, take-at, length-take-le}
 use borrow.Author.Tests.{le-ltb, lt-ltb, le-leb, eq-eqb, ne-eqb, eqb-true, not-true, not-false}
 use Rattle.laws.specs.Cases.{by-bool, guard-passed}
@@ -88,6 +88,9 @@ module _ (boards tasks : ℕ) (s : List ℕ) (k : ℕ) {r : ℕ} (p : Place LF s
   pub next-there : (r ≡ length s → ⊥) → lineRead boards tasks (before LF s) k ≡ nextLine boards tasks s k
   unfolding nextLine
   next-there n = rw (lt-ltb (indexOf LF s) (length s) (omega (arith, p .first, p .within, n)))
+
+pub past-line : (s : List ℕ) {r : ℕ} {more : List ℕ} → Place LF s r → more ≡ drop (suc r) s → more ≡ Split.after LF s
+past-line s p q = q ∙ ap (λ (n : ℕ). drop (suc n) s) (p .first)
 
 line-code : (boards tasks : ℕ) (line : List ℕ) (k : ℕ) → lineRead boards tasks line k .code ≡ lineCode boards tasks line k
 unfolding lineRead

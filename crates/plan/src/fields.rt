@@ -14,8 +14,11 @@ use text::decimal::is_number;
 use text::decimal::read_number;
 use text::list::read_after;
 use text::list::read_holds;
+use text::part::TAB;
 use text::part::count_fields;
 use text::part::field;
+use text::part::part_before;
+use text::part::past;
 use text::part::same;
 
 const MOST: u32 = 1000000;
@@ -143,7 +146,15 @@ pub(crate) fn no_line(code: u32) -> Line
     }
 }
 
-// The k-th task line.
+// The code of a task line's parts.
+fn line_code(number: u32, board: u32, times: u32, holds: u32, after: u32) -> u32
+    ensures { λ r. ⌜ r ≡ worse (worse (worse number board) times) (worse holds after) ⌝ }
+{
+    let numbers = worse_of(worse_of(number, board), times);
+    worse_of(numbers, worse_of(holds, after))
+}
+
+// The k-th task line. Each field is looked for where the one before it ends.
 pub(crate) fn read_line(line: &[u8], boards: u32, tasks: u32, k: u32) -> Line
     requires { ⌜ (boards ≤ 8) × (tasks ≤ 64) × (k ≤ 64) ⌝ }
     ensures { λ r. ⌜ r ≡ lineRead boards tasks (now (line .entry)) k ⌝ }
@@ -151,16 +162,27 @@ pub(crate) fn read_line(line: &[u8], boards: u32, tasks: u32, k: u32) -> Line
     if count_fields(line) != 7 {
         return no_line(3);
     }
-    if !same(field(line, 0), b"task") {
+    let word = part_before(line, TAB);
+    if !same(word, b"task") {
         return no_line(3);
     }
-    let number = read_ranged(field(line, 1), k, k);
-    let board = read_ranged(field(line, 2), 1, boards);
-    let times = read_times(field(line, 3), field(line, 4));
-    let holds = read_holds(field(line, 5));
-    let after = read_after(field(line, 6), tasks);
-    let numbers = worse_of(worse_of(number.code, board.code), times.code);
-    let code = worse_of(numbers, worse_of(holds.code, after.code));
+    let from_number = past(line, word.len());
+    let number_field = part_before(from_number, TAB);
+    let from_board = past(from_number, number_field.len());
+    let board_field = part_before(from_board, TAB);
+    let from_begin = past(from_board, board_field.len());
+    let begin_field = part_before(from_begin, TAB);
+    let from_finish = past(from_begin, begin_field.len());
+    let finish_field = part_before(from_finish, TAB);
+    let from_holds = past(from_finish, finish_field.len());
+    let holds_field = part_before(from_holds, TAB);
+    let from_after = past(from_holds, holds_field.len());
+    let number = read_ranged(number_field, k, k);
+    let board = read_ranged(board_field, 1, boards);
+    let times = read_times(begin_field, finish_field);
+    let holds = read_holds(holds_field);
+    let after = read_after(part_before(from_after, TAB), tasks);
+    let code = line_code(number.code, board.code, times.code, holds.code, after.code);
     if code != 0 {
         return no_line(code);
     }

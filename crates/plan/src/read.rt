@@ -3,6 +3,8 @@ ghost use mathlib.Core.Path.{_≡_};
 ghost use Prim.Native.Nat.{_≤_};
 ghost use lib.ListN.{take};
 ghost use lib.Seq.{sets};
+ghost use Rattle.text.specs.Line.{LF};
+ghost use Rattle.text.specs.Place.{Place};
 ghost use Rattle.plan.specs.Answer.{refuse};
 ghost use Rattle.plan.specs.Value.{zeroPlan};
 ghost use Rattle.plan.specs.Read.{readingOf};
@@ -21,14 +23,14 @@ use text::part::LF;
 use text::part::find;
 use text::part::part_after;
 use text::part::part_before;
+use text::part::past;
 use text::put::put_text;
 
-// The k-th task line, which begins the rest of the text.
-fn next_line(rest: &[u8], boards: u32, tasks: u32, k: u32) -> Line
-    requires { ⌜ (boards ≤ 8) × (tasks ≤ 64) × (k ≤ 64) ⌝ }
+// The k-th task line, which begins the rest of the text and ends at the first LF.
+fn next_line(rest: &[u8], end: usize, boards: u32, tasks: u32, k: u32) -> Line
+    requires { ⌜ (boards ≤ 8) × (tasks ≤ 64) × (k ≤ 64) × Place LF (now rest) end ⌝ }
     ensures { λ r. ⌜ r ≡ nextLine boards tasks (now (rest .entry)) k ⌝ }
 {
-    let end = find(rest, LF);
     if end == rest.len() {
         return no_line(3);
     }
@@ -86,7 +88,8 @@ fn read_lines(text: &[u8], boards: u32, tasks: u32) -> Lines
     let mut rest = part_after(text, LF);
     let mut k: u32 = 0;
     while k < tasks {
-        let line = next_line(rest, boards, tasks, k + 1);
+        let end = find(rest, LF);
+        let line = next_line(rest, end, boards, tasks, k + 1);
         if line.code != 0 {
             return no_lines(line.code, k + 2);
         }
@@ -96,7 +99,7 @@ fn read_lines(text: &[u8], boards: u32, tasks: u32) -> Lines
         finish[i] = line.finish;
         put_items(&mut holds, 32 * i, line.holds);
         put_items(&mut after, 64 * i, line.after);
-        let next = part_after(rest, LF);
+        let next = past(rest, end);
         rest = next;
         k += 1;
     }

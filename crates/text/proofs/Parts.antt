@@ -45,17 +45,22 @@ module _ (c : ℕ) (s : List ℕ) (i : ℕ) where
 pub tail-is : (s : List ℕ) (k : ℕ) → take (length s - k) (drop k s) ≡ drop k s
 tail-is s k = take-all (length s - k) (drop k s) (omega (arith, length-drop k s))
 
-pub after-found : (c k : ℕ) (s : List ℕ) → k ≡ indexOf c s → take (length s - (k + 1)) (drop (k + 1) s) ≡ after c s
-after-found c k s e = tail-is s (k + 1) ∙ rw (add-one, e)
+pub past-some : (s : List ℕ) (k : ℕ) → take (length s - (k + 1)) (drop (k + 1) s) ≡ drop (suc k) s
+past-some s k = tail-is s (k + 1) ∙ rw add-one
 
-pub after-none : (c k : ℕ) (s : List ℕ) → k ≡ indexOf c s → length s ≤ k → take (length s - k) (drop k s) ≡ after c s
-after-none c k s e h =
-    tail-is s k ∙ drop-of-length-le s h ∙ sym (drop-of-length-le s {i = suc (indexOf c s)} (omega arith))
+pub past-none : (s : List ℕ) (k : ℕ) → length s ≤ k → take (length s - length s) (drop (length s) s) ≡ drop (suc k) s
+past-none s k h =
+    tail-is s (length s)
+    ∙ drop-of-length-le s {i = length s} (omega arith)
+    ∙ sym (drop-of-length-le s {i = suc k} (omega arith))
 
 -- the first part, by its length: whether more follow
 module _ (c : ℕ) (s p : List ℕ) (e : p ≡ before c s) where
   part-length : length p ≡ indexOf c s
   part-length = ap length e ∙ length-take-le (indexOf c s) s (index-le c s)
+
+  pub past-part : (n : List ℕ) → n ≡ drop (suc (length p)) s → n ≡ after c s
+  past-part n q = q ∙ ap (λ (k : ℕ). drop (suc k) s) part-length
 
   pub parts-last : length p ≡ length s → splitOn c s ≡ p ∷ []
   parts-last h =
@@ -101,6 +106,29 @@ field-turn c s r (suc n) x h e p =
     let q : after c s ≡ [] = drop-of-length-le s {i = suc (indexOf c s)} (omega arith) in
     rw (m, e, q) (none-at n ∙ (rw (split-none c s g) at p)))
     (λ g. rw (m, e) (rw (split-found c s g) at p))
+
+-- fields found one after another: the rest of a line from its field n on
+pub record From (c : ℕ) (line : List ℕ) (n : ℕ) (rest : List ℕ) : Type 0 where
+  pub at : (m : ℕ) → getD (splitOn c rest) m [] ≡ getD (splitOn c line) (n + m) []
+
+pub from-start : (c : ℕ) (line : List ℕ) → From c line 0 line
+from-start c line = record { at = λ m. let e : 0 + m ≡ m = omega arith in rw e }
+
+module _ (c : ℕ) (line : List ℕ) (n : ℕ) (rest part : List ℕ) (f : From c line n rest) (e : part ≡ before c rest) where
+  pub from-field : part ≡ getD (splitOn c line) n []
+  from-field =
+      let z : n + 0 ≡ n = omega arith in
+      e ∙ sym (field-first c rest) ∙ f .at 0 ∙ ap (λ (k : ℕ). getD (splitOn c line) k []) z
+
+  pub from-next : (more : List ℕ) → more ≡ drop (suc (length part)) rest → From c line (n + 1) more
+  from-next more q = record {
+    at = λ m.
+        let a : m ≡ suc m - 1 = omega arith in
+        let b : n + suc m ≡ n + 1 + m = omega arith in
+        ap (λ (k : ℕ). getD (splitOn c more) k []) a
+        ∙ field-turn c rest more (suc m) _ (omega arith) (past-part c rest part e more q) (f .at (suc m))
+        ∙ ap (λ (k : ℕ). getD (splitOn c line) k []) b;
+  }
 
 -- ---- how many parts
 

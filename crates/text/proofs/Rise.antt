@@ -22,7 +22,7 @@ use Rattle.text.specs.declared.Number.{Number}
 use Rattle.text.specs.declared.Number.the-variants.{Value, Over, Misspelt}
 use Rattle.text.specs.Number.{isNumber, valueOf, numberOf}
 use Rattle.text.specs.Items.{COMMA, NONE, between, isList, listOf, isHold, holdOf, noItems, itemsOf, holdsOk, holdsRead, isAfter, afterOf, afterOk, afterRead}
-use Rattle.text.specs.Lettered.{isItem, itemOf, digitsIn, keyOf, listOk, itemsRead, listRead}
+use Rattle.text.specs.Lettered.{isItem, itemOf, digitsIn, itemNumber, keyOf, listOk, itemsRead, listRead}
 use Rattle.text.proofs.Number.{the-type}
 use Rattle.text.proofs.Parts.{tail-is, parts-last, parts-more, First, first, first-part}
 
@@ -54,17 +54,6 @@ item-some true [] l h = true-false h refl
 item-some true (b ∷ s) l h = omega arith
 item-some false part l h = true-false l refl
 
-pub letter-digits :
-    (lettered : Bool) (part : List ℕ) → lettered ≡ true → take (length part - 1) (drop 1 part) ≡ digitsIn lettered part
-unfolding digitsIn
-letter-digits true part l = tail-is part 1
-letter-digits false part l = true-false l refl
-
-pub plain-digits : (lettered : Bool) (part : List ℕ) → lettered ≡ false → part ≡ digitsIn lettered part
-unfolding digitsIn
-plain-digits true part l = true-false refl l
-plain-digits false part l = refl
-
 pub item-digits : (lettered : Bool) (part : List ℕ) → isItem lettered part ≡ true → isNumber (digitsIn lettered part) ≡ true
 unfolding isHold isItem digitsIn
 item-digits true [] h = true-false h refl
@@ -94,6 +83,52 @@ item-alone true [] n l e h = let f : n ≡ 0 = e in omega arith
 item-alone true (b ∷ s) n l e h =
     let f : n ≡ valueOf s = e in let z : n * 2 ≡ n * 2 + 0 = omega arith in rw (ne-eqb b 115 h, ← f) z
 item-alone false part n l e h = true-false refl l
+
+-- ---- a part read as an item
+
+pub plain-number : (lettered : Bool) (part : List ℕ) (r : Number) → not lettered ≡ true → r ≡ numberOf part → r ≡ itemNumber lettered part
+unfolding itemNumber isItem digitsIn numberOf
+plain-number true part r n e = true-false n refl
+plain-number false part r n e = by-bool (isNumber part) (λ a. e ∙ rw a) (λ a. e ∙ rw a)
+
+pub none-number : (lettered : Bool) (part : List ℕ) → not lettered ≡ false → length part ≡ 0 → Misspelt ≡ itemNumber lettered part
+unfolding itemNumber
+none-number lettered part n h = let f : isItem lettered part ≡ false = sym (no-item lettered part n h) in rw f
+
+abbrev pub isLetter : ℕ → Bool
+isLetter b = eqb b 101 || eqb b 115
+
+pub other-number :
+    (lettered : Bool) (part : List ℕ) → not lettered ≡ false → (length part ≡ 0 → ⊥) → not (isLetter (getD part 0 0)) ≡ true
+    → Misspelt ≡ itemNumber lettered part
+unfolding itemNumber isItem isHold
+other-number true [] n h t = absurd (h refl)
+other-number true (b ∷ s) n h t = let f : isLetter b ≡ false = not-true (isLetter b) t in rw f
+other-number false part n h t = true-false refl n
+
+pub letter-number :
+    (lettered : Bool) (part : List ℕ) (r : Number) → not lettered ≡ false → (length part ≡ 0 → ⊥)
+    → not (isLetter (getD part 0 0)) ≡ false → r ≡ numberOf (take (length part - 1) (drop 1 part))
+    → r ≡ itemNumber lettered part
+unfolding itemNumber isItem isHold digitsIn numberOf
+letter-number true [] r n h t e = absurd (h refl)
+letter-number true (b ∷ s) r n h t e =
+    let f : isLetter b ≡ true = not-false (isLetter b) t in
+    let q : r ≡ numberOf s = e ∙ ap numberOf (tail-is (b ∷ s) 1) in
+    by-bool (isNumber s) (λ a. q ∙ rw (f, a)) (λ a. q ∙ rw (f, a))
+letter-number false part r n h t e = true-false refl n
+
+pub number-spelt : (lettered : Bool) (part : List ℕ) (r : Number) → isItem lettered part ≡ true → r ≡ itemNumber lettered part → r ≡ numberOf (digitsIn lettered part)
+unfolding itemNumber
+number-spelt lettered part r a e = e ∙ rw a
+
+-- what reads as a value is an item
+pub value-item : (lettered : Bool) (part : List ℕ) (r : Number) (k : ℕ) → r ≡ itemNumber lettered part → r ≡ Value k → isItem lettered part ≡ true
+unfolding itemNumber
+value-item lettered part r k e f =
+    by-bool (isItem lettered part)
+    (λ a. a)
+    (λ a. let h : Misspelt ≡ Value k = sym (e ∙ rw a) ∙ f in let z : _≡_ {A = ℕ} 0 1 = cc in absurd (omega arith))
 
 -- an item's key is its number
 key-item : (lettered : Bool) (part : List ℕ) → keyOf lettered (itemOf lettered part) ≡ valueOf (digitsIn lettered part)
@@ -154,14 +189,31 @@ kept-start true l =
     ap (λ (n : ℕ). record { code = 0; count = n; items = sets (replicate 64 0) 0 l }) e
 kept-start false l = refl
 
-pub items-start :
-    (lettered : Bool) (high : ℕ) (parts : List (List ℕ))
-    → itemsLeft lettered high (replicate 64 0) 0 0 parts ≡ itemsRead lettered high parts
-unfolding itemsRead listOk
-items-start lettered high parts =
-    let l = map (itemOf lettered) parts in
-    ap (λ (b : Bool). kept b (0 + length l) (sets (replicate 64 0) 0 l)) (sym (rises-is (keyOf lettered) high l))
-    ∙ kept-start (allOf (λ x. between 1 high (keyOf lettered x)) l && rising (keyOf lettered) l) l
+-- the answer where every part is an item
+unfoldable pub speltRead : Bool → ℕ → List (List ℕ) → Items
+speltRead lettered high parts = let l = map (itemOf lettered) parts in itemsOf true (listOk lettered high l) l
+
+module _ (lettered : Bool) (high : ℕ) (parts : List (List ℕ)) where
+  pub items-start : itemsLeft lettered high (replicate 64 0) 0 0 parts ≡ speltRead lettered high parts
+  unfolding listOk speltRead
+  items-start =
+      let l = map (itemOf lettered) parts in
+      ap (λ (b : Bool). kept b (0 + length l) (sets (replicate 64 0) 0 l)) (sym (rises-is (keyOf lettered) high l))
+      ∙ kept-start (allOf (λ x. between 1 high (keyOf lettered x)) l && rising (keyOf lettered) l) l
+
+  pub all-spelt : allOf (isItem lettered) parts ≡ true → speltRead lettered high parts ≡ itemsRead lettered high parts
+  unfolding itemsRead speltRead
+  all-spelt a = rw a
+
+  pub refused-is :
+      (t : Bool) → t ≡ allOf (isItem lettered) parts → (t ≡ true → noItems 4 ≡ speltRead lettered high parts)
+      → cond t (noItems 4) (noItems 3) ≡ itemsRead lettered high parts
+  unfolding itemsRead
+  refused-is true e f = f refl ∙ all-spelt (sym e)
+  refused-is false e f = let a : allOf (isItem lettered) parts ≡ false = sym e in rw a
+
+pub refused-by : (t : Bool) {u : Bool} → t ≡ u → cond t (noItems 4) (noItems 3) ≡ cond u (noItems 4) (noItems 3)
+refused-by t e = ap (λ (b : Bool). cond b (noItems 4) (noItems 3)) e
 
 -- the reader's test of a number: above the last, and not above the highest
 abbrev pub refused : ℕ → ℕ → ℕ → Bool
@@ -292,23 +344,9 @@ module _ (lettered : Bool) (high : ℕ) (s : List ℕ) (t : Bool) (e : t ≡ sam
   unfolding listRead isList listOf listOk allOf rising
   list-none h = let f : same s NONE ≡ true = sym e ∙ h in rw f
 
-  pub list-misspelt :
-      (u : Bool) → t ≡ false → u ≡ allOf (isItem lettered) (splitOn COMMA s) → not u ≡ true
-      → noItems 3 ≡ listRead lettered high s
-  unfolding listRead isList listOf
-  list-misspelt u h g n =
-      let f : same s NONE ≡ false = sym e ∙ h in
-      let v : allOf (isItem lettered) (splitOn COMMA s) ≡ false = sym g ∙ not-true u n in
-      rw (f, v)
-
-  pub list-items :
-      (u : Bool) → t ≡ false → u ≡ allOf (isItem lettered) (splitOn COMMA s) → not u ≡ false
-      → itemsRead lettered high (splitOn COMMA s) ≡ listRead lettered high s
+  pub list-items : t ≡ false → itemsRead lettered high (splitOn COMMA s) ≡ listRead lettered high s
   unfolding listRead isList listOf itemsRead
-  list-items u h g n =
-      let f : same s NONE ≡ false = sym e ∙ h in
-      let v : allOf (isItem lettered) (splitOn COMMA s) ≡ true = sym g ∙ not-false u n in
-      rw (f, v)
+  list-items h = let f : same s NONE ≡ false = sym e ∙ h in rw f
 
 pub holds-is : (s : List ℕ) → listRead true 32 s ≡ holdsRead s
 unfolding listRead holdsRead listOk holdsOk isItem itemOf keyOf

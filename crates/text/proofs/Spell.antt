@@ -8,12 +8,13 @@ use native.Mathlib.Numerals.{add-one}
 use lib.ListN.{length, drop, getD, drop-of-length-le, length-append}
 use lib.Seq.{drop-cons}
 use lib.Dec.{eqb, leb, ltb}
-use borrow.Author.Tests.{lt-ltb, leb-true, le-leb, lt-leb, not-true, not-false}
-use Rattle.laws.specs.Cases.{and-l, and-r, true-false}
-use Rattle.laws.specs.Lists.{allOf, all-turn, all-end, all-at}
+use borrow.Author.Tests.{lt-ltb, eq-eqb, ne-eqb, leb-true, le-leb, lt-leb, not-true, not-false}
+use Rattle.laws.specs.Cases.{and-l, and-r}
+use Rattle.laws.specs.Lists.{allOf, all-turn, all-end}
 use Rattle.laws.specs.Digits.{digitsOf, valueAfter, digits-small, digits-big}
 use Rattle.text.specs.declared.Number.the-variants.{Value, Over, Misspelt}
 use Rattle.text.specs.Number.{isDigit, isNumber, valueOf, numberOf}
+use Rattle.text.specs.Spelling.{startsWell}
 
 -- ---- a test of every item, from a place on
 
@@ -33,43 +34,37 @@ all-done p l i x h q = sym (all-end p l i h) ∙ q
 
 -- ---- is it a number
 
-pub number-none : (s : List ℕ) → length s ≡ 0 → false ≡ isNumber s
-unfolding isNumber
-number-none [] h = refl
-number-none (b ∷ s) h = absurd (omega arith)
-
-abbrev pub leadsZero : List ℕ → Bool
-leadsZero s = ltb 1 (length s) && eqb (getD s 0 0) 48
-
-pub number-lead : (s : List ℕ) → leadsZero s ≡ true → false ≡ isNumber s
-unfolding isNumber
-number-lead [] h = true-false h refl
-number-lead (b ∷ []) h = true-false h refl
-number-lead (b ∷ c ∷ s) h = rw (and-r (ltb 1 (length (b ∷ c ∷ s))) (eqb b 48) h)
-
-pub number-rest : (s : List ℕ) → (length s ≡ 0 → ⊥) → leadsZero s ≡ false → allOf isDigit s ≡ isNumber s
-unfolding isNumber allOf
-number-rest [] n h = absurd (n refl)
-number-rest (b ∷ []) n h = go (isDigit b)
+starts-is : (s : List ℕ) → isNumber s ≡ (startsWell s && allOf isDigit s)
+unfolding isNumber startsWell allOf
+starts-is [] = refl
+starts-is (b ∷ []) = go (isDigit b)
   where
-    go : (t : Bool) → (t && true) ≡ t
+    go : (t : Bool) → t ≡ (t && true)
     go true = refl
     go false = refl
-number-rest (b ∷ c ∷ s) n h =
-    let e : eqb b 48 ≡ false = rw (lt-ltb 1 (length (b ∷ c ∷ s)) (omega arith)) at h in rw e
+starts-is (b ∷ c ∷ s) =
+    rw (ne-eqb (length (b ∷ c ∷ s)) 0 (λ e. omega arith), lt-ltb 1 (length (b ∷ c ∷ s)) (omega arith))
 
-pub number-digits : (s : List ℕ) → isNumber s ≡ true → allOf isDigit s ≡ true
-unfolding isNumber allOf
-number-digits [] h = refl
-number-digits (b ∷ []) h = rw h
-number-digits (b ∷ c ∷ s) h = and-r (not (eqb b 48)) (allOf isDigit (b ∷ c ∷ s)) h
+pub starts-none : (s : List ℕ) → length s ≡ 0 → false ≡ startsWell s
+unfolding startsWell
+starts-none s h = rw (eq-eqb (length s) 0 h)
 
-pub digit-at :
-    (s : List ℕ) (i : ℕ) → allOf isDigit s ≡ true → i < length s → (48 ≤ getD s i 0) × (getD s i 0 ≤ 57)
-digit-at s i a h =
-    let d = all-at isDigit s a i 0 h in (
-      leb-true 48 (getD s i 0) (and-l (leb 48 (getD s i 0)) (leb (getD s i 0) 57) d),
-      leb-true (getD s i 0) 57 (and-r (leb 48 (getD s i 0)) (leb (getD s i 0) 57) d),
+pub starts-some : (s : List ℕ) → (length s ≡ 0 → ⊥) → not (ltb 1 (length s) && eqb (getD s 0 0) 48) ≡ startsWell s
+unfolding startsWell
+starts-some s n = rw (ne-eqb (length s) 0 n)
+
+module _ (s : List ℕ) (t : Bool) (e : t ≡ startsWell s) where
+  pub number-no : not t ≡ true → false ≡ isNumber s
+  number-no n = let f : startsWell s ≡ false = sym e ∙ not-true t n in sym (starts-is s ∙ rw f)
+
+  pub number-rest : not t ≡ false → allOf isDigit s ≡ isNumber s
+  number-rest n = let f : startsWell s ≡ true = sym e ∙ not-false t n in sym (starts-is s ∙ rw f)
+
+pub digit-range : (b : ℕ) (t : Bool) → t ≡ isDigit b → not t ≡ false → (48 ≤ b) × (b ≤ 57)
+digit-range b t e n =
+    let d : isDigit b ≡ true = sym e ∙ not-false t n in (
+      leb-true 48 b (and-l (leb 48 b) (leb b 57) d),
+      leb-true b 57 (and-r (leb 48 b) (leb b 57) d),
     )
 
 -- ---- the value, held
@@ -111,9 +106,6 @@ module _ (s : List ℕ) (t : Bool) (e : t ≡ isNumber s) where
   pub read-misspelt : not t ≡ true → Misspelt ≡ numberOf s
   unfolding numberOf
   read-misspelt n = let f : isNumber s ≡ false = sym e ∙ not-true t n in rw f
-
-  pub read-digits : not t ≡ false → allOf isDigit s ≡ true
-  read-digits n = number-digits s (sym e ∙ not-false t n)
 
   pub read-value : (v : ℕ) → not t ≡ false → v ≡ held (valueOf s) → v ≤ 1000000 → Value v ≡ numberOf s
   unfolding numberOf

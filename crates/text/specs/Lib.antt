@@ -1,5 +1,6 @@
 pub mod Bytes
 pub mod Number
+pub mod Spelling
 pub mod Line
 pub mod Items
 pub mod Place

@@ -1,11 +1,11 @@
 // Numbers of a text: decimal digits with no leading zero, except `0` itself.
 ghost use mathlib.Core.Path.{_≡_};
-ghost use mathlib.Core.Bool.{true};
 ghost use Prim.Native.Nat.{_+_, _-_, _*_, _≤_, min};
 ghost use lib.ListN.{length};
 ghost use Rattle.laws.specs.Lists.{allOf};
 ghost use Rattle.laws.specs.Digits.{digitsOf};
-ghost use Rattle.text.specs.Number.{isDigit, isNumber, valueOf, numberOf};
+ghost use Rattle.text.specs.Number.{isDigit, isNumber, numberOf};
+ghost use Rattle.text.specs.Spelling.{startsWell};
 use crate::Number;
 
 const MOST: u32 = 1000000;
@@ -31,15 +31,21 @@ fn all_digits(s: &[u8]) -> bool
     true
 }
 
-pub fn is_number(field: &[u8]) -> bool
-    ensures { λ r. ⌜ r ≡ isNumber (now (field .entry)) ⌝ }
+// Neither empty nor with a leading zero.
+fn starts_well(field: &[u8]) -> bool
+    ensures { λ r. ⌜ r ≡ startsWell (now (field .entry)) ⌝ }
 {
     let n = field.len();
     if n == 0 {
         return false;
     }
-    // a leading zero
-    if (1 < n) & (field[0] == b'0') {
+    !((1 < n) & (field[0] == b'0'))
+}
+
+pub fn is_number(field: &[u8]) -> bool
+    ensures { λ r. ⌜ r ≡ isNumber (now (field .entry)) ⌝ }
+{
+    if !starts_well(field) {
         return false;
     }
     all_digits(field)
@@ -54,26 +60,23 @@ fn grown(v: u32, b: u8) -> u32
     if w <= MOST { w } else { HELD }
 }
 
-fn value(s: &[u8]) -> u32
-    requires { ⌜ allOf isDigit (now s) ≡ true ⌝ }
-    ensures { λ r. ⌜ r ≡ min (valueOf (now (s .entry))) 1000001 ⌝ }
-{
-    let mut v = 0;
-    let mut i = 0;
-    while i < s.len() {
-        v = grown(v, s[i]);
-        i += 1;
-    }
-    v
-}
-
+// Spelling and value in one walk.
 pub fn read_number(field: &[u8]) -> Number
     ensures { λ r. ⌜ r ≡ numberOf (now (field .entry)) ⌝ }
 {
-    if !is_number(field) {
+    if !starts_well(field) {
         return Number::Misspelt;
     }
-    let v = value(field);
+    let mut v = 0;
+    let mut i = 0;
+    while i < field.len() {
+        let b = field[i];
+        if !is_digit(b) {
+            return Number::Misspelt;
+        }
+        v = grown(v, b);
+        i += 1;
+    }
     if v <= MOST {
         Number::Value(v)
     } else {

@@ -1,19 +1,19 @@
 // The two list fields of a line: `-`, or items joined by commas.
 // An item is a number, and in a lettered list, that of the holds, a number after its letter `e` or `s`.
 ghost use mathlib.Core.Path.{_≡_};
-ghost use mathlib.Core.Bool.{true};
+ghost use mathlib.Core.Bool.{true, cond};
 ghost use Prim.Native.Nat.{_≤_};
 ghost use Rattle.laws.specs.Lists.{allOf};
 ghost use Rattle.laws.specs.Split.{splitOn};
 ghost use Rattle.text.specs.Number.{valueOf};
 ghost use Rattle.text.specs.Items.{COMMA, noItems, holdsRead, afterRead};
-ghost use Rattle.text.specs.Lettered.{isItem, itemOf, digitsIn, itemsRead, listRead};
+ghost use Rattle.text.specs.Lettered.{isItem, itemOf, digitsIn, itemNumber, itemsRead, listRead};
 use crate::Items;
 use crate::Number;
 use crate::decimal::is_number;
 use crate::decimal::read_number;
-use crate::part::part_after;
 use crate::part::part_before;
+use crate::part::past;
 use crate::part::same;
 
 const COMMA: u8 = 44;
@@ -58,19 +58,35 @@ fn all_items(s: &[u8], lettered: bool) -> bool
         if part.len() == rest.len() {
             return true;
         }
-        let next = part_after(rest, COMMA);
+        let next = past(rest, part.len());
         rest = next;
     }
 }
 
-fn digits_in<'a>(part: &'a [u8], lettered: bool) -> &'a [u8]
-    requires { ⌜ isItem lettered (now part) ≡ true ⌝ }
-    ensures { λ r. ⌜ now r ≡ digitsIn lettered (now (part .entry)) ⌝ }
+// What a refused list's rest says: 3 where a part of it is misspelt, else 4.
+fn refused_items(rest: &[u8], lettered: bool) -> Items
+    ensures { λ r. ⌜ r ≡ cond (allOf (isItem lettered) (splitOn COMMA (now (rest .entry)))) (noItems 4) (noItems 3) ⌝ }
 {
-    if lettered {
-        return &part[1..];
+    if all_items(rest, lettered) {
+        return no_items(4);
     }
-    part
+    no_items(3)
+}
+
+fn item_number(part: &[u8], lettered: bool) -> Number
+    ensures { λ r. ⌜ r ≡ itemNumber lettered (now (part .entry)) ⌝ }
+{
+    if !lettered {
+        return read_number(part);
+    }
+    if part.len() == 0 {
+        return Number::Misspelt;
+    }
+    let letter = part[0];
+    if !((letter == b'e') | (letter == b's')) {
+        return Number::Misspelt;
+    }
+    read_number(&part[1..])
 }
 
 // The item whose number is n.
@@ -87,9 +103,9 @@ fn item_of(part: &[u8], lettered: bool, n: u32) -> u8
     (n * 2) as u8
 }
 
-// The items of a list that is well spelt: a number out of range, or not above the last, refuses it.
+// The items of a list: a part that is no item, a number out of range, or one not above the last refuses it.
 fn read_items(s: &[u8], lettered: bool, high: u32) -> Items
-    requires { ⌜ (high ≤ 64) × (allOf (isItem lettered) (splitOn COMMA (now s)) ≡ true) ⌝ }
+    requires { ⌜ high ≤ 64 ⌝ }
     ensures { λ r. ⌜ r ≡ itemsRead lettered high (splitOn COMMA (now (s .entry))) ⌝ }
 {
     let mut items = [0u8; 64];
@@ -98,11 +114,11 @@ fn read_items(s: &[u8], lettered: bool, high: u32) -> Items
     let mut rest = s;
     loop {
         let part = part_before(rest, COMMA);
-        let Number::Value(n) = read_number(digits_in(part, lettered)) else {
-            return no_items(4);
+        let Number::Value(n) = item_number(part, lettered) else {
+            return refused_items(rest, lettered);
         };
         if (n <= last) | (high < n) {
-            return no_items(4);
+            return refused_items(rest, lettered);
         }
         items[count] = item_of(part, lettered, n);
         count += 1;
@@ -114,7 +130,7 @@ fn read_items(s: &[u8], lettered: bool, high: u32) -> Items
                 items,
             };
         }
-        let next = part_after(rest, COMMA);
+        let next = past(rest, part.len());
         rest = next;
     }
 }
@@ -126,9 +142,6 @@ fn read_list(s: &[u8], lettered: bool, high: u32) -> Items
 {
     if same(s, b"-") {
         return no_items(0);
-    }
-    if !all_items(s, lettered) {
-        return no_items(3);
     }
     read_items(s, lettered, high)
 }

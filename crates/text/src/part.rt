@@ -1,6 +1,7 @@
 // Parts of a text, between separators. A part is the caller's own bytes and no copy.
 ghost use mathlib.Core.Path.{_≡_};
-ghost use lib.ListN.{length};
+ghost use Prim.Native.Nat.{suc};
+ghost use lib.ListN.{length, drop};
 ghost use Rattle.laws.specs.Lists.{same};
 ghost use Rattle.laws.specs.Split.{before, after};
 ghost use Rattle.text.specs.Line.{fields, field};
@@ -31,15 +32,22 @@ pub fn part_before<'a>(s: &'a [u8], c: u8) -> &'a [u8]
     &s[..k]
 }
 
+// What stands past the first k bytes and a separator; nothing where the text ends before.
+pub fn past<'a>(s: &'a [u8], k: usize) -> &'a [u8]
+    ensures { λ r. ⌜ now r ≡ drop (suc k) (now (s .entry)) ⌝ }
+{
+    let n = s.len();
+    if k < n {
+        return &s[k + 1..];
+    }
+    &s[n..]
+}
+
 // Where there is no c, nothing stands after it.
 pub fn part_after<'a>(s: &'a [u8], c: u8) -> &'a [u8]
     ensures { λ r. ⌜ now r ≡ after c (now (s .entry)) ⌝ }
 {
-    let k = find(s, c);
-    if k < s.len() {
-        return &s[k + 1..];
-    }
-    &s[k..]
+    past(s, find(s, c))
 }
 
 // One field more than there are tabs.

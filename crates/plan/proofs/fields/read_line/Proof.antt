@@ -1,156 +1,198 @@
-use mathlib.Core.Path.{sym, _∙_}
-use Rattle.plan.proofs.LineLaws.{line-count, line-word, line-refused, line-in}
+-- `plan::fields::read_line` meets its contract: each part is a field of the line, and each return by the tests that led there.
 use borrow.Author.Needs.{needs}
+use mathlib.Core.Path.{refl, sym, _∙_}
+use native.Mathlib.Omega.{arith}
+use Rattle.text.proofs.Parts.{field-first}
+use Rattle.plan.proofs.LineLaws.{line-cut, line-count, line-word, line-refused, line-in}
 use Rattle.plan.proofs.fields.read_line.Statement.{statement}
 use Rattle.plan.proofs.fields.read_line.Tie as tie
 use Rattle.plan.proofs.fields.read_line.Reads as reads
 use Rattle.plan.proofs.fields.read_line.Lts as lts
+use Rattle.plan.proofs.fields.line_code.Reads as line-code-reads
 use Rattle.plan.proofs.fields.no_line.Reads as no-line-reads
 use Rattle.plan.proofs.fields.read_ranged.Reads as read-ranged-reads
 use Rattle.plan.proofs.fields.read_times.Reads as read-times-reads
-use Rattle.plan.proofs.fields.worse_of.Reads as worse-of-reads
 use Rattle.text.proofs.list.read_after.Reads as read-after-reads
 use Rattle.text.proofs.list.read_holds.Reads as read-holds-reads
 use Rattle.text.proofs.part.count_fields.Reads as count-fields-reads
-use Rattle.text.proofs.part.field.Reads as field-reads
+use Rattle.text.proofs.part.part_before.Reads as part-before-reads
+use Rattle.text.proofs.part.past.Reads as past-reads
 use Rattle.text.proofs.part.same.Reads as same-reads
 
--- src/fields.rt:148:8
+-- src/fields.rt:162:8
 count-fields-requires : tie.Need-count-fields-requires
 count-fields-requires c κs = search needs
 
--- src/fields.rt:149:9
+-- src/fields.rt:163:9
 no-line-requires : tie.Need-no-line-requires
 no-line-requires c κs = search needs
 
--- src/fields.rt:149:9
+-- src/fields.rt:163:9
 returns : tie.Need-returns
 returns c =
     c .no-line .ensures ∙ line-count _ _ _ _ (λ e. c .before .if1 .taken (c .before .before .count-fields .ensures ∙ e))
 
--- src/fields.rt:151:14
-field-requires : tie.Need-field-requires
-field-requires c κs = search needs
+-- src/fields.rt:165:9
+part-before-requires : tie.Need-part-before-requires
+part-before-requires c κs = search needs
 
--- src/fields.rt:151:30
+-- src/fields.rt:166:20
 slice-aggregate-same : tie.Need-slice-aggregate-same
 slice-aggregate-same c = search needs
 
--- src/fields.rt:151:9
+-- src/fields.rt:166:9
 same-requires : tie.Need-same-requires
 same-requires c κs = search needs
 
--- src/fields.rt:152:9
+-- src/fields.rt:167:9
 no-line-requires-2 : tie.Need-no-line-requires-2
 no-line-requires-2 c κs = search needs
 
--- src/fields.rt:152:9
+-- src/fields.rt:167:9
 returns-2 : tie.Need-returns-2
 returns-2 c =
     c .no-line2 .ensures
-    ∙ line-word _ _ _ _ (sym (c .before .before .before .before .before .before .count-fields .ensures) ∙ c .before .before .before .before .before .if1 .left)
-    (rw (c .before .before .before .before .field .ensures) at (c .before .before .same .ensures))
+    ∙ line-word _ _ _ _ (sym (c .before .before .before .before .before .before .count-fields .ensures) ∙ (c .before .before .before .before .before .if1 .left))
+    (rw ((c .before .before .before .before .part-before .ensures) ∙ sym (field-first 9 _)) at (c .before .before .same .ensures))
     (c .before .if2 .taken)
 
--- src/fields.rt:154:30
-field-requires-2 : tie.Need-field-requires-2
-field-requires-2 c κs = search needs
+-- src/fields.rt:169:9
+past-requires : tie.Need-past-requires
+past-requires c κs = search needs
 
--- src/fields.rt:154:9
+-- src/fields.rt:170:9
+part-before-requires-2 : tie.Need-part-before-requires-2
+part-before-requires-2 c κs = search needs
+
+-- src/fields.rt:171:9
+past-requires-2 : tie.Need-past-requires-2
+past-requires-2 c κs = search needs
+
+-- src/fields.rt:172:9
+part-before-requires-3 : tie.Need-part-before-requires-3
+part-before-requires-3 c κs = search needs
+
+-- src/fields.rt:173:9
+past-requires-3 : tie.Need-past-requires-3
+past-requires-3 c κs = search needs
+
+-- src/fields.rt:174:9
+part-before-requires-4 : tie.Need-part-before-requires-4
+part-before-requires-4 c κs = search needs
+
+-- src/fields.rt:175:9
+past-requires-4 : tie.Need-past-requires-4
+past-requires-4 c κs = search needs
+
+-- src/fields.rt:176:9
+part-before-requires-5 : tie.Need-part-before-requires-5
+part-before-requires-5 c κs = search needs
+
+-- src/fields.rt:177:9
+past-requires-5 : tie.Need-past-requires-5
+past-requires-5 c κs = search needs
+
+-- src/fields.rt:178:9
+part-before-requires-6 : tie.Need-part-before-requires-6
+part-before-requires-6 c κs = search needs
+
+-- src/fields.rt:179:9
+past-requires-6 : tie.Need-past-requires-6
+past-requires-6 c κs = search needs
+
+-- src/fields.rt:180:9
 read-ranged-requires : tie.Need-read-ranged-requires
-read-ranged-requires c κs = search needs
+read-ranged-requires c κs = omega (arith, (c .before .before .before .before .before .before .before .before .before .before .before .before .before .before .before .before .before .before .pre .2))
 
--- src/fields.rt:155:29
-field-requires-3 : tie.Need-field-requires-3
-field-requires-3 c κs = search needs
-
--- src/fields.rt:155:9
+-- src/fields.rt:181:9
 read-ranged-requires-2 : tie.Need-read-ranged-requires-2
-read-ranged-requires-2 c κs = search needs
+read-ranged-requires-2 c κs = omega (arith, (c .before .before .before .before .before .before .before .before .before .before .before .before .before .before .before .before .before .before .before .pre .0))
 
--- src/fields.rt:156:28
-field-requires-4 : tie.Need-field-requires-4
-field-requires-4 c κs = search needs
-
--- src/fields.rt:156:44
-field-requires-5 : tie.Need-field-requires-5
-field-requires-5 c κs = search needs
-
--- src/fields.rt:156:9
+-- src/fields.rt:182:9
 read-times-requires : tie.Need-read-times-requires
 read-times-requires c κs = search needs
 
--- src/fields.rt:157:28
-field-requires-6 : tie.Need-field-requires-6
-field-requires-6 c κs = search needs
-
--- src/fields.rt:157:9
+-- src/fields.rt:183:9
 read-holds-requires : tie.Need-read-holds-requires
 read-holds-requires c κs = search needs
 
--- src/fields.rt:158:28
-field-requires-7 : tie.Need-field-requires-7
-field-requires-7 c κs = search needs
+-- src/fields.rt:184:28
+part-before-requires-7 : tie.Need-part-before-requires-7
+part-before-requires-7 c κs = search needs
 
--- src/fields.rt:158:9
+-- src/fields.rt:184:9
 read-after-requires : tie.Need-read-after-requires
 read-after-requires c κs = search needs
 
--- src/fields.rt:159:28
-worse-of-requires : tie.Need-worse-of-requires
-worse-of-requires c κs = search needs
+-- src/fields.rt:185:9
+line-code-requires : tie.Need-line-code-requires
+line-code-requires c κs = search needs
 
--- src/fields.rt:159:9
-worse-of-requires-2 : tie.Need-worse-of-requires-2
-worse-of-requires-2 c κs = search needs
-
--- src/fields.rt:160:34
-worse-of-requires-3 : tie.Need-worse-of-requires-3
-worse-of-requires-3 c κs = search needs
-
--- src/fields.rt:160:9
-worse-of-requires-4 : tie.Need-worse-of-requires-4
-worse-of-requires-4 c κs = search needs
-
--- src/fields.rt:162:9
+-- src/fields.rt:187:9
 no-line-requires-3 : tie.Need-no-line-requires-3
 no-line-requires-3 c κs = search needs
 
--- src/fields.rt:162:9
+-- src/fields.rt:187:9
 returns-3 : tie.Need-returns-3
 returns-3 c =
+    let cut =
+    line-cut
+    (c .before .before .before .before .before .before .before .before .before .before .before .before .before .before .before .before .before .before .before .before .before .before .before .part-before .ensures)
+    (c .before .before .before .before .before .before .before .before .before .before .before .before .before .before .before .before .before .before .before .past .ensures)
+    (c .before .before .before .before .before .before .before .before .before .before .before .before .before .before .before .before .before .before .part-before2 .ensures)
+    (c .before .before .before .before .before .before .before .before .before .before .before .before .before .before .before .before .before .past2 .ensures)
+    (c .before .before .before .before .before .before .before .before .before .before .before .before .before .before .before .before .part-before3 .ensures)
+    (c .before .before .before .before .before .before .before .before .before .before .before .before .before .before .before .past3 .ensures)
+    (c .before .before .before .before .before .before .before .before .before .before .before .before .before .before .part-before4 .ensures)
+    (c .before .before .before .before .before .before .before .before .before .before .before .before .before .past4 .ensures)
+    (c .before .before .before .before .before .before .before .before .before .before .before .before .part-before5 .ensures)
+    (c .before .before .before .before .before .before .before .before .before .before .before .past5 .ensures)
+    (c .before .before .before .before .before .before .before .before .before .before .part-before6 .ensures)
+    (c .before .before .before .before .before .before .before .before .before .past6 .ensures)
+    (c .before .before .before .before .part-before7 .ensures) in
     c .no-line3 .ensures
-    ∙ line-refused _ _ _ _ (sym (c .before .before .before .before .before .before .before .before .before .before .before .before .before .before .before .before .before .before .before .before .before .before .count-fields .ensures) ∙ c .before .before .before .before .before .before .before .before .before .before .before .before .before .before .before .before .before .before .before .before .before .if1 .left)
-    (rw (c .before .before .before .before .before .before .before .before .before .before .before .before .before .before .before .before .before .before .before .before .field .ensures) at (c .before .before .before .before .before .before .before .before .before .before .before .before .before .before .before .before .before .before .same .ensures))
-    (c .before .before .before .before .before .before .before .before .before .before .before .before .before .before .before .before .before .if2 .left)
-    (rw (c .before .before .before .before .before .before .before .before .before .before .before .before .before .before .before .before .field2 .ensures) at (c .before .before .before .before .before .before .before .before .before .before .before .before .before .before .before .read-ranged .ensures))
-    (rw (c .before .before .before .before .before .before .before .before .before .before .before .before .before .before .field3 .ensures) at (c .before .before .before .before .before .before .before .before .before .before .before .before .before .read-ranged2 .ensures))
-    (rw (c .before .before .before .before .before .before .before .before .before .before .before .before .field4 .ensures, c .before .before .before .before .before .before .before .before .before .before .before .field5 .ensures) at (c .before .before .before .before .before .before .before .before .before .before .read-times .ensures))
-    (rw (c .before .before .before .before .before .before .before .before .before .field6 .ensures) at (c .before .before .before .before .before .before .before .before .read-holds .ensures))
-    (rw (c .before .before .before .before .before .before .before .field7 .ensures) at (c .before .before .before .before .before .before .read-after .ensures))
-    (c .before .before .before .before .before .before .before .before .before .before .before .before .before .before .before .before .before .before .before .before .before .before .before .before .pre .1)
-    (c .before .before .before .before .before .worse-of .ensures)
-    (c .before .before .before .before .worse-of2 .ensures)
-    (c .before .before .before .worse-of3 .ensures)
-    (c .before .before .worse-of4 .ensures)
+    ∙ line-refused _ _ _ _ (sym (c .before .before .before .before .before .before .before .before .before .before .before .before .before .before .before .before .before .before .before .before .before .before .before .before .before .count-fields .ensures) ∙ (c .before .before .before .before .before .before .before .before .before .before .before .before .before .before .before .before .before .before .before .before .before .before .before .before .if1 .left))
+    (rw (cut .word) at (c .before .before .before .before .before .before .before .before .before .before .before .before .before .before .before .before .before .before .before .before .before .same .ensures))
+    (c .before .before .before .before .before .before .before .before .before .before .before .before .before .before .before .before .before .before .before .before .if2 .left)
+    (rw (cut .number) at (c .before .before .before .before .before .before .before .before .read-ranged .ensures))
+    (rw (cut .board) at (c .before .before .before .before .before .before .before .read-ranged2 .ensures))
+    (rw (cut .begin, cut .finish) at (c .before .before .before .before .before .before .read-times .ensures))
+    (rw (cut .holds) at (c .before .before .before .before .before .read-holds .ensures))
+    (rw (cut .after) at (c .before .before .before .read-after .ensures))
+    (c .before .before .before .before .before .before .before .before .before .before .before .before .before .before .before .before .before .before .before .before .before .before .before .before .before .before .before .pre .1)
+    refl refl refl
+    (c .before .before .line-code .ensures)
     (c .before .if3 .taken)
 
--- src/fields.rt:144:1
+-- src/fields.rt:158:1
 returns-4 : tie.Need-returns-4
 returns-4 c =
-    line-in _ _ _ _ (sym (c .before .before .before .before .before .before .before .before .before .before .before .before .before .before .before .before .before .before .before .before .before .count-fields .ensures) ∙ c .before .before .before .before .before .before .before .before .before .before .before .before .before .before .before .before .before .before .before .before .if1 .left)
-    (rw (c .before .before .before .before .before .before .before .before .before .before .before .before .before .before .before .before .before .before .before .field .ensures) at (c .before .before .before .before .before .before .before .before .before .before .before .before .before .before .before .before .before .same .ensures))
-    (c .before .before .before .before .before .before .before .before .before .before .before .before .before .before .before .before .if2 .left)
-    (rw (c .before .before .before .before .before .before .before .before .before .before .before .before .before .before .before .field2 .ensures) at (c .before .before .before .before .before .before .before .before .before .before .before .before .before .before .read-ranged .ensures))
-    (rw (c .before .before .before .before .before .before .before .before .before .before .before .before .before .field3 .ensures) at (c .before .before .before .before .before .before .before .before .before .before .before .before .read-ranged2 .ensures))
-    (rw (c .before .before .before .before .before .before .before .before .before .before .before .field4 .ensures, c .before .before .before .before .before .before .before .before .before .before .field5 .ensures) at (c .before .before .before .before .before .before .before .before .before .read-times .ensures))
-    (rw (c .before .before .before .before .before .before .before .before .field6 .ensures) at (c .before .before .before .before .before .before .before .read-holds .ensures))
-    (rw (c .before .before .before .before .before .before .field7 .ensures) at (c .before .before .before .before .before .read-after .ensures))
-    (c .before .before .before .before .before .before .before .before .before .before .before .before .before .before .before .before .before .before .before .before .before .before .before .pre .1)
-    (c .before .before .before .before .worse-of .ensures)
-    (c .before .before .before .worse-of2 .ensures)
-    (c .before .before .worse-of3 .ensures)
-    (c .before .worse-of4 .ensures)
+    let cut =
+    line-cut
+    (c .before .before .before .before .before .before .before .before .before .before .before .before .before .before .before .before .before .before .before .before .before .before .part-before .ensures)
+    (c .before .before .before .before .before .before .before .before .before .before .before .before .before .before .before .before .before .before .past .ensures)
+    (c .before .before .before .before .before .before .before .before .before .before .before .before .before .before .before .before .before .part-before2 .ensures)
+    (c .before .before .before .before .before .before .before .before .before .before .before .before .before .before .before .before .past2 .ensures)
+    (c .before .before .before .before .before .before .before .before .before .before .before .before .before .before .before .part-before3 .ensures)
+    (c .before .before .before .before .before .before .before .before .before .before .before .before .before .before .past3 .ensures)
+    (c .before .before .before .before .before .before .before .before .before .before .before .before .before .part-before4 .ensures)
+    (c .before .before .before .before .before .before .before .before .before .before .before .before .past4 .ensures)
+    (c .before .before .before .before .before .before .before .before .before .before .before .part-before5 .ensures)
+    (c .before .before .before .before .before .before .before .before .before .before .past5 .ensures)
+    (c .before .before .before .before .before .before .before .before .before .part-before6 .ensures)
+    (c .before .before .before .before .before .before .before .before .past6 .ensures)
+    (c .before .before .before .part-before7 .ensures) in
+    line-in _ _ _ _ (sym (c .before .before .before .before .before .before .before .before .before .before .before .before .before .before .before .before .before .before .before .before .before .before .before .before .count-fields .ensures) ∙ (c .before .before .before .before .before .before .before .before .before .before .before .before .before .before .before .before .before .before .before .before .before .before .before .if1 .left))
+    (rw (cut .word) at (c .before .before .before .before .before .before .before .before .before .before .before .before .before .before .before .before .before .before .before .before .same .ensures))
+    (c .before .before .before .before .before .before .before .before .before .before .before .before .before .before .before .before .before .before .before .if2 .left)
+    (rw (cut .number) at (c .before .before .before .before .before .before .before .read-ranged .ensures))
+    (rw (cut .board) at (c .before .before .before .before .before .before .read-ranged2 .ensures))
+    (rw (cut .begin, cut .finish) at (c .before .before .before .before .before .read-times .ensures))
+    (rw (cut .holds) at (c .before .before .before .before .read-holds .ensures))
+    (rw (cut .after) at (c .before .before .read-after .ensures))
+    (c .before .before .before .before .before .before .before .before .before .before .before .before .before .before .before .before .before .before .before .before .before .before .before .before .before .before .pre .1)
+    refl refl refl
+    (c .before .line-code .ensures)
     (c .if3 .left)
 
 pub read-line-spec : {M : Type 1} → statement M
@@ -160,26 +202,29 @@ read-line-spec =
     count-fields-requires
     no-line-requires
     returns
-    field-requires
+    part-before-requires
     slice-aggregate-same
     same-requires
     no-line-requires-2
     returns-2
-    field-requires-2
+    past-requires
+    part-before-requires-2
+    past-requires-2
+    part-before-requires-3
+    past-requires-3
+    part-before-requires-4
+    past-requires-4
+    part-before-requires-5
+    past-requires-5
+    part-before-requires-6
+    past-requires-6
     read-ranged-requires
-    field-requires-3
     read-ranged-requires-2
-    field-requires-4
-    field-requires-5
     read-times-requires
-    field-requires-6
     read-holds-requires
-    field-requires-7
+    part-before-requires-7
     read-after-requires
-    worse-of-requires
-    worse-of-requires-2
-    worse-of-requires-3
-    worse-of-requires-4
+    line-code-requires
     no-line-requires-3
     returns-3
     returns-4)

@@ -1,26 +1,116 @@
--- `text::decimal::read_number` meets its contract: each return by the tests that led there.
+-- `text::decimal::read_number` meets its contract: the rest is all digits where the whole is; the value so far, with the digits of the rest after it, is the whole's; both held.
 use borrow.Author.Needs.{needs}
-use Rattle.text.proofs.Spell.{read-misspelt, read-digits, read-value, read-over}
+use Prim.Native.Nat.{_-_, _≤_}
+use mathlib.Core.Path.{_≡_, refl, _∙_}
+use mathlib.Core.Bool.{true, false}
+use native.Mathlib.Omega.{arith}
+use lib.ListN.{length, drop}
+use Rattle.laws.specs.Lists.{allOf}
+use Rattle.laws.specs.Digits.{valueAfter}
+use Rattle.text.specs.Number.{isDigit, valueOf}
+use Rattle.text.proofs.Spell.{all-stop, all-next, all-done, number-no, number-rest, digit-range, held, held-turn, held-end, read-misspelt, read-value, read-over}
 use Rattle.text.proofs.decimal.read_number.Statement.{statement}
 use Rattle.text.proofs.decimal.read_number.Tie as tie
+use Rattle.text.proofs.decimal.read_number.Reads as reads
+use Rattle.text.proofs.decimal.read_number.Lts as lts
+use Rattle.text.proofs.decimal.grown.Reads as grown-reads
+use Rattle.text.proofs.decimal.is_digit.Reads as is-digit-reads
+use Rattle.text.proofs.decimal.starts_well.Reads as starts-well-reads
 
-is-number-requires : tie.Need-is-number-requires
-is-number-requires c κs = search needs
+abbrev Inv-loop : tie.InvT-loop
+Inv-loop field v₀ i₀ v i =
+    (i ≤ length field)
+    × (v ≤ 1000001)
+    × (allOf isDigit (drop i field) ≡ allOf isDigit field)
+    × (held (valueAfter v (drop i field)) ≡ held (valueOf field))
 
-returns : tie.Need-returns
-returns c = read-misspelt _ _ (c .before .is-number .ensures) (c .if1 .taken)
+abbrev μ-loop : tie.MeasureT-loop
+μ-loop field v₀ i₀ v i = length field - i
 
-value-requires : tie.Need-value-requires
-value-requires c κs = read-digits _ _ (c .before .is-number .ensures) (c .if1 .left)
+-- src/decimal.rt:67:9
+starts-well-requires : tie.Need-starts-well-requires Inv-loop μ-loop
+starts-well-requires c κs = search needs
 
-returns-2 : tie.Need-returns-2
+-- src/decimal.rt:68:9
+returns : tie.Need-returns Inv-loop μ-loop
+returns c = read-misspelt _ false (number-no _ _ (c .before .starts-well .ensures) (c .if1 .taken)) refl
+
+-- src/decimal.rt:72:5
+loop-holds : tie.Need-loop-holds Inv-loop μ-loop
+loop-holds c = search needs
+
+-- src/decimal.rt:73:17
+shared-slice-read-b : tie.Need-shared-slice-read-b Inv-loop μ-loop
+shared-slice-read-b c = search needs
+
+-- src/decimal.rt:74:13
+is-digit-requires : tie.Need-is-digit-requires Inv-loop μ-loop
+is-digit-requires c κs = search needs
+
+-- src/decimal.rt:75:13
+returns-2 : tie.Need-returns-2 Inv-loop μ-loop
 returns-2 c =
-    read-value _ _ (c .before .before .before .is-number .ensures) _ (c .before .before .if1 .left) (c .before .value .ensures) (c .if2 .taken)
+    let r = c .before .before .before .before in
+    read-misspelt _ false
+    (all-stop isDigit _ _ 0 _ _ (c .before .before .before .loop-test .taken) (c .before .is-digit .ensures) (c .if2 .taken) (r .loop .inv .2)
+    ∙ number-rest _ _ (r .before .before .starts-well .ensures) (r .before .if1 .left))
+    refl
 
-returns-3 : tie.Need-returns-3
+-- src/decimal.rt:77:9
+grown-requires : tie.Need-grown-requires Inv-loop μ-loop
+grown-requires c κs = let d = digit-range _ _ (c .before .is-digit .ensures) (c .if2 .left) in (omega arith, d .0, d .1)
+
+-- src/decimal.rt:78:9
+add-i : tie.Need-add-i Inv-loop μ-loop
+add-i c = search needs
+
+-- src/decimal.rt:72:5
+loop-less : tie.Need-loop-less Inv-loop μ-loop
+loop-less c = search needs
+
+-- src/decimal.rt:72:5
+loop-again : tie.Need-loop-again Inv-loop μ-loop
+loop-again c =
+    let r = c .before .before .before .before .before in (
+      omega arith,
+      omega arith,
+      all-next isDigit _ _ 0 _ _ (c .before .before .before .before .loop-test .taken) (c .before .before .is-digit .ensures) (c .before .if2 .left) (r .loop .inv .2),
+      held-turn _ _ _ _ _ (c .before .before .before .before .loop-test .taken) (c .grown .ensures) (r .loop .inv .3),
+    )
+
+-- src/decimal.rt:64:1
+returns-3 : tie.Need-returns-3 Inv-loop μ-loop
 returns-3 c =
-    read-over _ _ (c .before .before .before .is-number .ensures) _ (c .before .before .if1 .left) (c .before .value .ensures) (c .if2 .left)
+    let r = c .before .before in
+    read-value _ true
+    (all-done isDigit _ _ _ (c .before .loop-test .left) (r .loop .inv .2)
+    ∙ number-rest _ _ (r .before .before .starts-well .ensures) (r .before .if1 .left))
+    _ refl (held-end _ _ _ _ (c .before .loop-test .left) (r .loop .inv .1) (r .loop .inv .3)) (c .if3 .taken)
+
+-- src/decimal.rt:64:1
+returns-4 : tie.Need-returns-4 Inv-loop μ-loop
+returns-4 c =
+    let r = c .before .before in
+    read-over _ true
+    (all-done isDigit _ _ _ (c .before .loop-test .left) (r .loop .inv .2)
+    ∙ number-rest _ _ (r .before .before .starts-well .ensures) (r .before .if1 .left))
+    _ refl (held-end _ _ _ _ (c .before .loop-test .left) (r .loop .inv .1) (r .loop .inv .3)) (c .if3 .left)
 
 pub read-number-spec : {M : Type 1} → statement M
 read-number-spec =
-    tie.close (tie.spec is-number-requires returns value-requires returns-2 returns-3)
+    tie.close
+    (tie.spec
+    Inv-loop
+    μ-loop
+    starts-well-requires
+    returns
+    loop-holds
+    shared-slice-read-b
+    is-digit-requires
+    returns-2
+    grown-requires
+    add-i
+    loop-less
+    loop-again
+    returns-3
+    returns-4)

@@ -6,7 +6,7 @@ use Rattle.laws.specs.Lists.{allOf}
 use Rattle.laws.specs.Split.{splitOn}
 use Rattle.text.specs.Items.{COMMA}
 use Rattle.text.specs.Lettered.{isItem}
-use Rattle.text.proofs.Parts.{after-less}
+use Rattle.text.proofs.Parts.{after-less, past-part}
 use Rattle.text.proofs.Rise.{parts-stop, parts-end, parts-next}
 use Rattle.text.proofs.list.all_items.Statement.{statement}
 use Rattle.text.proofs.list.all_items.Tie as tie
@@ -35,17 +35,17 @@ returns-2 c =
     parts-end (isItem _) _ _ _ (c .before .before .before .part-before .ensures) (c .before .before .before .before .loop .inv) _ (c .before .before .is-item .ensures) (c .before .if1 .left)
     (c .if2 .taken)
 
-part-after-requires : tie.Need-part-after-requires Inv-loop μ-loop
-part-after-requires c κs = search needs
+past-requires : tie.Need-past-requires Inv-loop μ-loop
+past-requires c κs = search needs
 
 loop-less : tie.Need-loop-less Inv-loop μ-loop
 loop-less c =
-    after-less COMMA _ _ (c .before .before .before .before .part-before .ensures) _ (c .before .if2 .left) (c .part-after .ensures)
+    after-less COMMA _ _ (c .before .before .before .before .part-before .ensures) _ (c .before .if2 .left) (past-part COMMA _ _ (c .before .before .before .before .part-before .ensures) _ (c .past .ensures))
 
 loop-again : tie.Need-loop-again Inv-loop μ-loop
 loop-again c =
     parts-next (isItem _) _ _ _ (c .before .before .before .before .part-before .ensures) (c .before .before .before .before .before .loop .inv) _ _ (c .before .before .before .is-item .ensures)
-    (c .before .before .if1 .left) (c .before .if2 .left) (c .part-after .ensures)
+    (c .before .before .if1 .left) (c .before .if2 .left) (past-part COMMA _ _ (c .before .before .before .before .part-before .ensures) _ (c .past .ensures))
 
 pub all-items-spec : {M : Type 1} → statement M
 all-items-spec =
@@ -58,6 +58,6 @@ all-items-spec =
     is-item-requires
     returns
     returns-2
-    part-after-requires
+    past-requires
     loop-less
     loop-again)

@@ -1,122 +1,154 @@
--- `text::list::read_items` meets its contract: what is kept, with what the rest gives, is the answer; there are never more items than the last number.
+-- `text::list::read_items` meets its contract: what is kept, with what the rest gives, is the answer where all parts are items; there are never more items than the last number.
 use borrow.Author.Needs.{needs}
 use Prim.Native.Nat.{_≤_}
-use mathlib.Core.Path.{_≡_, sym, ap, _∙_, refl}
+use mathlib.Core.Path.{_≡_, sym, _∙_, refl}
 use mathlib.Core.Bool.{true}
 use native.Mathlib.Omega.{arith}
 use lib.ListN.{length, length-set}
 use Rattle.laws.specs.Lists.{allOf}
 use Rattle.laws.specs.Split.{splitOn}
 use Rattle.text.specs.Items.{COMMA}
-use Rattle.text.specs.Number.{numberOf}
-use Rattle.text.specs.Lettered.{isItem, itemsRead}
-use Rattle.text.proofs.Parts.{after-less}
-use Rattle.text.proofs.Rise.{itemsLeft, items-start, refuse, keep-last, keep-more, value-is, over-is, refuse-over, passed, item-digits, first-passes, parts-next}
+use Rattle.text.specs.Lettered.{isItem}
+use Rattle.text.proofs.Parts.{after-less, past-part}
+use Rattle.text.proofs.Rise.{itemsLeft, speltRead, items-start, all-spelt, refused-is, refuse, keep-last, keep-more, number-spelt, value-item, value-is, over-is, refuse-over, passed, item-digits, first-passes, parts-next, parts-end}
 use Rattle.text.proofs.list.read_items.Statement.{statement}
 use Rattle.text.proofs.list.read_items.Tie as tie
+use Rattle.text.proofs.list.read_items.Reads as reads
+use Rattle.text.proofs.list.read_items.Lts as lts
+use Rattle.text.proofs.list.item_number.Reads as item-number-reads
+use Rattle.text.proofs.list.item_of.Reads as item-of-reads
+use Rattle.text.proofs.list.refused_items.Reads as refused-items-reads
+use Rattle.text.proofs.part.part_before.Reads as part-before-reads
+use Rattle.text.proofs.part.past.Reads as past-reads
 
 abbrev Inv-loop : tie.InvT-loop
 Inv-loop s lettered high items₀ count₀ last₀ rest₀ items count last rest =
     (count ≤ last)
     × (last ≤ high)
     × (length items ≡ 64)
-    × (allOf (isItem lettered) (splitOn COMMA rest) ≡ true)
-    × (itemsLeft lettered high items count last (splitOn COMMA rest) ≡ itemsRead lettered high (splitOn COMMA s))
+    × (allOf (isItem lettered) (splitOn COMMA rest) ≡ allOf (isItem lettered) (splitOn COMMA s))
+    × (itemsLeft lettered high items count last (splitOn COMMA rest) ≡ speltRead lettered high (splitOn COMMA s))
 
 abbrev μ-loop : tie.MeasureT-loop
 μ-loop s lettered high items₀ count₀ last₀ rest₀ items count last rest = length rest
 
+-- src/list.rt:115:5
 loop-holds : tie.Need-loop-holds Inv-loop μ-loop
-loop-holds c = (omega arith, omega arith, search needs, c .before .pre .1, items-start _ _ _)
+loop-holds c = (omega arith, omega arith, search needs, refl, items-start _ _ _)
 
+-- src/list.rt:116:13
 part-before-requires : tie.Need-part-before-requires Inv-loop μ-loop
 part-before-requires c κs = search needs
 
-digits-in-requires : tie.Need-digits-in-requires Inv-loop μ-loop
-digits-in-requires c κs = first-passes (isItem _) _ _ (c .part-before .ensures) (c .before .loop .inv .3)
+-- src/list.rt:117:32
+item-number-requires : tie.Need-item-number-requires Inv-loop μ-loop
+item-number-requires c κs = search needs
 
-read-number-requires : tie.Need-read-number-requires Inv-loop μ-loop
-read-number-requires c κs = search needs
-
+-- src/list.rt:117:27
 enum-known-n : tie.Need-enum-known-n Inv-loop μ-loop
 enum-known-n c = search needs
 
-no-items-requires : tie.Need-no-items-requires Inv-loop μ-loop
-no-items-requires c κs = search needs
+-- src/list.rt:118:13
+refused-items-requires : tie.Need-refused-items-requires Inv-loop μ-loop
+refused-items-requires c κs = search needs
 
+-- src/list.rt:118:13
 returns : tie.Need-returns Inv-loop μ-loop
 returns c =
     let r = c .before .before in
-    let spelt = first-passes (isItem _) _ _ (r .before .before .part-before .ensures) (r .before .before .before .loop .inv .3) in
-    let over = over-is _ _ (item-digits _ _ spelt) (r .read-number .ensures ∙ ap numberOf (r .before .digits-in .ensures)) (c .before .match .keys2) in
-    c .no-items .ensures
-    ∙ refuse _ _ _ _ _ _ _ _ _ (r .before .before .part-before .ensures) refl (r .before .before .before .loop .inv .4) (refuse-over _ _ _ (r .before .before .before .before .before .pre .0) over)
+    let part = r .before .part-before .ensures in
+    c .refused-items .ensures
+    ∙ refused-is _ _ _ _ (r .before .before .loop .inv .3)
+    (λ t.
+    let spelt = first-passes (isItem _) _ _ part t in
+    let over = over-is _ _ (item-digits _ _ spelt) (number-spelt _ _ _ spelt (r .item-number .ensures)) (c .before .match .keys2) in
+    refuse _ _ _ _ _ _ _ _ _ part refl (r .before .before .loop .inv .4) (refuse-over _ _ _ (r .before .before .before .before .pre) over))
 
-no-items-requires-2 : tie.Need-no-items-requires-2 Inv-loop μ-loop
-no-items-requires-2 c κs = search needs
+-- src/list.rt:121:13
+refused-items-requires-2 : tie.Need-refused-items-requires-2 Inv-loop μ-loop
+refused-items-requires-2 c κs = search needs
 
+-- src/list.rt:121:13
 returns-2 : tie.Need-returns-2 Inv-loop μ-loop
 returns-2 c =
     let r = c .before .before .before in
-    c .no-items2 .ensures
-    ∙ refuse _ _ _ _ _ _ _ _ _ (r .before .before .before .before .part-before .ensures)
-    (value-is _ _ _ (r .before .before .read-number .ensures ∙ ap numberOf (r .before .before .before .digits-in .ensures)) (r .n .given .1))
-    (r .before .before .before .before .before .loop .inv .4)
-    (c .before .if1 .taken)
+    let part = r .before .before .before .part-before .ensures in
+    let number = r .before .before .item-number .ensures in
+    let spelt = value-item _ _ _ _ number (r .n .given .1) in
+    c .refused-items2 .ensures
+    ∙ refused-is _ _ _ _ (r .before .before .before .before .loop .inv .3)
+    (λ t. refuse _ _ _ _ _ _ _ _ _ part (value-is _ _ _ (number-spelt _ _ _ spelt number) (r .n .given .1)) (r .before .before .before .before .loop .inv .4) (c .before .if1 .taken))
 
+-- src/list.rt:123:24
 item-of-requires : tie.Need-item-of-requires Inv-loop μ-loop
 item-of-requires c κs =
     let r = c .before .before in
-    let p = passed (r .before .before .before .before .before .loop .last) (r .before .before .before .before .before .before .before .args .high) _ (c .if1 .left) in (
+    let number = r .before .before .item-number .ensures in
+    let spelt = value-item _ _ _ _ number (r .n .given .1) in
+    let p = passed (r .before .before .before .before .loop .last) (r .before .before .before .before .before .before .args .high) _ (c .if1 .left) in (
       omega arith,
-      value-is _ _ _ (r .before .before .read-number .ensures ∙ ap numberOf (r .before .before .before .digits-in .ensures)) (r .n .given .1),
-      first-passes (isItem _) _ _ (r .before .before .before .before .part-before .ensures) (r .before .before .before .before .before .loop .inv .3),
+      value-is _ _ _ (number-spelt _ _ _ spelt number) (r .n .given .1),
+      spelt,
     )
 
+-- src/list.rt:123:9
 array-write-items : tie.Need-array-write-items Inv-loop μ-loop
 array-write-items c =
-    let r = c .before .before .before in let p = passed (r .before .before .before .before .before .loop .last) (r .before .before .before .before .before .before .before .args .high) _ (c .before .if1 .left) in omega arith
+    let r = c .before .before .before in let p = passed (r .before .before .before .before .loop .last) (r .before .before .before .before .before .before .args .high) _ (c .before .if1 .left) in omega arith
 
+-- src/list.rt:124:9
 add-count : tie.Need-add-count Inv-loop μ-loop
 add-count c = search needs
 
+-- src/list.rt:127:13
 returns-3 : tie.Need-returns-3 Inv-loop μ-loop
 returns-3 c =
     let r = c .before .before .before .before in
-    keep-last _ _ _ _ _ _ _ _ _ (r .before .before .before .before .part-before .ensures)
-    (value-is _ _ _ (r .before .before .read-number .ensures ∙ ap numberOf (r .before .before .before .digits-in .ensures)) (r .n .given .1))
-    (r .before .before .before .before .before .loop .inv .4)
+    let part = r .before .before .before .part-before .ensures in
+    let number = r .before .before .item-number .ensures in
+    let spelt = value-item _ _ _ _ number (r .n .given .1) in
+    keep-last _ _ _ _ _ _ _ _ _ part
+    (value-is _ _ _ (number-spelt _ _ _ spelt number) (r .n .given .1))
+    (r .before .before .before .before .loop .inv .4)
     _
     (c .before .before .if1 .left)
     (c .before .item-of .ensures)
     (c .if2 .taken)
+    ∙ all-spelt _ _ _ (sym (parts-end (isItem _) _ _ _ part (r .before .before .before .before .loop .inv .3) true (sym spelt) refl (c .if2 .taken)))
 
-part-after-requires : tie.Need-part-after-requires Inv-loop μ-loop
-part-after-requires c κs = search needs
+-- src/list.rt:133:13
+past-requires : tie.Need-past-requires Inv-loop μ-loop
+past-requires c κs = search needs
 
+-- src/list.rt:115:5
 loop-less : tie.Need-loop-less Inv-loop μ-loop
 loop-less c =
     let r = c .before .before .before .before .before in
-    after-less COMMA _ _ (r .before .before .before .before .part-before .ensures) _ (c .before .if2 .left) (c .part-after .ensures)
+    let part = r .before .before .before .part-before .ensures in
+    after-less COMMA _ _ part _ (c .before .if2 .left) (past-part COMMA _ _ part _ (c .past .ensures))
 
+-- src/list.rt:115:5
 loop-again : tie.Need-loop-again Inv-loop μ-loop
 loop-again c =
     let r = c .before .before .before .before .before in
-    let part = r .before .before .before .before .part-before .ensures in
-    let p = passed (r .before .before .before .before .before .loop .last) (r .before .before .before .before .before .before .before .args .high) _ (c .before .before .before .if1 .left) in (
+    let part = r .before .before .before .part-before .ensures in
+    let number = r .before .before .item-number .ensures in
+    let spelt = value-item _ _ _ _ number (r .n .given .1) in
+    let next = past-part COMMA _ _ part _ (c .past .ensures) in
+    let p = passed (r .before .before .before .before .loop .last) (r .before .before .before .before .before .before .args .high) _ (c .before .before .before .if1 .left) in (
       omega arith,
       p .1,
-      simp length-set (r .before .before .before .before .before .loop .inv .2),
-      parts-next (isItem _) _ _ _ part (r .before .before .before .before .before .loop .inv .3) _ true (sym (first-passes (isItem _) _ _ part (r .before .before .before .before .before .loop .inv .3))) refl (c .before .if2 .left) (c .part-after .ensures),
+      simp length-set (r .before .before .before .before .loop .inv .2),
+      parts-next (isItem _) _ _ _ part (r .before .before .before .before .loop .inv .3) _ true (sym spelt) refl (c .before .if2 .left) next,
       keep-more _ _ _ _ _ _ _ _ _ part
-          (value-is _ _ _ (r .before .before .read-number .ensures ∙ ap numberOf (r .before .before .before .digits-in .ensures)) (r .n .given .1))
-          (r .before .before .before .before .before .loop .inv .4)
+          (value-is _ _ _ (number-spelt _ _ _ spelt number) (r .n .given .1))
+          (r .before .before .before .before .loop .inv .4)
           _
           _
           (c .before .before .before .if1 .left)
           (c .before .before .item-of .ensures)
           (c .before .if2 .left)
-          (c .part-after .ensures),
+          next,
     )
 
 pub read-items-spec : {M : Type 1} → statement M
@@ -127,17 +159,16 @@ read-items-spec =
     μ-loop
     loop-holds
     part-before-requires
-    digits-in-requires
-    read-number-requires
+    item-number-requires
     enum-known-n
-    no-items-requires
+    refused-items-requires
     returns
-    no-items-requires-2
+    refused-items-requires-2
     returns-2
     item-of-requires
     array-write-items
     add-count
     returns-3
-    part-after-requires
+    past-requires
     loop-less
     loop-again)

@@ -1,50 +1,19 @@
--- `text::part::part_after` meets its contract: the bytes past the place that `find` gives.
+-- `text::part::part_after` meets its contract: what stands past the place that `find` gives.
 use borrow.Author.Needs.{needs}
-use Rattle.text.proofs.Parts.{after-found, after-none}
+use Prim.Native.Nat.{suc}
+use mathlib.Core.Path.{ap, _∙_}
+use lib.ListN.{drop}
 use Rattle.text.proofs.part.part_after.Statement.{statement}
 use Rattle.text.proofs.part.part_after.Tie as tie
 
 find-requires : tie.Need-find-requires
 find-requires c κs = search needs
 
-add-result : tie.Need-add-result
-add-result c = search needs
-
-sub-result : tie.Need-sub-result
-sub-result c = search needs
-
-part-result-start : tie.Need-part-result-start
-part-result-start c = search needs
-
-part-result-end : tie.Need-part-result-end
-part-result-end c = search needs
+past-requires : tie.Need-past-requires
+past-requires c κs = search needs
 
 returns : tie.Need-returns
-returns c = after-found _ _ _ (c .before .before .find .ensures .first)
-
-sub-result-2 : tie.Need-sub-result-2
-sub-result-2 c = search needs
-
-part-result-start-2 : tie.Need-part-result-start-2
-part-result-start-2 c = search needs
-
-part-result-end-2 : tie.Need-part-result-end-2
-part-result-end-2 c = search needs
-
-returns-2 : tie.Need-returns-2
-returns-2 c = after-none _ _ _ (c .before .before .find .ensures .first) (c .before .if1 .left)
+returns c = c .past .ensures ∙ ap (λ n. drop (suc n) (c .before .before .before .args .s .now)) (c .before .find .ensures .first)
 
 pub part-after-spec : {M : Type 1} → statement M
-part-after-spec =
-    tie.close
-    (tie.spec
-    find-requires
-    add-result
-    sub-result
-    part-result-start
-    part-result-end
-    returns
-    sub-result-2
-    part-result-start-2
-    part-result-end-2
-    returns-2)
+part-after-spec = tie.close (tie.spec find-requires past-requires returns)
