@@ -1,15 +1,17 @@
 //! Times of the proved implementation and of the second dispatcher, on the
 //! same inputs in one run, and their ratio.
 //!
-//! `cargo bench` takes the times; `cargo test` only calls everything once.
+//! `cargo bench` takes the times; `cargo test` only calls everything once, and
+//! so does `cargo bench` where the proved implementation runs under an emulator.
 
 use dispatcher::sample::plans::full_plan;
 use dispatcher::sample::reports::{accepted_report, Report};
 use dispatcher::sample::{announced_seed, Rng};
 use dispatcher::text::plan_text;
 use dispatcher::values::LONGEST_TEXT;
-use dispatcher::{accepted, minimum_early, open_book, proved, read_plan, report, write_plan};
-use dispatcher::{Answer, Book, Plan};
+use dispatcher::{accepted, minimum_early, open_book, proved, read_plan, report, run_log};
+use dispatcher::{write_plan, Answer, Book, Plan};
+use std::fs;
 use std::hint::black_box;
 use std::time::{Duration, Instant};
 
@@ -108,14 +110,37 @@ fn time_book(rounds: u32, rng: &mut Rng, tasks: u8) {
     );
 }
 
+fn text_of_morning(name: &str) -> Vec<u8> {
+    let folder = concat!(env!("CARGO_MANIFEST_DIR"), "/../examples/full-morning");
+    fs::read(format!("{folder}/{name}")).expect("the example has its texts")
+}
+
+/// The program's whole work on the example's morning: two texts in memory, the log to memory.
+fn time_morning(rounds: u32) {
+    let (plan, ends) = (text_of_morning("plan.txt"), text_of_morning("ends.txt"));
+    let mut out = vec![0; proved::LONGEST_LOG];
+    let length = proved::write_log(&plan, &ends, &mut out);
+    assert!(out[..length] == run_log(&plan, &ends));
+    time_both(
+        rounds,
+        "whole run, full morning",
+        || proved::write_log(black_box(&plan), black_box(&ends), black_box(&mut out)),
+        || run_log(black_box(&plan), black_box(&ends)).len(),
+    );
+}
+
 fn main() {
     // Cargo says --bench to a benchmark only when times are wanted.
     let times_wanted = std::env::args().any(|arg| arg == "--bench");
-    let rounds = if times_wanted { ROUNDS } else { 0 };
+    let timed = times_wanted && !proved::EMULATED;
+    let rounds = if timed { ROUNDS } else { 0 };
     let mut rng = Rng::new(announced_seed("speed"));
-    if times_wanted {
+    if timed {
         println!("nanoseconds a call              proved        Rust     ratio");
+    } else if times_wanted {
+        println!("no times: the proved side runs under an emulator here, where they say nothing");
     }
+    time_morning(rounds);
     time_texts(rounds, &full_plan(&mut rng, 64));
     for tasks in [8, 16, 32, 64] {
         time_book(rounds, &mut rng, tasks);

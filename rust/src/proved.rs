@@ -1,76 +1,74 @@
-//! The proved implementation, called over the C ABI.
+//! The proved implementation.
 //!
-//! Each wrapper takes what the function of the same name beside it takes, so
-//! that a test calls both alike. Plans and books cross the border by value.
+//! Each function takes what the function of the same name beside it takes, so
+//! that a test calls both alike. The library is compiled for x86-64, where it is
+//! linked and called over the C ABI; elsewhere a peer under an emulator calls it.
 
-use crate::values::{Book, Figure, Opening, Plan, Reading, Reported, Written};
+use crate::values::{Book, Plan};
 
-extern "C" {
-    fn dispatch_read_plan(text: *const u8, length: usize) -> Reading;
-    fn dispatch_is_accepted(plan: Plan) -> u32;
-    fn dispatch_write_plan(plan: Plan, out: *mut u8, length: usize) -> Written;
-    fn dispatch_open_book(plan: Plan) -> Opening;
-    fn dispatch_is_sound(book: Book) -> u32;
-    fn dispatch_report(book: Book, task: u32, tick: u32) -> Reported;
-    fn dispatch_minimum_early(book: Book) -> Figure;
-    fn dispatch_run_log(
-        plan: *const u8,
-        plan_length: usize,
-        ends: *const u8,
-        ends_length: usize,
-        out: *mut u8,
-        length: usize,
-    ) -> usize;
-}
+#[cfg(target_arch = "x86_64")]
+mod direct;
+#[cfg(target_arch = "x86_64")]
+use direct as library;
+
+#[cfg(not(target_arch = "x86_64"))]
+mod peer;
+#[cfg(not(target_arch = "x86_64"))]
+use peer as library;
+
+pub use library::{measure, minimum_early, open_book, read_plan, report, write_log, write_plan};
+
+/// Whether the library runs under an emulator, where times say nothing.
+pub const EMULATED: bool = cfg!(not(target_arch = "x86_64"));
 
 /// No log is longer, and a shorter buffer gets nothing.
 pub const LONGEST_LOG: usize = 212_992;
 
-pub fn read_plan(text: &[u8]) -> Reading {
-    // Also an empty slice's pointer is not null, and no byte is read past its length.
-    unsafe { dispatch_read_plan(text.as_ptr(), text.len()) }
-}
-
 pub fn accepted(plan: &Plan) -> bool {
-    yes(unsafe { dispatch_is_accepted(*plan) })
-}
-
-pub fn write_plan(plan: &Plan, out: &mut [u8]) -> Written {
-    unsafe { dispatch_write_plan(*plan, out.as_mut_ptr(), out.len()) }
-}
-
-pub fn open_book(plan: &Plan) -> Opening {
-    unsafe { dispatch_open_book(*plan) }
+    yes(library::is_accepted(plan))
 }
 
 pub fn sound(book: &Book) -> bool {
-    yes(unsafe { dispatch_is_sound(*book) })
-}
-
-pub fn report(book: &Book, task: u32, tick: u32) -> Reported {
-    unsafe { dispatch_report(*book, task, tick) }
-}
-
-pub fn minimum_early(book: &Book) -> Figure {
-    unsafe { dispatch_minimum_early(*book) }
-}
-
-/// Writes the log into the buffer and answers its length.
-pub fn write_log(plan: &[u8], ends: &[u8], out: &mut [u8]) -> usize {
-    unsafe {
-        dispatch_run_log(
-            plan.as_ptr(),
-            plan.len(),
-            ends.as_ptr(),
-            ends.len(),
-            out.as_mut_ptr(),
-            out.len(),
-        )
-    }
+    yes(library::is_sound(book))
 }
 
 /// The truth values the library answers are 1 and 0, and no other number.
 fn yes(answer: u32) -> bool {
     assert!(answer <= 1, "neither 1 nor 0 but {answer}");
     answer == 1
+}
+
+/// What can be called and measured, by its op byte in `peer/peer.c`.
+#[derive(Clone, Copy)]
+#[repr(u8)]
+pub enum Function {
+    ReadPlan = b'r',
+    IsAccepted = b'a',
+    WritePlan = b'w',
+    OpenBook = b'o',
+    IsSound = b's',
+    Report = b'e',
+    MinimumEarly = b'm',
+    RunLog = b'l',
+    /// Two that are not the library's, to try the measure itself: this has no frame.
+    Nothing = b'0',
+    /// A frame of 20,000 bytes, and little more.
+    KnownFrame = b'1',
+}
+
+/// What a register holds when a function is called.
+pub enum Register<'a> {
+    Number(usize),
+    /// The address of these bytes.
+    Lent(&'a mut [u8]),
+    /// The address of a place for an answer too large for registers; comes first.
+    Place,
+}
+
+/// The stack that a call took, in bytes, and the code that it answered.
+#[repr(C)]
+#[derive(Clone, Copy)]
+pub struct Measured {
+    pub used: u32,
+    pub code: u32,
 }

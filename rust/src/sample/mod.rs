@@ -5,6 +5,7 @@ pub mod faults;
 pub mod lines;
 pub mod plan_a;
 pub mod plans;
+pub mod program;
 pub mod reports;
 pub mod rng;
 pub mod tally;

@@ -1,0 +1,68 @@
+-- `runlog::files::write_all` is safe and ends: each turn leaves fewer bytes.
+use lib.ListN.{length}
+use borrow.Author.Needs.{needs}
+use Rattle.runlog.proofs.files.write_all.Statement.{statement}
+use Rattle.runlog.proofs.files.write_all.Tie as tie
+
+abbrev Inv-loop : tie.InvT-loop
+Inv-loop fd text rest₀ rest = Unit {0}
+
+abbrev μ-loop : tie.MeasureT-loop
+μ-loop fd text rest₀ rest = length rest
+
+-- src/files.rt:106:5
+loop-holds : tie.Need-loop-holds Inv-loop μ-loop
+loop-holds c = search needs
+
+-- src/files.rt:107:31
+write-some-requires : tie.Need-write-some-requires Inv-loop μ-loop
+write-some-requires c κs = search needs
+
+-- src/files.rt:107:13
+count-requires : tie.Need-count-requires Inv-loop μ-loop
+count-requires c κs = search needs
+
+-- src/files.rt:109:13
+returns : tie.Need-returns Inv-loop μ-loop
+returns c = search needs
+
+-- src/files.rt:111:16
+sub-rest : tie.Need-sub-rest Inv-loop μ-loop
+sub-rest c = search needs
+
+-- src/files.rt:111:16
+part-rest-start : tie.Need-part-rest-start Inv-loop μ-loop
+part-rest-start c = search needs
+
+-- src/files.rt:111:16
+part-rest-end : tie.Need-part-rest-end Inv-loop μ-loop
+part-rest-end c = search needs
+
+-- src/files.rt:106:5
+loop-less : tie.Need-loop-less Inv-loop μ-loop
+loop-less c = search needs
+
+-- src/files.rt:106:5
+loop-again : tie.Need-loop-again Inv-loop μ-loop
+loop-again c = search needs
+
+-- src/files.rt:104:1
+returns-2 : tie.Need-returns-2 Inv-loop μ-loop
+returns-2 c = search needs
+
+pub write-all-spec : {M : Type 1} → statement M
+write-all-spec =
+    tie.close
+    (tie.spec
+    Inv-loop
+    μ-loop
+    loop-holds
+    write-some-requires
+    count-requires
+    returns
+    sub-rest
+    part-rest-start
+    part-rest-end
+    loop-less
+    loop-again
+    returns-2)

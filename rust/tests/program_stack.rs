@@ -1,0 +1,42 @@
+//! How much stack the built program takes: the least with which it runs.
+
+use dispatcher::sample::program::{at_root, program_in};
+use dispatcher::sample::tally::say;
+use std::fs;
+use std::path::Path;
+
+const MOST_KIB: u32 = 512;
+
+/// Whether the program prints its log with so much stack, which holds its environment too.
+fn runs_with(kib: u32, folder: &Path, log: &[u8]) -> bool {
+    let mut command = program_in(folder);
+    command.env_clear();
+    for name in ["PATH", "RATTLE_HOME"] {
+        if let Some(value) = std::env::var_os(name) {
+            command.env(name, value);
+        }
+    }
+    let output = command.env("RUNLOG_STACK", kib.to_string()).output();
+    let output = output.unwrap();
+    output.status.success() && output.stdout == log
+}
+
+#[test]
+fn the_program_takes_no_more_than_512_kib() {
+    let folder = at_root("examples/full-morning");
+    let log = fs::read(folder.join("log.txt")).unwrap();
+    // Its buffers alone are longer than the one, and the other is the usual limit.
+    let (mut too_little, mut enough) = (192, 8_192);
+    assert!(!runs_with(too_little, &folder, &log));
+    assert!(runs_with(enough, &folder, &log));
+    while enough - too_little > 4 {
+        let middle = (too_little + enough) / 2;
+        if runs_with(middle, &folder, &log) {
+            enough = middle;
+        } else {
+            too_little = middle;
+        }
+    }
+    say(&format!("stack of the program: {enough} KiB"));
+    assert!(enough <= MOST_KIB, "it takes {enough} KiB of stack");
+}
