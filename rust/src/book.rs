@@ -63,7 +63,8 @@ pub fn report(book: &Book, task: u32, tick: u32) -> Reported {
     Reported { answer, book: next }
 }
 
-/// M, the least figure over all boards, or refusal 9 and 0.
+/// M, the least planned start less start over the running tasks, 0 if none
+/// runs; or refusal 9 and 0.
 pub fn minimum_early(book: &Book) -> Figure {
     if !sound(book) {
         return Figure {
@@ -71,10 +72,11 @@ pub fn minimum_early(book: &Book) -> Figure {
             early: 0,
         };
     }
-    let figures = (1..=book.boards).map(|board| board_figure(book, board));
+    let running = (0..usize::from(book.tasks)).filter(|&i| book.mark[i] == RUNNING);
+    let ticks_early = running.map(|i| book.begin[i] - book.start[i]);
     Figure {
         answer: Answer::ACCEPTED,
-        early: figures.min().unwrap_or(0),
+        early: ticks_early.min().unwrap_or(0),
     }
 }
 
@@ -173,15 +175,4 @@ fn started_by_the_rule(book: &Book, i: usize) -> bool {
         latest_end = latest_end.max(book.end[j]);
     }
     book.start[i] == latest_end
-}
-
-fn board_figure(book: &Book, board: u8) -> u32 {
-    let here = || (0..usize::from(book.tasks)).filter(move |&i| book.board[i] == board);
-    if let Some(i) = here().find(|&i| book.mark[i] == RUNNING) {
-        return book.begin[i] - book.start[i];
-    }
-    let last_ended = here()
-        .filter(|&i| book.mark[i] == ENDED)
-        .max_by_key(|&i| book.end[i]);
-    last_ended.map_or(0, |i| book.finish[i] - book.end[i])
 }

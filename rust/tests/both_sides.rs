@@ -76,18 +76,40 @@ fn reports_after_the_end_of_task_2() {
     check_report(&book, 2, 4, 11);
 }
 
-#[test]
-fn the_figures_of_the_run() {
-    let mut book = fresh_book();
+/// M of the fresh book and after each report, all of which must be accepted.
+fn figures_along(text: &[u8], reports: &[(u32, u32)]) -> Vec<u32> {
+    let mut book = open_book(&read_plan(text).plan).book;
     let mut figures = vec![minimum_early(&book).early];
-    for (task, tick) in REPORTS_A {
+    for &(task, tick) in reports {
         check_report(&book, task, tick, 0);
         book = report(&book, task, tick).book;
         let figure = minimum_early(&book);
         assert!(figure.answer.is_accepted());
         figures.push(figure.early);
     }
-    assert_eq!(figures, [0, 0, 1, 3, 3, 3]);
+    figures
+}
+
+#[test]
+fn the_figures_of_the_run() {
+    assert_eq!(figures_along(PLAN_A, &REPORTS_A), [0, 0, 1, 3, 3, 0]);
+}
+
+#[test]
+fn a_board_with_no_work_does_not_pin_the_figure() {
+    let eight_boards = plan_a_with(1, "plan\t1\t8\t5");
+    assert_eq!(figures_along(&eight_boards, &REPORTS_A), [0, 0, 1, 3, 3, 0]);
+}
+
+#[test]
+fn a_board_done_for_the_day_does_not_freeze_the_figure() {
+    let text = b"plan\t1\t2\t3
+task\t1\t1\t0\t4\t-\t-
+task\t2\t2\t0\t2\t-\t-
+task\t3\t1\t4\t8\t-\t-
+";
+    // Board 2 is done at 2, on time; task 3 starts then, two ticks early.
+    assert_eq!(figures_along(text, &[(2, 2), (1, 2), (3, 6)]), [0, 0, 2, 0]);
 }
 
 #[test]

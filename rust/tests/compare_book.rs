@@ -103,15 +103,14 @@ fn take_mornings_without_gain(rng: &mut Rng, tally: &mut Tally) -> u64 {
 
 /// Every tick from 0 to 15 reported of every task 0 to 6, all along plan A.
 fn take_every_report_on_plan_a(tally: &mut Tally) -> u64 {
+    let any_tick = |task| (0..=15).map(move |tick| (task, tick));
+    let near_ones: Vec<Report> = (0..=6).flat_map(any_tick).collect();
     let mut reports = 0;
     let mut book = compare_opening(tally, &read_plan(PLAN_A).plan);
     for next in 0..=REPORTS_A.len() {
-        // Half open: with `..=` here the LLVM of rustc 1.95 recurses without end on aarch64.
-        for task in 0..7 {
-            for tick in 0..16 {
-                compare_report(tally, &book, (task, tick));
-                reports += 1;
-            }
+        for &near in &near_ones {
+            compare_report(tally, &book, near);
+            reports += 1;
         }
         if let Some(&right) = REPORTS_A.get(next) {
             book = compare_report(tally, &book, right);

@@ -3,7 +3,7 @@
 use dispatcher::run_log;
 use dispatcher::sample::plan_a::{ENDS_A, PLAN_A};
 
-/// Typed in from the document's listing.
+/// Typed in from the document's listing, its last line as request P1 has it.
 const LISTING: &str = "run\t1\t2\t5
 start\t1\t1\t0\t0
 start\t2\t2\t0\t0
@@ -20,7 +20,7 @@ early\t6\t3
 end\t5\t2\t8\t6
 early\t8\t3
 end\t4\t1\t9\t3
-early\t9\t3
+early\t9\t0
 ";
 
 #[test]

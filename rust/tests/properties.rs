@@ -212,6 +212,12 @@ fn check_starts_are_the_latest_awaited_ends(last: &Book) {
     }
 }
 
+/// Planned start less start of each task running at a moment.
+fn ticks_early_of_running(moment: &Book) -> Vec<u32> {
+    let running = running_tasks(moment).into_iter();
+    running.map(|i| moment.begin[i] - moment.start[i]).collect()
+}
+
 /// What starts or ends after a moment is at least that moment's figure early.
 fn check_figure_is_kept(moment: &Book, last: &Book) {
     let figure = minimum_early(moment);
@@ -226,6 +232,24 @@ fn check_figure_is_kept(moment: &Book, last: &Book) {
     }
 }
 
+/// The figure is the least of the running tasks' own, 0 once nobody runs, and
+/// while somebody runs it never falls; how many books showed more than 0.
+fn check_figures_along(books: &[Book]) -> u32 {
+    let (mut figure_before, mut early) = (0, 0);
+    for book in books {
+        let figure = minimum_early(book).early;
+        let Some(least) = ticks_early_of_running(book).into_iter().min() else {
+            assert_eq!(figure, 0, "nobody runs");
+            continue;
+        };
+        assert_eq!(figure, least);
+        assert!(figure >= figure_before, "M never falls");
+        figure_before = figure;
+        early += u32::from(figure > 0);
+    }
+    early
+}
+
 #[test]
 fn mornings_keep_what_the_plan_promises() {
     let mut rng = rng_for("mornings_keep_what_the_plan_promises");
@@ -237,15 +261,11 @@ fn mornings_keep_what_the_plan_promises() {
         assert_eq!(books.len(), count(last) + 1);
         check_clashing_tasks_keep_plan_order(last);
         check_starts_are_the_latest_awaited_ends(last);
-        let mut figure_before = 0;
         for book in &books {
             assert!(sound(book));
             check_figure_is_kept(book, last);
-            let figure = minimum_early(book).early;
-            assert!(figure >= figure_before, "M never falls");
-            figure_before = figure;
-            early += u32::from(figure > 0);
         }
+        early += check_figures_along(&books);
         reports += books.len() - 1;
     }
     println!("400 mornings, {reports} reports, M above 0 in {early} books");

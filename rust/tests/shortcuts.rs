@@ -1,4 +1,4 @@
-//! The four shortcuts that break a morning, each coded as a small variant.
+//! The shortcuts that break a morning, each coded as a small variant.
 
 use dispatcher::judge::clash_by_drive;
 use dispatcher::sample::plan_a::PLAN_A;
@@ -146,7 +146,7 @@ fn early_of_last_report(book: &Book) -> u32 {
     last.map_or(0, |i| book.finish[i] - book.end[i])
 }
 
-/// Shortcut: the largest figure of any board.
+/// Shortcut: the largest figure of any board, also of one where nobody runs.
 fn early_of_largest_board(book: &Book) -> u32 {
     let figures = (1..=book.boards).map(|board| {
         let here = || (0..count(book)).filter(move |&i| book.board[i] == board);
@@ -161,6 +161,13 @@ fn early_of_largest_board(book: &Book) -> u32 {
     figures.max().unwrap_or(0)
 }
 
+/// Shortcut: the largest figure of any running task.
+fn early_of_earliest_running(book: &Book) -> u32 {
+    let running = (0..count(book)).filter(|&i| book.mark[i] == 1);
+    let ticks_early = running.map(|i| book.begin[i] - book.start[i]);
+    ticks_early.max().unwrap_or(0)
+}
+
 #[test]
 fn taking_the_figure_from_one_report_or_the_largest_board() {
     let book = accepted_reports(&plan_a(), &[(2, 3), (1, 4)]);
@@ -172,4 +179,16 @@ fn taking_the_figure_from_one_report_or_the_largest_board() {
     assert!(later.answer.is_accepted());
     let task_4_early = later.book.begin[3] - later.book.start[3];
     assert_eq!(task_4_early, 1);
+}
+
+#[test]
+fn taking_the_largest_figure_of_those_that_run() {
+    let book = accepted_reports(&plan_a(), &[(2, 3)]);
+    assert_eq!(early_of_earliest_running(&book), 1);
+    assert_eq!(minimum_early(&book).early, 0);
+
+    let later = report(&book, 1, 6);
+    assert!(later.answer.is_accepted());
+    let task_1_early = later.book.finish[0] - later.book.end[0];
+    assert_eq!(task_1_early, 0);
 }

@@ -11,7 +11,6 @@ use Rattle.laws.specs.Cases.{by-le, true-false, same-test, and-l, and-r, or-at,
 use Rattle.laws.specs.Lists.{anyOf}
 use Rattle.text.specs.Items.{driveOf, isShared}
 use Rattle.theory.specs.Plan as theory-plan
-use Rattle.theory.proofs.Boards.{OnBoards}
 use Rattle.plan.specs.Answer.{isGranted}
 use Rattle.plan.specs.Task.{Task}
 use Rattle.plan.specs.Pairs.{overlap, sameBoard, holdsClash, clashByDrive, isListed, clash, breaksAfter, pairCode, firstFault}
@@ -67,9 +66,6 @@ module _ (plan : Plan) (ok : isAccepted plan ≡ true) where
   -- an accepted plan is lawful
   pub plan-lawful : theory-plan.Lawful (planFor plan)
   plan-lawful = record { lasts = λ k l. task-facts k l .lasts; before = λ i j li lj w. leb-true _ _ w }
-
-  pub plan-on-boards : OnBoards (planFor plan) (plan .boards) (at (plan .board))
-  plan-on-boards k l = let t = task-facts k l in (t .board-from, t .board-to)
 
   pub plan-boards : OnEight (planFor plan) (at (plan .board))
   plan-boards k l = let t = task-facts k l in let b = plan-facts .boards-to in (t .board-from, omega arith)

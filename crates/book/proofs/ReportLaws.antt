@@ -2,6 +2,7 @@
 use Prim.Native.Nat.{ℕ, _-_, _<_, _≤_}
 use native.Mathlib.Omega.{arith}
 use mathlib.Core.Bool.{Bool, true, false, not, _&&_, and-false}
+use mathlib.Core.List.{[]}
 use mathlib.Core.Path.{_≡_, refl, sym, _∙_}
 use mathlib.Core.Logic.{_≢_}
 use lib.Dec.{eqb}
@@ -12,7 +13,7 @@ use Rattle.laws.specs.Cases.{by-eq}
 use Rattle.laws.specs.Every.{every}
 use Rattle.laws.specs.Latest.{latest}
 use Rattle.theory.specs.Book.{ended, taskTest, soundTest}
-use Rattle.theory.specs.Figure.{minimumEarly, boardEarly}
+use Rattle.theory.specs.Figure.{minimumEarly}
 use Rattle.theory.specs.Report.{Accepts, reportCode, nonePast}
 use Rattle.theory.proofs.Reflect.{code-accepts, all-ended-at}
 use Rattle.theory.proofs.Task.{started-all}
@@ -20,13 +21,13 @@ use Rattle.plan.specs.Answer.{refuse, granted}
 use Rattle.plan.specs.Value.{at, isAccepted}
 use Rattle.plan.specs.declared.Answer.{Answer}
 use Rattle.plan.specs.declared.Plan.{Plan}
-use Rattle.book.specs.View.{planIn, planView, bookView, bookSeen}
+use Rattle.book.specs.View.{planIn, planView, bookView, planSeen}
 use Rattle.book.specs.Sound.{pastNothing, isSound}
 use Rattle.book.specs.Open.{blankBook, letGoIn, openedOn, zeroBook, openingOf}
 use Rattle.book.specs.Report.{codeOf, reportAnswer, endedIn, nextBook, reportedOf}
 use Rattle.book.specs.Early.{figureOf}
 use Rattle.book.specs.Table.{Closed, Fit}
-use Rattle.book.specs.Arrays.{codeSeen, SoundSeen}
+use Rattle.book.specs.Arrays.{codeSeen, startsSeen}
 use Rattle.book.specs.declared.Book.{Book}
 use Rattle.book.specs.declared.Opening.{Opening}
 use Rattle.book.specs.declared.Reported.{Reported}
@@ -197,19 +198,12 @@ module _ (book : Book) {sound : Bool} (s : sound ≡ isSound book) {answer : Ans
 
   pub figure-granted :
       not sound ≡ false → answer ≡ granted → {early : ℕ}
-      → early ≡ minimumEarly (planView book) (book .boards) (at (book .board)) (bookSeen (book .mark) (book .start) (book .end) 0)
+      → early ≡ minimumEarly (planSeen (book .tasks) (book .begin) []) (startsSeen (book .mark) (book .start) 0)
       → _≡_ {A = Figure} (record { answer = answer; early = early }) (figureOf book)
-  unfolding figureOf minimumEarly boardEarly
+  unfolding figureOf minimumEarly
   figure-granted h a e = rw (a, e, sym s ∙ not-false sound h)
 
 -- what the figure asks of a sound book
-pub figure-fit :
-    (book : Book) {sound : Bool} → sound ≡ isSound book → not sound ≡ false
-    → ((book .tasks ≤ 64) × (0 < book .boards))
-    × SoundSeen (book .tasks) (book .begin) (book .finish) (book .board) (book .mark) (book .start) (book .end)
+pub figure-fit : (book : Book) {sound : Bool} → sound ≡ isSound book → not sound ≡ false → book .tasks ≤ 64
 figure-fit book s h =
-    let f = (is-sound-facts book) .0 (sym s ∙ not-false _ h) in
-    let t = plan-facts (planIn book) (f .accepted) in (
-      (t .tasks-to, t .boards-from),
-      record { clock = book .clock; sound = f .sound; turn = plan-turns (planIn book) (f .accepted) },
-    )
+    let f = (is-sound-facts book) .0 (sym s ∙ not-false _ h) in plan-facts (planIn book) (f .accepted) .tasks-to

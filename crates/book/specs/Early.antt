@@ -2,7 +2,6 @@
 use mathlib.Core.Bool.{cond}
 use Rattle.theory.specs.Figure.{minimumEarly}
 use Rattle.plan.specs.Answer.{refuse, granted}
-use Rattle.plan.specs.Value.{at}
 use Rattle.book.specs.View.{planView, bookView}
 use Rattle.book.specs.Sound.{isSound}
 use Rattle.book.specs.declared.Book.{Book}
@@ -12,5 +11,5 @@ use Rattle.book.specs.declared.Figure.{Figure}
 unfoldable pub figureOf : Book → Figure
 figureOf book =
     cond (isSound book)
-    (record { answer = granted; early = minimumEarly (planView book) (book .boards) (at (book .board)) (bookView book) })
+    (record { answer = granted; early = minimumEarly (planView book) (bookView book) })
     (record { answer = refuse 9 0 0; early = 0 })

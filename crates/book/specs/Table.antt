@@ -13,8 +13,6 @@ use Rattle.theory.specs.Book.{ended}
 use Rattle.plan.specs.Value.{at}
 use Rattle.book.specs.View.{planView}
 use Rattle.book.specs.declared.Book.{Book}
-use Rattle.theory.proofs.Boards.{OnBoards}
-pub use Rattle.theory.proofs.Boards.{InTurn}
 
 -- i waits for k, which is on the board
 abbrev pub waitsOn : Plan → (ℕ → ℕ) → ℕ → ℕ → ℕ → Bool
@@ -44,7 +42,13 @@ pub record TableTo (plan : Plan) (board mark : ℕ → ℕ) (n : ℕ) (table : L
 
 -- boards are 1 to 8
 abbrev pub OnEight : Plan → (ℕ → ℕ) → Type 0
-OnEight plan board = OnBoards plan 8 board
+OnEight plan board = (i : ℕ) → i < plan .tasks → (0 < board i) × (board i ≤ 8)
+
+-- of two tasks of one board one waits for the other
+abbrev pub InTurn : Plan → (ℕ → ℕ) → Type 0
+InTurn plan board =
+    (i j : ℕ) → i < plan .tasks → j < plan .tasks → i ≢ j → board i ≡ board j
+    → (plan .waits i j ≡ true) ⊎ (plan .waits j i ≡ true)
 
 -- whoever a started task waits for has ended
 abbrev pub Closed : Plan → (ℕ → ℕ) → Type 0

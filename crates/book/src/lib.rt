@@ -204,16 +204,8 @@ impl Book {
                 early: 0,
             };
         }
-        let early = early::least_early(
-            &self.board,
-            &self.begin,
-            &self.finish,
-            &self.start,
-            &self.end,
-            &self.mark,
-            self.boards,
-            self.tasks as usize,
-        );
+        let tasks = self.tasks as usize;
+        let early = early::least_early(&self.begin, &self.start, &self.mark, tasks);
         Figure {
             answer: refusal::refuse(0, 0, 0),
             early,

@@ -23,7 +23,7 @@ use Rattle.book.specs.Early.{figureOf}
 use Rattle.book.specs.declared.Book.{Book}
 use Rattle.book.proofs.Views.{SizedPlan, Sized}
 use Rattle.promises.specs.Runs.{openedBook, runOf, acceptedOf, SameReports, Waiting, Running, Ended, Started, startOf, endOf}
-use Rattle.promises.specs.Runs.{WaitsFor, dueOf, AllEnded, InOrder, EarlyBy, StartsExactly, boardFigure}
+use Rattle.promises.specs.Runs.{WaitsFor, dueOf, AllEnded, InOrder, EarlyBy, StartsExactly}
 use Rattle.promises.specs.Says.{ReadingSays, OpeningSays, ReportSays, FigureSays, WriteSays}
 use Rattle.promises.proofs.RunView as run-view
 use Rattle.promises.proofs.SoundBook as sound-book
@@ -172,37 +172,21 @@ module _ (book : Book) (size : Sized book) (sound : isSound book ≡ true) where
         sound-book.report-keeps
         book (record { sized = size; sound = sound }) task tick (sound-book.code-of book task tick sound taken)
 
-  -- M is the least over all boards 1 to B
-  pub figure-is-defined :
-      figureOf book
-      ≡ record { answer = granted; early = minimumEarly (planView book) (book .boards) (at (book .board)) (bookView book) }
+  -- M is the least of planned start − start over the tasks running at that moment
+  pub figure-is-defined : figureOf book ≡ record { answer = granted; early = minimumEarly (planView book) (bookView book) }
   figure-is-defined = figures.figure-is book sound
 
-  pub figure-least : (on : ℕ) → 0 < on → on ≤ book .boards → figureOf book .early ≤ boardFigure book on
-  figure-least = figures.least-of-boards book (record { sized = size; sound = sound })
+  pub figure-least : (i : ℕ) → i < book .tasks → Running book i → figureOf book .early ≤ at (book .begin) i - startOf book i
+  figure-least = figures.least-of-running book sound
 
-  pub figure-met : (on : ℕ) × (0 < on) × (on ≤ book .boards) × (figureOf book .early ≡ boardFigure book on)
-  figure-met = figures.one-of-boards book (record { sized = size; sound = sound })
+  pub figure-met :
+      (k : ℕ) → k < book .tasks → Running book k
+      → (i : ℕ) × (i < book .tasks) × Running book i × (figureOf book .early ≡ at (book .begin) i - startOf book i)
+  figure-met = figures.one-of-running book sound
 
-  -- For each board: if a task runs there, its planned start − start
-  pub board-running :
-      (i : ℕ) → i < book .tasks → Running book i
-      → boardFigure book (at (book .board) i) ≡ at (book .begin) i - startOf book i
-  board-running = figures.board-running book (record { sized = size; sound = sound })
-
-  -- else, if one has ended there, planned finish − end of the last to end
-  pub board-ended :
-      (i : ℕ) → i < book .tasks → Ended book i
-      → ((j : ℕ) → j < book .tasks → at (book .board) j ≡ at (book .board) i → Running book j → ⊥)
-      → ((j : ℕ) → j < book .tasks → at (book .board) j ≡ at (book .board) i → Ended book j → endOf book j ≤ endOf book i)
-      → boardFigure book (at (book .board) i) ≡ at (book .finish) i - endOf book i
-  board-ended = figures.board-ended book (record { sized = size; sound = sound })
-
--- else 0
-pub board-idle :
-    (book : Book) (on : ℕ) → ((j : ℕ) → j < book .tasks → at (book .board) j ≡ on → Running book j → ⊥)
-    → ((j : ℕ) → j < book .tasks → at (book .board) j ≡ on → Ended book j → ⊥) → boardFigure book on ≡ 0
-board-idle = figures.board-idle
+  -- and 0 if none runs
+  pub figure-none : ((i : ℕ) → i < book .tasks → Running book i → ⊥) → figureOf book .early ≡ 0
+  figure-none = figures.none-running book sound
 
 -- both round trips: an accepted text is written back byte for byte
 pub text-back : (text : List ℕ) → readingOf text .answer .code ≡ 0 → textOf (readingOf text .plan) ≡ text

@@ -261,11 +261,11 @@ module _ (plan : Plan) (size : SizedPlan plan) (ok : isAccepted plan ≡ true) w
     pub not-late : (i : ℕ) → i < plan .tasks → Started book i → startOf book i ≤ at (plan .begin) i
     not-late = order.never-late (planFor plan) (bookView book) sound-on law
 
-    figure-is : figureOf book .early ≡ minimumEarly (planFor plan) (plan .boards) (at (plan .board)) (bookView book)
+    figure-is : figureOf book .early ≡ minimumEarly (planFor plan) (bookView book)
     unfolding figureOf
     figure-is =
-        let e : figureOf book .early ≡ minimumEarly (planView book) (book .boards) (at (book .board)) (bookView book) = rw (on .good .sound) in
-        e ∙ ap (λ (p : Plan). minimumEarly (planFor p) (p .boards) (at (p .board)) (bookView book)) (on .same)
+        let e : figureOf book .early ≡ minimumEarly (planView book) (bookView book) = rw (on .good .sound) in
+        e ∙ ap (λ (p : Plan). minimumEarly (planFor p) (bookView book)) (on .same)
 
     later-is :
         (later : List Report)
@@ -278,9 +278,7 @@ module _ (plan : Plan) (size : SizedPlan plan) (ok : isAccepted plan ≡ true) w
         (later : List Report) (i : ℕ) → i < plan .tasks → (Ended book i → ⊥)
         → EarlyBy plan (figureOf book .early) (bookAfter book later) i
     early-kept later i l n =
-        let boards : (k : ℕ) → k < plan .tasks → (0 < at (plan .board) k) × (at (plan .board) k ≤ plan .boards) =
-        λ k lk. (plan-facts plan ok .task k lk .board-from, plan-facts plan ok .task k lk .board-to) in
-        let f = kept.figure-kept (planFor plan) (plan .boards) (at (plan .board)) law boards (bookView book) sound-on (map (seen (plan .tasks)) later) i l n in
+        let f = kept.figure-kept (planFor plan) law (bookView book) sound-on (map (seen (plan .tasks)) later) i l n in
         let m = ap (λ (b : theory-book.Book). b .mark i) (later-is later) in
         let s = ap (λ (b : theory-book.Book). b .start i) (later-is later) in
         let e = ap (λ (b : theory-book.Book). b .end i) (later-is later) in

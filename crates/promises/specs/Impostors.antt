@@ -3,7 +3,8 @@ use Prim.Native.Nat.{ℕ, zero, suc, _-_}
 use mathlib.Core.Path.{_≡_, refl}
 use mathlib.Core.Bool.{Bool, true, not, cond, _&&_, _||_}
 use mathlib.Core.List.{List, [], _∷_}
-use lib.Dec.{ltb}
+use mathlib.Core.Option.{Option·getD}
+use lib.Dec.{ltb, eqb}
 use lib.ListN.{set}
 use Rattle.laws.specs.Digits.{valueAfter}
 use Rattle.laws.specs.Lists.{allOf, anyOf, rising, same}
@@ -25,7 +26,7 @@ use Rattle.plan.specs.declared.Reading.{Reading}
 use Rattle.theory.specs.Plan as theory-plan
 use Rattle.theory.specs.Book.{allEnded, taskTest, soundTest, running, waiting}
 use Rattle.theory.specs.Report.{Report, nonePast, reportCode, goes, opened}
-use Rattle.theory.specs.Figure.{boardEarly, minimumEarly}
+use Rattle.theory.specs.Figure.{minimumEarly}
 use Rattle.book.specs.View.{planIn, planView, bookView}
 use Rattle.book.specs.Sound.{isSound}
 use Rattle.book.specs.Open.{blankBook, letGoIn, openedOn, openingOf}
@@ -47,18 +48,38 @@ alwaysZero book = 0
 abbrev pub fromReport : Book → Report → ℕ
 fromReport book r = at (book .finish) (r .task - 1) - r .tick
 
--- M as the largest board's figure
-abbrev pub largestBoard : Book → ℕ
-largestBoard book = latest (book .boards) (λ j. true) (λ j. boardEarly (planView book) (at (book .board)) (bookView book) (suc j))
+-- the greatest instead of the least
+abbrev pub greatest : Book → ℕ
+greatest book = latest (book .tasks) (running (at (book .mark))) (λ i. at (book .begin) i - at (book .start) i)
 
--- at clock 4 M is 1, and the impostors show 0, 2 and 2
+-- M over boards: a board with no work shows 0 and pins the figure
+abbrev pub boardShows : Book → ℕ → ℕ
+boardShows book on =
+    Option·getD
+    (least (book .tasks) (λ i. running (at (book .mark)) i && eqb (at (book .board) i) on) (λ i. at (book .begin) i - at (book .start) i))
+    0
+
+abbrev pub overBoards : Book → ℕ
+overBoards book = Option·getD (least (book .boards) (λ j. true) (λ j. boardShows book (suc j))) 0
+
+-- plan A at clock 6, where both boards run, and at clock 8, where board 2 is done
+abbrev pub atSix : List Report
+atSix = end 2 3 ∷ end 1 4 ∷ end 3 6 ∷ []
+
+abbrev pub atEight : List Report
+atEight = end 2 3 ∷ end 1 4 ∷ end 3 6 ∷ end 5 8 ∷ []
+
+-- at clock 4 M is 1, and 0 and the last report's show 0 and 2; at 6 it is 3 and the greatest 4; at 8 it is 3 and over boards 0
 pub figure-impostors :
     (figureOf (bookA atFour) .early ≡ 1)
     × (alwaysZero (bookA atFour) ≡ 0)
     × (fromReport (bookA atFour) (end 1 4) ≡ 2)
-    × (largestBoard (bookA atFour) ≡ 2)
-unfolding textAnswer sizesOk isNumber valueAfter allOf same splitOn consFirst indexOf skip linesAnswer lineAnswer lineCode isTaskLine isList isHold listOf holdOf lineTask holdsOk afterOk rising scan firstFault rowFault pairCode clashByDrive isListed anyOf readingOf planOf each rows planA bookA bookAfter openingOf openedOn letGoIn blankBook isAccepted rangesOk keptOk every blankFrom goes allEnded reportedOf reportAnswer codeOf reportCode nonePast nextBook endedIn isSound soundTest taskTest latest figureOf minimumEarly boardEarly least
-figure-impostors = (refl, refl, refl, refl)
+    × (figureOf (bookA atSix) .early ≡ 3)
+    × (greatest (bookA atSix) ≡ 4)
+    × (figureOf (bookA atEight) .early ≡ 3)
+    × (overBoards (bookA atEight) ≡ 0)
+unfolding textAnswer sizesOk isNumber valueAfter allOf same splitOn consFirst indexOf skip linesAnswer lineAnswer lineCode isTaskLine isList isHold listOf holdOf lineTask holdsOk afterOk rising scan firstFault rowFault pairCode clashByDrive isListed anyOf readingOf planOf each rows planA bookA bookAfter openingOf openedOn letGoIn blankBook isAccepted rangesOk keptOk every blankFrom goes allEnded reportedOf reportAnswer codeOf reportCode nonePast nextBook endedIn isSound soundTest taskTest latest figureOf minimumEarly least
+figure-impostors = (refl, refl, refl, refl, refl, refl, refl)
 
 -- a reader that gives one fixed plan, and one that refuses all texts
 abbrev pub fixedReader : List ℕ → Reading
@@ -73,7 +94,7 @@ pub reader-impostors :
     × (readingOf textOne .plan .tasks ≡ 1)
     × (fixedReader textOne .plan .tasks ≡ 5)
     × (readingOf textA .answer .code ≡ 0)
-unfolding textAnswer sizesOk isNumber valueAfter allOf same splitOn consFirst indexOf skip linesAnswer lineAnswer lineCode isTaskLine isList isHold listOf holdOf lineTask holdsOk afterOk rising scan firstFault rowFault pairCode clashByDrive isListed anyOf readingOf planOf each rows planA bookA bookAfter openingOf openedOn letGoIn blankBook isAccepted rangesOk keptOk every blankFrom goes allEnded reportedOf reportAnswer codeOf reportCode nonePast nextBook endedIn isSound soundTest taskTest latest figureOf minimumEarly boardEarly least
+unfolding textAnswer sizesOk isNumber valueAfter allOf same splitOn consFirst indexOf skip linesAnswer lineAnswer lineCode isTaskLine isList isHold listOf holdOf lineTask holdsOk afterOk rising scan firstFault rowFault pairCode clashByDrive isListed anyOf readingOf planOf each rows planA bookA bookAfter openingOf openedOn letGoIn blankBook isAccepted rangesOk keptOk every blankFrom goes allEnded reportedOf reportAnswer codeOf reportCode nonePast nextBook endedIn isSound soundTest taskTest latest figureOf minimumEarly least
 reader-impostors = (refl, refl, refl, refl)
 
 -- a dispatcher that hands the book back unaltered: after end 2 at 3 task 3 runs from 3, and in the unaltered book it waits
@@ -81,7 +102,7 @@ pub unaltered-impostor :
     (at (reportedOf (bookA []) 2 3 .book .mark) 2 ≡ 1)
     × (at (reportedOf (bookA []) 2 3 .book .start) 2 ≡ 3)
     × (at (bookA [] .mark) 2 ≡ 0)
-unfolding textAnswer sizesOk isNumber valueAfter allOf same splitOn consFirst indexOf skip linesAnswer lineAnswer lineCode isTaskLine isList isHold listOf holdOf lineTask holdsOk afterOk rising scan firstFault rowFault pairCode clashByDrive isListed anyOf readingOf planOf each rows planA bookA bookAfter openingOf openedOn letGoIn blankBook isAccepted rangesOk keptOk every blankFrom goes allEnded reportedOf reportAnswer codeOf reportCode nonePast nextBook endedIn isSound soundTest taskTest latest figureOf minimumEarly boardEarly least
+unfolding textAnswer sizesOk isNumber valueAfter allOf same splitOn consFirst indexOf skip linesAnswer lineAnswer lineCode isTaskLine isList isHold listOf holdOf lineTask holdsOk afterOk rising scan firstFault rowFault pairCode clashByDrive isListed anyOf readingOf planOf each rows planA bookA bookAfter openingOf openedOn letGoIn blankBook isAccepted rangesOk keptOk every blankFrom goes allEnded reportedOf reportAnswer codeOf reportCode nonePast nextBook endedIn isSound soundTest taskTest latest figureOf minimumEarly least
 unaltered-impostor = (refl, refl, refl)
 
 -- "Starting a task once its board and drives are free": four tasks, all taking their full length
@@ -137,7 +158,7 @@ pub board-free-shortcut :
     × (at (runOf planFour (end 1 4 ∷ end 2 5 ∷ end 3 6 ∷ end 4 9 ∷ []) .start) 2 ≡ 5)
     × (at (runOf planFour (end 1 4 ∷ end 2 5 ∷ end 3 6 ∷ end 4 9 ∷ []) .start) 3 ≡ 6)
     × (at (runOf planFour (end 1 4 ∷ end 2 5 ∷ end 3 6 ∷ end 4 9 ∷ []) .end) 3 ≡ 9)
-unfolding textAnswer sizesOk isNumber valueAfter allOf same splitOn consFirst indexOf skip linesAnswer lineAnswer lineCode isTaskLine isList isHold listOf holdOf lineTask holdsOk afterOk rising scan firstFault rowFault pairCode clashByDrive isListed anyOf readingOf planOf each rows planA bookA bookAfter openingOf openedOn letGoIn blankBook isAccepted rangesOk keptOk every blankFrom goes allEnded reportedOf reportAnswer codeOf reportCode nonePast nextBook endedIn isSound soundTest taskTest latest figureOf minimumEarly boardEarly least planFour startFree shortcut
+unfolding textAnswer sizesOk isNumber valueAfter allOf same splitOn consFirst indexOf skip linesAnswer lineAnswer lineCode isTaskLine isList isHold listOf holdOf lineTask holdsOk afterOk rising scan firstFault rowFault pairCode clashByDrive isListed anyOf readingOf planOf each rows planA bookA bookAfter openingOf openedOn letGoIn blankBook isAccepted rangesOk keptOk every blankFrom goes allEnded reportedOf reportAnswer codeOf reportCode nonePast nextBook endedIn isSound soundTest taskTest latest figureOf minimumEarly least planFour startFree shortcut
 board-free-shortcut = (refl, refl, refl, refl, refl, refl)
 
 -- "Waiting only for tasks that finish strictly before"
@@ -157,5 +178,5 @@ pub strict-shortcut :
     × (at (planA .board) 1 ≡ 2)
     × (at (planA .board) 2 ≡ 2)
     × (at (bookA [] .mark) 2 ≡ 0)
-unfolding textAnswer sizesOk isNumber valueAfter allOf same splitOn consFirst indexOf skip linesAnswer lineAnswer lineCode isTaskLine isList isHold listOf holdOf lineTask holdsOk afterOk rising scan firstFault rowFault pairCode clashByDrive isListed anyOf readingOf planOf each rows planA bookA bookAfter openingOf openedOn letGoIn blankBook isAccepted rangesOk keptOk every blankFrom goes allEnded reportedOf reportAnswer codeOf reportCode nonePast nextBook endedIn isSound soundTest taskTest latest figureOf minimumEarly boardEarly least opened
+unfolding textAnswer sizesOk isNumber valueAfter allOf same splitOn consFirst indexOf skip linesAnswer lineAnswer lineCode isTaskLine isList isHold listOf holdOf lineTask holdsOk afterOk rising scan firstFault rowFault pairCode clashByDrive isListed anyOf readingOf planOf each rows planA bookA bookAfter openingOf openedOn letGoIn blankBook isAccepted rangesOk keptOk every blankFrom goes allEnded reportedOf reportAnswer codeOf reportCode nonePast nextBook endedIn isSound soundTest taskTest latest figureOf minimumEarly least opened
 strict-shortcut = (refl, refl, refl, refl, refl, refl)

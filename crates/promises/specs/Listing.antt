@@ -1,4 +1,4 @@
--- Document 01's listing: the whole output on plan A and its ends.
+-- Document 01's listing, its last line as request P1 has it: the whole output on plan A and its ends.
 use Prim.Native.Nat.{ℕ}
 use mathlib.Core.Path.{_≡_, refl}
 use mathlib.Core.Bool.{Bool, true}
@@ -26,7 +26,7 @@ use Rattle.plan.specs.Value.{planOf, blankFrom, keptOk, rangesOk, isAccepted}
 use Rattle.plan.specs.Read.{sizesOk, isTaskLine, lineTask, lineCode, lineAnswer, linesAnswer, textAnswer, readingOf}
 use Rattle.theory.specs.Book.{allEnded, taskTest, soundTest}
 use Rattle.theory.specs.Report.{Report, nonePast, reportCode, goes}
-use Rattle.theory.specs.Figure.{boardEarly, minimumEarly}
+use Rattle.theory.specs.Figure.{minimumEarly}
 use Rattle.book.specs.Sound.{isSound}
 use Rattle.book.specs.Open.{blankBook, letGoIn, openedOn, openingOf}
 use Rattle.book.specs.Report.{codeOf, reportAnswer, endedIn, nextBook, reportedOf}
@@ -38,12 +38,12 @@ endsA = bytes "end\t2\t3\nend\t1\t4\nend\t3\t6\nend\t5\t8\nend\t4\t9\n"
 abbrev pub logA : List ℕ
 logA =
     bytes
-    "run\t1\t2\t5\nstart\t1\t1\t0\t0\nstart\t2\t2\t0\t0\nearly\t0\t0\nend\t2\t2\t3\t1\nstart\t3\t2\t3\t1\nearly\t3\t0\nend\t1\t1\t4\t2\nearly\t4\t1\nend\t3\t2\t6\t3\nstart\t4\t1\t6\t3\nstart\t5\t2\t6\t4\nearly\t6\t3\nend\t5\t2\t8\t6\nearly\t8\t3\nend\t4\t1\t9\t3\nearly\t9\t3\n"
+    "run\t1\t2\t5\nstart\t1\t1\t0\t0\nstart\t2\t2\t0\t0\nearly\t0\t0\nend\t2\t2\t3\t1\nstart\t3\t2\t3\t1\nearly\t3\t0\nend\t1\t1\t4\t2\nearly\t4\t1\nend\t3\t2\t6\t3\nstart\t4\t1\t6\t3\nstart\t5\t2\t6\t4\nearly\t6\t3\nend\t5\t2\t8\t6\nearly\t8\t3\nend\t4\t1\t9\t3\nearly\t9\t0\n"
 
 pub listing : logOf textA endsA ≡ logA
 unfolding
     logOf openLog reportLog endsLog numbersLine startLines isEndLine entryOf joinOn digitsOf digitsFrom
     textAnswer sizesOk isNumber valueAfter allOf same splitOn consFirst indexOf skip linesAnswer lineAnswer lineCode
     isTaskLine isList isHold listOf holdOf lineTask holdsOk afterOk rising scan firstFault rowFault pairCode clashByDrive
-    isListed anyOf readingOf planOf each rows openingOf openedOn letGoIn blankBook isAccepted rangesOk keptOk every blankFrom goes allEnded reportedOf reportAnswer codeOf reportCode nonePast nextBook endedIn isSound soundTest taskTest latest figureOf minimumEarly boardEarly least
+    isListed anyOf readingOf planOf each rows openingOf openedOn letGoIn blankBook isAccepted rangesOk keptOk every blankFrom goes allEnded reportedOf reportAnswer codeOf reportCode nonePast nextBook endedIn isSound soundTest taskTest latest figureOf minimumEarly least
 listing = refl

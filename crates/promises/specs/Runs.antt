@@ -7,7 +7,6 @@ use mathlib.Core.Bool.{cond}
 use mathlib.Core.List.{List, [], _∷_, List·Memᴰ}
 use Rattle.theory.specs.Report.{Report}
 use Rattle.theory.specs.Book as theory-book
-use Rattle.theory.specs.Figure.{boardEarly}
 use Rattle.plan.specs.Answer.{granted, isGranted}
 use Rattle.plan.specs.Value.{at}
 use Rattle.plan.specs.declared.Plan.{Plan}
@@ -104,7 +103,3 @@ pub record Finishes (book : Book) : Type 0 where
   pub reports : List Report
   pub each-accepted : acceptedOf book reports ≡ reports
   pub all-ended : (i : ℕ) → i < book .tasks → Ended (bookAfter book reports) i
-
--- the figure of one board
-abbrev pub boardFigure : Book → ℕ → ℕ
-boardFigure book on = boardEarly (planView book) (at (book .board)) (bookView book) on

@@ -20,7 +20,7 @@ use Rattle.plan.specs.Value.{planOf, blankFrom, keptOk, rangesOk, isAccepted}
 use Rattle.plan.specs.Read.{sizesOk, isTaskLine, lineTask, lineCode, lineAnswer, linesAnswer, textAnswer, readingOf}
 use Rattle.theory.specs.Book.{allEnded, taskTest, soundTest}
 use Rattle.theory.specs.Report.{Report, nonePast, reportCode, goes}
-use Rattle.theory.specs.Figure.{boardEarly, minimumEarly}
+use Rattle.theory.specs.Figure.{minimumEarly}
 use Rattle.book.specs.Sound.{isSound}
 use Rattle.book.specs.Open.{blankBook, letGoIn, openedOn, openingOf}
 use Rattle.book.specs.Report.{codeOf, reportAnswer, endedIn, nextBook, reportedOf}
@@ -60,12 +60,12 @@ starredItems =
     ∷ shows (end 2 3 ∷ end 1 4 ∷ []) 1
     ∷ shows (end 2 3 ∷ end 1 4 ∷ end 3 6 ∷ []) 3
     ∷ shows (end 2 3 ∷ end 1 4 ∷ end 3 6 ∷ end 5 8 ∷ []) 3
-    ∷ shows (end 2 3 ∷ end 1 4 ∷ end 3 6 ∷ end 5 8 ∷ end 4 9 ∷ []) 3
+    ∷ shows (end 2 3 ∷ end 1 4 ∷ end 3 6 ∷ end 5 8 ∷ end 4 9 ∷ []) 0
     ∷ []
 
 pub starred : allOf holds starredItems ≡ true
 unfolding
     textAnswer sizesOk isNumber valueAfter allOf same splitOn consFirst indexOf skip linesAnswer lineAnswer lineCode
     isTaskLine isList isHold listOf holdOf lineTask holdsOk afterOk rising scan firstFault rowFault pairCode clashByDrive
-    isListed anyOf readingOf planOf each rows planA bookA bookAfter starredItems openingOf openedOn letGoIn blankBook isAccepted rangesOk keptOk every blankFrom goes allEnded reportedOf reportAnswer codeOf reportCode nonePast nextBook endedIn isSound soundTest taskTest latest figureOf minimumEarly boardEarly least
+    isListed anyOf readingOf planOf each rows planA bookA bookAfter starredItems openingOf openedOn letGoIn blankBook isAccepted rangesOk keptOk every blankFrom goes allEnded reportedOf reportAnswer codeOf reportCode nonePast nextBook endedIn isSound soundTest taskTest latest figureOf minimumEarly least
 starred = refl

@@ -3,47 +3,26 @@ use mathlib.Core.Path.{_≡_}
 use mathlib.Core.Logic.{_≢_}
 use mathlib.Core.Bool.{true}
 use mathlib.Core.List.{List}
-use mathlib.Core.Option.{Option·getD}
 use Prim.Native.Nat.{ℕ, zero, suc, _+_, _-_, _≤_, _<_}
 use native.Mathlib.Omega.{arith}
-use borrow.Author.Tests.{eq-eqb, eqb-true}
 use Rattle.laws.specs.Cases.{by-eq}
 use Rattle.laws.specs.Latest.{latest-under}
-use Rattle.laws.specs.Least.{least, least-or-over}
 use Rattle.theory.specs.Plan.{Plan, Lawful}
-use Rattle.theory.specs.Book.{Book, running, Sound}
+use Rattle.theory.specs.Book.{Book, Sound}
 use Rattle.theory.specs.Report.{Report, run}
 use Rattle.theory.specs.Figure.{minimumEarly}
 use Rattle.theory.proofs.Task.{mark-range, waiting-why, ended-within, end-by-clock}
 use Rattle.theory.proofs.Step.{sound-run}
 use Rattle.theory.proofs.Later.{Later, later-run}
-use Rattle.theory.proofs.Boards.{OnBoards, figure-least, board-under}
+use Rattle.theory.proofs.Figure.{figure-least}
 use Rattle.theory.proofs.Order.{in-order, started-due, never-late}
 
-module _ (plan : Plan) (boards : ℕ) (board : ℕ → ℕ) (book : Book) (on : OnBoards plan boards board) where
-  -- M is at most what each running task is early by
-  figure-under :
-      (j : ℕ) → j < plan .tasks → book .mark j ≡ 1
-      → minimumEarly plan boards board book ≤ plan .begin j - book .start j
-  figure-under j l m =
-      let u = figure-least plan boards board book (board j) ((on j l) .0) ((on j l) .1) in
-      let v = board-under plan board book j l m in
-      omega arith
-
-  -- so it is at most the least over all that run
-  pub figure-below-running :
-      (otherwise j : ℕ) → j < plan .tasks → book .mark j ≡ 1
-      → minimumEarly plan boards board book
-      ≤ Option·getD (least (plan .tasks) (running (book .mark)) (λ i. plan .begin i - book .start i)) otherwise
-  figure-below-running otherwise j l m =
-      least-or-over (plan .tasks) (running (book .mark)) _ otherwise _
-      (λ i li h. figure-under i li (eqb-true (book .mark i) 1 h)) j l (eq-eqb (book .mark j) 1 m)
-
-  pub running-low :
-      Lawful plan → Sound plan book → (j : ℕ) → j < plan .tasks → book .mark j ≡ 1
-      → book .start j + minimumEarly plan boards board book ≤ plan .begin j
-  running-low law sound j l m =
-      let u = figure-under j l m in let n = never-late plan book sound law j l (omega arith) in omega arith
+-- whoever runs is early by M at least
+running-low :
+    (plan : Plan) (book : Book) → Lawful plan → Sound plan book → (j : ℕ) → j < plan .tasks → book .mark j ≡ 1
+    → book .start j + minimumEarly plan book ≤ plan .begin j
+running-low plan book law sound j l m =
+    let u = figure-least plan book j l m in let n = never-late plan book sound law j l (omega arith) in omega arith
 
 -- what is promised of a task in a later book: it starts and ends at least so many ticks early
 pub record EarlyBy (plan : Plan) (early : ℕ) (later : Book) (i : ℕ) : Type 0 where
@@ -103,9 +82,8 @@ module _ (plan : Plan) (law : Lawful plan) (book later : Book) (sound : Sound pl
 
 -- whoever has not ended yet, started or not, is early by M for good
 pub figure-kept :
-    (plan : Plan) (boards : ℕ) (board : ℕ → ℕ) → Lawful plan → OnBoards plan boards board → (book : Book) → Sound plan book
-    → (reports : List Report) (i : ℕ) → i < plan .tasks → book .mark i ≢ 2
-    → EarlyBy plan (minimumEarly plan boards board book) (run plan book reports) i
-figure-kept plan boards board law on book sound reports =
+    (plan : Plan) → Lawful plan → (book : Book) → Sound plan book → (reports : List Report) (i : ℕ) → i < plan .tasks
+    → book .mark i ≢ 2 → EarlyBy plan (minimumEarly plan book) (run plan book reports) i
+figure-kept plan law book sound reports =
     early-kept plan law book (run plan book reports) sound (sound-run plan book reports sound) (later-run plan book reports)
-    (minimumEarly plan boards board book) (running-low plan boards board book on law sound)
+    (minimumEarly plan book) (running-low plan book law sound)

@@ -5,7 +5,7 @@ pub mod Step
 pub mod Run
 pub mod Later
 pub mod Order
-pub mod Boards
+pub mod Figure
 pub mod Kept
 pub mod Past
 pub mod Same

@@ -1,48 +1,63 @@
-use Rattle.book.proofs.EarlyLaws.{leastTo, least-first, least-less, least-keep}
+use Rattle.book.proofs.EarlyLaws.{LeastTo, least-first, least-taken, least-passed, least-is}
+use borrow.Author.Tests.{eq-eqb, ne-eqb}
 use Rattle.plan.specs.Value.{at}
-use Rattle.theory.specs.Figure.{boardEarly, minimumEarly}
-use Rattle.book.specs.View.{planSeen, bookSeen}
+use Rattle.theory.specs.Book.{running}
+use Rattle.theory.specs.Figure.{minimumEarly}
 use mathlib.Core.Logic.{⊎-elim}
 use native.Mathlib.Omega.{arith}
 use mathlib.Core.Path.{_≡_, _∙_}
-use Prim.Native.Nat.{_+_, _-_, _<_, _≤_}
+use Prim.Native.Nat.{_-_, _≤_}
 use borrow.Author.Needs.{needs}
 use Rattle.book.proofs.early.least_early.Statement.{statement}
 use Rattle.book.proofs.early.least_early.Tie as tie
 
 abbrev Inv-loop : tie.InvT-loop
-Inv-loop board begin finish start end mark boards tasks least₀ j₀ least j = (0 < j) × (j ≤ boards) × (least ≡ leastTo (λ x. boardEarly (planSeen tasks begin finish) (at board) (bookSeen mark start end 0) (x + 1)) j)
+Inv-loop begin start mark tasks least₀ found₀ i₀ least found i = (i ≤ tasks) × LeastTo i (running (at mark)) (λ k. at begin k - at start k) found least
 
 abbrev μ-loop : tie.MeasureT-loop
-μ-loop board begin finish start end mark boards tasks least₀ j₀ least j = boards - j
-
-board-early-requires : tie.Need-board-early-requires Inv-loop μ-loop
-board-early-requires c κs = (c .pre .0 .0, c .pre .1)
+μ-loop begin start mark tasks least₀ found₀ i₀ least found i = tasks - i
 
 loop-holds : tie.Need-loop-holds Inv-loop μ-loop
-loop-holds c = (omega arith, omega arith, c .board-early .ensures ∙ least-first _)
+loop-holds c = (omega arith, least-first _ _)
 
-add-board-early : tie.Need-add-board-early Inv-loop μ-loop
-add-board-early c = search needs
+element-copy-out-if1 : tie.Need-element-copy-out-if1 Inv-loop μ-loop
+element-copy-out-if1 c = search needs
 
-board-early-requires-2 : tie.Need-board-early-requires-2 Inv-loop μ-loop
-board-early-requires-2 c κs = (c .before .before .before .pre .0 .0, c .before .before .before .pre .1)
+mul-less : tie.Need-mul-less Inv-loop μ-loop
+mul-less c = search needs
 
-add-j : tie.Need-add-j Inv-loop μ-loop
-add-j c = search needs
+element-copy-out-less : tie.Need-element-copy-out-less Inv-loop μ-loop
+element-copy-out-less c = search needs
+
+mul-less-2 : tie.Need-mul-less-2 Inv-loop μ-loop
+mul-less-2 c = search needs
+
+element-copy-out-less-2 : tie.Need-element-copy-out-less-2 Inv-loop μ-loop
+element-copy-out-less-2 c = search needs
+
+less-requires : tie.Need-less-requires Inv-loop μ-loop
+less-requires c κs = search needs
+
+lesser-requires : tie.Need-lesser-requires Inv-loop μ-loop
+lesser-requires c κs = search needs
+
+add-i : tie.Need-add-i Inv-loop μ-loop
+add-i c = search needs
 
 loop-less : tie.Need-loop-less Inv-loop μ-loop
 loop-less c = search needs
 
 loop-again : tie.Need-loop-again Inv-loop μ-loop
 loop-again c = ⊎-elim
-    (λ w. (omega arith, omega arith, w .1 ∙ least-less _ _ (c .before .before .before .loop .inv .0) (c .before .before .before .loop .inv .2) (c .before .board-early2 .ensures) (w .0 .taken)))
-    (λ w. (omega arith, omega arith, w .1 ∙ least-keep _ _ (c .before .before .before .loop .inv .0) (c .before .before .before .loop .inv .2) (c .before .board-early2 .ensures) (w .0 .left)))
+    (λ w. (omega arith, least-taken _ _ _ (c .before .before .before .loop .inv .1) (eq-eqb _ 1 (w .0 .taken)) (w .3 .ensures) (w .6) (w .5 ∙ w .4 .ensures)))
+    (λ w. (omega arith, least-passed _ _ _ (c .before .before .before .loop .inv .1) (ne-eqb _ 1 (w .0 .left)) (w .2) (w .1)))
     (c .if1 .came)
 
 returns : tie.Need-returns Inv-loop μ-loop
 unfolding minimumEarly
-returns c = let e : c .before .loop .j ≡ c .before .before .before .args .boards = omega arith in rw e at (c .before .loop .inv .2)
+returns c =
+    let e : c .before .loop .i ≡ c .before .before .args .tasks = omega arith in
+    rw e at (least-is _ _ _ (c .before .loop .inv .1))
 
 pub least-early-spec : {M : Type 1} → statement M
 least-early-spec =
@@ -50,11 +65,15 @@ least-early-spec =
     (tie.spec
     Inv-loop
     μ-loop
-    board-early-requires
     loop-holds
-    add-board-early
-    board-early-requires-2
-    add-j
+    element-copy-out-if1
+    mul-less
+    element-copy-out-less
+    mul-less-2
+    element-copy-out-less-2
+    less-requires
+    lesser-requires
+    add-i
     loop-less
     loop-again
     returns)
