@@ -4,13 +4,14 @@
 //! `cargo bench` takes the times; `cargo test` only calls everything once, and
 //! so does `cargo bench` where the proved implementation runs under an emulator.
 
+use dispatcher::sample::events::{droppable_tasks, must_take, passed_tasks, Event};
 use dispatcher::sample::plans::full_plan;
 use dispatcher::sample::reports::{accepted_report, Report};
 use dispatcher::sample::{announced_seed, Rng};
 use dispatcher::text::plan_text;
 use dispatcher::values::LONGEST_TEXT;
-use dispatcher::{accepted, minimum_early, open_book, proved, read_plan, report, run_log};
-use dispatcher::{write_plan, Answer, Book, Plan};
+use dispatcher::{accepted, drop_task, minimum_early, open_book, proved, read_plan, report};
+use dispatcher::{run_log, write_plan, Answer, Book, Plan};
 use std::fs;
 use std::hint::black_box;
 use std::time::{Duration, Instant};
@@ -129,6 +130,54 @@ fn time_morning(rounds: u32) {
     );
 }
 
+/// A fresh book with a quarter of its tasks dropped, those that follow each
+/// other by the plan from its middle on.
+fn with_a_quarter_dropped(plan: &Plan) -> Book {
+    let mut book = open_book(plan).book;
+    let mut droppable = droppable_tasks(&book);
+    droppable.sort_by_key(|&task| plan.begin[task as usize - 1]);
+    let from = droppable.len() / 2;
+    for &task in droppable[from..].iter().take(plan.task_count() / 4) {
+        book = must_take(&book, Event::Drop(task));
+    }
+    book
+}
+
+/// The report of a morning that lets the most dropped tasks pass, the book
+/// before it, and how many they are.
+fn report_with_most_passing(rng: &mut Rng, plan: &Plan) -> (Book, Report, usize) {
+    let mut book = with_a_quarter_dropped(plan);
+    let mut best = (book, (0, 0), 0);
+    while let Some((task, tick)) = accepted_report(rng, &book) {
+        let next = must_take(&book, Event::End(task, tick));
+        let passed = passed_tasks(&book, &next).len();
+        if passed > best.2 {
+            best = (book, (task, tick), passed);
+        }
+        book = next;
+    }
+    best
+}
+
+fn time_drops(rounds: u32, rng: &mut Rng) {
+    let plan = full_plan(rng, 64);
+    let (book, (task, tick), passed) = report_with_most_passing(rng, &plan);
+    assert!(passed >= 3, "no chain of dropped tasks");
+    time_both(
+        rounds,
+        &format!("report, {passed} dropped pass"),
+        || proved::report(black_box(&book), task, tick),
+        || report(black_box(&book), task, tick),
+    );
+    let waiting = droppable_tasks(&book)[0];
+    time_both(
+        rounds,
+        "drop, 64 tasks",
+        || proved::drop_task(black_box(&book), waiting),
+        || drop_task(black_box(&book), waiting),
+    );
+}
+
 fn main() {
     // Cargo says --bench to a benchmark only when times are wanted.
     let times_wanted = std::env::args().any(|arg| arg == "--bench");
@@ -145,4 +194,5 @@ fn main() {
     for tasks in [8, 16, 32, 64] {
         time_book(rounds, &mut rng, tasks);
     }
+    time_drops(rounds, &mut rng);
 }

@@ -26,6 +26,7 @@ struct book { u32 words[BOOK_SIZE / 4]; };
 struct reading { struct answer answer; struct plan plan; };
 struct opening { struct answer answer; struct book book; };
 struct reported { struct answer answer; struct book book; };
+struct dropped { struct answer answer; struct book book; };
 struct figure { struct answer answer; u32 early; };
 struct written { struct answer answer; u32 length; };
 
@@ -35,6 +36,7 @@ struct written dispatch_write_plan(struct plan plan, u8 *out, usize length);
 struct opening dispatch_open_book(struct plan plan);
 u32 dispatch_is_sound(struct book book);
 struct reported dispatch_report(struct book book, u32 task, u32 tick);
+struct dropped dispatch_drop(struct book book, u32 task);
 struct figure dispatch_minimum_early(struct book book);
 usize dispatch_run_log(const u8 *plan, usize plan_length, const u8 *ends, usize ends_length, u8 *out, usize length);
 
@@ -133,6 +135,12 @@ static void report(void) {
     ANSWER(struct reported, dispatch_report(book, task, tick), NONE);
 }
 
+static void drop(void) {
+    TAKE(struct book, book);
+    TAKE(u32, task);
+    ANSWER(struct dropped, dispatch_drop(book, task), NONE);
+}
+
 static void minimum_early(void) {
     TAKE(struct book, book);
     ANSWER(struct figure, dispatch_minimum_early(book), NONE);
@@ -209,6 +217,7 @@ static const struct { void (*answer)(void); const void *function; } ops[256] = {
     ['o'] = {open_book, dispatch_open_book},
     ['s'] = {is_sound, dispatch_is_sound},
     ['e'] = {report, dispatch_report},
+    ['d'] = {drop, dispatch_drop},
     ['m'] = {minimum_early, dispatch_minimum_early},
     ['l'] = {run_log, dispatch_run_log},
     ['0'] = {0, nothing},

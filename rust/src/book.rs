@@ -1,12 +1,15 @@
-//! The book of a morning: opening it, taking reports, the minimum-early figure.
+//! The book of a morning: opening it, taking reports and drops, the
+//! minimum-early figure.
 //!
 //! Settled here where the document is silent: a mark other than waiting,
-//! running and ended makes a book unsound; a report's tick above 1,000,000 is
-//! no fault of its own and meets codes 11 to 14 like any other tick.
+//! running and ended makes a book unsound, and so does a `dropped` other than
+//! 0 and 1; a report's tick above 1,000,000 is no fault of its own and meets
+//! codes 11 to 14 like any other tick.
 
 use crate::judge::accepted;
 use crate::values::{
-    refusal, Answer, Book, Figure, Opening, Plan, Reported, ENDED, RUNNING, WAITING,
+    refusal, Answer, Book, Dropped, Figure, Opening, Plan, Reported, DROPPED, ENDED, RUNNING,
+    WAITING,
 };
 
 /// A fresh book on the plan, or refusal 9 and a book of zeros.
@@ -27,20 +30,20 @@ pub fn open_book(plan: &Plan) -> Opening {
         after: plan.after,
         ..Book::ZERO
     };
-    start_all_that_can(&mut book);
+    let_go_all_that_can(&mut book);
     Opening {
         answer: Answer::ACCEPTED,
         book,
     }
 }
 
-/// Whether an accepted plan and accepted reports give this book.
+/// Whether an accepted plan and accepted reports and drops give this book.
 pub fn sound(book: &Book) -> bool {
     if !accepted(&book.plan()) {
         return false;
     }
     let count = usize::from(book.tasks);
-    (count..64).all(|i| nothing_known(book, i) && book.mark[i] == 0)
+    (count..64).all(|i| nothing_known(book, i) && book.mark[i] == 0 && book.dropped[i] == 0)
         && (0..count).all(|i| task_is_sound(book, i))
         && book.clock == greatest_end(book)
 }
@@ -59,8 +62,23 @@ pub fn report(book: &Book, task: u32, tick: u32) -> Reported {
     next.mark[i] = ENDED;
     next.end[i] = tick;
     next.clock = tick;
-    start_all_that_can(&mut next);
+    let_go_all_that_can(&mut next);
     Reported { answer, book: next }
+}
+
+/// The book with that task dropped, or the very book given and why it was
+/// refused. The task goes at a later report: now somebody it waits for is left.
+pub fn drop_task(book: &Book, task: u32) -> Dropped {
+    let answer = drop_answer(book, task);
+    if !answer.is_accepted() {
+        return Dropped {
+            answer,
+            book: *book,
+        };
+    }
+    let mut next = *book;
+    next.dropped[task as usize - 1] = DROPPED;
+    Dropped { answer, book: next }
 }
 
 /// M, the least planned start less start over the running tasks, 0 if none
@@ -106,19 +124,47 @@ fn report_answer(book: &Book, task: u32, tick: u32) -> Answer {
     Answer::ACCEPTED
 }
 
+fn drop_answer(book: &Book, task: u32) -> Answer {
+    if !sound(book) {
+        return Answer::UNSOUND;
+    }
+    if task == 0 || task > u32::from(book.tasks) {
+        return refusal(10, task, 0);
+    }
+    let i = task as usize - 1;
+    if book.mark[i] != WAITING || book.dropped[i] == DROPPED {
+        return refusal(19, task, 0);
+    }
+    Answer::ACCEPTED
+}
+
 fn other_limit_passed(book: &Book, i: usize, tick: u32) -> bool {
     (0..usize::from(book.tasks))
         .any(|j| j != i && book.mark[j] == RUNNING && limit(book, j) < u64::from(tick))
 }
 
 /// Starts, at the clock, every waiting task whose awaited tasks have all ended.
-fn start_all_that_can(book: &mut Book) {
-    for i in 0..usize::from(book.tasks) {
-        if book.mark[i] == WAITING && all_awaited_ended(book, i) {
-            book.mark[i] = RUNNING;
-            book.start[i] = book.clock;
+/// A dropped one also ends there, and those it held back may follow.
+fn let_go_all_that_can(book: &mut Book) {
+    for i in waiting_by_planned_start(book) {
+        if !all_awaited_ended(book, i) {
+            continue;
+        }
+        book.mark[i] = RUNNING;
+        book.start[i] = book.clock;
+        if book.dropped[i] == DROPPED {
+            book.mark[i] = ENDED;
+            book.end[i] = book.clock;
         }
     }
+}
+
+/// In this order each comes after all it waits for, so one pass lets all go.
+fn waiting_by_planned_start(book: &Book) -> Vec<usize> {
+    let every = 0..usize::from(book.tasks);
+    let mut waiting: Vec<usize> = every.filter(|&i| book.mark[i] == WAITING).collect();
+    waiting.sort_unstable_by_key(|&i| book.begin[i]);
+    waiting
 }
 
 /// The task indices i waits for: planned to finish by i's planned start.
@@ -130,7 +176,8 @@ fn all_awaited_ended(book: &Book, i: usize) -> bool {
     awaited(book, i).all(|j| book.mark[j] == ENDED)
 }
 
-/// Start plus length; wide enough for any start a book can hold.
+/// Start plus length, of a task that is not dropped; wide enough for any start
+/// a book can hold.
 fn limit(book: &Book, i: usize) -> u64 {
     u64::from(book.start[i]) + u64::from(book.finish[i] - book.begin[i])
 }
@@ -148,17 +195,23 @@ fn nothing_known(book: &Book, i: usize) -> bool {
 }
 
 fn task_is_sound(book: &Book, i: usize) -> bool {
-    match book.mark[i] {
-        WAITING => nothing_known(book, i) && !all_awaited_ended(book, i),
-        RUNNING => {
+    match (book.mark[i], book.dropped[i]) {
+        (WAITING, 0 | DROPPED) => nothing_known(book, i) && !all_awaited_ended(book, i),
+        (RUNNING, 0) => {
             started_by_the_rule(book, i)
                 && book.end[i] == 0
                 && limit(book, i) >= u64::from(book.clock)
         }
-        ENDED => {
+        (ENDED, 0) => {
             started_by_the_rule(book, i)
                 && book.start[i] < book.end[i]
                 && u64::from(book.end[i]) <= limit(book, i)
+                && book.end[i] <= book.clock
+        }
+        (ENDED, DROPPED) => {
+            awaited(book, i).next().is_some()
+                && started_by_the_rule(book, i)
+                && book.end[i] == book.start[i]
                 && book.end[i] <= book.clock
         }
         _ => false,

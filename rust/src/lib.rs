@@ -10,8 +10,8 @@ pub mod sample;
 pub mod text;
 pub mod values;
 
-pub use book::{minimum_early, open_book, report, sound};
+pub use book::{drop_task, minimum_early, open_book, report, sound};
 pub use judge::{accepted, first_faulty_pair};
 pub use runlog::run_log;
 pub use text::{read_plan, write_plan};
-pub use values::{Answer, Book, Figure, Opening, Plan, Reading, Reported, Written};
+pub use values::{Answer, Book, Dropped, Figure, Opening, Plan, Reading, Reported, Written};

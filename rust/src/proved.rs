@@ -16,7 +16,8 @@ mod peer;
 #[cfg(not(target_arch = "x86_64"))]
 use peer as library;
 
-pub use library::{measure, minimum_early, open_book, read_plan, report, write_log, write_plan};
+pub use library::{drop_task, measure, minimum_early, open_book};
+pub use library::{read_plan, report, write_log, write_plan};
 
 /// Whether the library runs under an emulator, where times say nothing.
 pub const EMULATED: bool = cfg!(not(target_arch = "x86_64"));
@@ -48,6 +49,7 @@ pub enum Function {
     OpenBook = b'o',
     IsSound = b's',
     Report = b'e',
+    Drop = b'd',
     MinimumEarly = b'm',
     RunLog = b'l',
     /// Two that are not the library's, to try the measure itself: this has no frame.

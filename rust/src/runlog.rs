@@ -2,13 +2,19 @@
 //!
 //! Settled here where the document is silent: a line of `ends.txt` that is
 //! both malformed and out of range is 3; a task number over 1,000,000 is 4 as
-//! a tick over it is; after a 3 or 4 nothing more is printed; with a refused
-//! plan `ends.txt` is not looked at, however long it is.
+//! a tick over it is, in a `drop` line too; after a 3 or 4 nothing more is
+//! printed; with a refused plan `ends.txt` is not looked at, however long.
 
-use crate::book::{minimum_early, open_book, report};
+use crate::book::{drop_task, minimum_early, open_book, report};
 use crate::fields::{line_of, read_number, split_fields, split_line};
 use crate::text::read_plan;
-use crate::values::{refusal, Answer, Book, LAST_TICK, LONGEST_TEXT, RUNNING, WAITING};
+use crate::values::{refusal, Answer, Book, DROPPED, LAST_TICK, LONGEST_TEXT, WAITING};
+
+/// A well formed line of `ends.txt`, its numbers not yet held to any range.
+enum EndsLine {
+    End { task: u32, tick: u32 },
+    Drop { task: u32 },
+}
 
 /// All that `runlog` prints. A missing file counts as empty.
 pub fn run_log(plan_text: &[u8], ends_text: &[u8]) -> Vec<u8> {
@@ -27,36 +33,66 @@ pub fn run_log(plan_text: &[u8], ends_text: &[u8]) -> Vec<u8> {
     };
     log_starts(&mut log, &nobody_yet, &book);
     log_early(&mut log, &book);
-    log_reports(&mut log, book, ends_text);
+    log_ends(&mut log, book, ends_text);
     log
 }
 
-fn log_reports(log: &mut Vec<u8>, mut book: Book, ends_text: &[u8]) {
+fn log_ends(log: &mut Vec<u8>, mut book: Book, ends_text: &[u8]) {
     let mut rest = ends_text;
     let mut line_number = 0;
     while !rest.is_empty() {
         line_number += 1;
-        let Some((task, tick, next)) = read_end_line(rest) else {
+        let Some((line, next)) = read_ends_line(rest) else {
             log.extend(refused_line(refusal(3, line_number, 0)));
             return;
         };
-        if task > LAST_TICK || tick > LAST_TICK {
+        if line.greatest_number() > LAST_TICK {
             log.extend(refused_line(refusal(4, line_number, 0)));
             return;
         }
-        book = log_report(log, &book, task, tick);
+        book = match line {
+            EndsLine::End { task, tick } => log_report(log, &book, task, tick),
+            EndsLine::Drop { task } => log_drop(log, &book, task),
+        };
         rest = next;
     }
 }
 
-/// The task and tick of a well formed line, and the rest; None is refusal 3.
-fn read_end_line(text: &[u8]) -> Option<(u32, u32, &[u8])> {
+/// A well formed line and the rest of the text; None is refusal 3.
+fn read_ends_line(text: &[u8]) -> Option<(EndsLine, &[u8])> {
     let (line, rest) = split_line(text)?;
+    let line = read_end(line).or_else(|| read_drop(line))?;
+    Some((line, rest))
+}
+
+fn read_end(line: &[u8]) -> Option<EndsLine> {
     let [word, task, tick] = split_fields(line)?;
     if word != b"end" {
         return None;
     }
-    Some((read_number(task)?, read_number(tick)?, rest))
+    Some(EndsLine::End {
+        task: read_number(task)?,
+        tick: read_number(tick)?,
+    })
+}
+
+fn read_drop(line: &[u8]) -> Option<EndsLine> {
+    let [word, task] = split_fields(line)?;
+    if word != b"drop" {
+        return None;
+    }
+    Some(EndsLine::Drop {
+        task: read_number(task)?,
+    })
+}
+
+impl EndsLine {
+    fn greatest_number(&self) -> u32 {
+        match *self {
+            EndsLine::End { task, tick } => task.max(tick),
+            EndsLine::Drop { task } => task,
+        }
+    }
 }
 
 fn log_report(log: &mut Vec<u8>, book: &Book, task: u32, tick: u32) -> Book {
@@ -73,16 +109,34 @@ fn log_report(log: &mut Vec<u8>, book: &Book, task: u32, tick: u32) -> Book {
     reported.book
 }
 
-/// A start line for each task that waits in `before` and runs in `now`.
+fn log_drop(log: &mut Vec<u8>, book: &Book, task: u32) -> Book {
+    let dropped = drop_task(book, task);
+    if !dropped.answer.is_accepted() {
+        log.extend(refused_line(dropped.answer));
+        return dropped.book;
+    }
+    let board = book.board[task as usize - 1];
+    log.extend(line_of("drop", &[task, board.into()]));
+    log_early(log, &dropped.book);
+    dropped.book
+}
+
+/// A start line, or a skip line of a dropped task, for each task that waits in
+/// `before` and no longer does so in `now`.
 fn log_starts(log: &mut Vec<u8>, before: &Book, now: &Book) {
     for i in 0..usize::from(now.tasks) {
-        if before.mark[i] != WAITING || now.mark[i] != RUNNING {
+        if before.mark[i] != WAITING || now.mark[i] == WAITING {
             continue;
         }
+        let word = if now.dropped[i] == DROPPED {
+            "skip"
+        } else {
+            "start"
+        };
         let tick = now.start[i];
         let early = now.begin[i] - tick;
         let numbers = [i as u32 + 1, now.board[i].into(), tick, early];
-        log.extend(line_of("start", &numbers));
+        log.extend(line_of(word, &numbers));
     }
 }
 

@@ -17,6 +17,9 @@ pub const WAITING: u8 = 0;
 pub const RUNNING: u8 = 1;
 pub const ENDED: u8 = 2;
 
+/// What `dropped` holds for a dropped task; for any other task it holds 0.
+pub const DROPPED: u8 = 1;
+
 #[repr(C)]
 #[derive(Clone, Copy, PartialEq, Eq, Debug)]
 pub struct Answer {
@@ -49,6 +52,7 @@ pub struct Book {
     pub start: [u32; 64],
     pub end: [u32; 64],
     pub mark: [u8; 64],
+    pub dropped: [u8; 64],
     pub holds: [u8; 2048],
     pub after: [u8; 4096],
 }
@@ -70,6 +74,13 @@ pub struct Opening {
 #[repr(C)]
 #[derive(Clone, Copy, PartialEq, Eq, Debug)]
 pub struct Reported {
+    pub answer: Answer,
+    pub book: Book,
+}
+
+#[repr(C)]
+#[derive(Clone, Copy, PartialEq, Eq, Debug)]
+pub struct Dropped {
     pub answer: Answer,
     pub book: Book,
 }
@@ -145,6 +156,7 @@ impl Book {
         start: [0; 64],
         end: [0; 64],
         mark: [0; 64],
+        dropped: [0; 64],
         holds: [0; 2048],
         after: [0; 4096],
     };

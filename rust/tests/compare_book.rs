@@ -1,17 +1,21 @@
-//! Opening, reporting, M and soundness: the proved implementation must answer
-//! every input as the second dispatcher does, to the last byte.
+//! Opening, reporting, dropping, M and soundness: the proved implementation
+//! must answer every input as the second dispatcher does, to the last byte.
 
-use dispatcher::sample::damage::{mutated_book, mutated_plan};
+use dispatcher::sample::damage::{mutated_book, mutated_plan, wrongly_dropped_book};
+use dispatcher::sample::events::{
+    accepted_event, any_drop, any_event, first_drops, is_chain_over_boards, must_take,
+    passed_tasks, random_book, Event,
+};
+use dispatcher::sample::every_book::{every_book, every_event, CHAIN};
 use dispatcher::sample::plan_a::{PLAN_A, REPORTS_A};
 use dispatcher::sample::plans::{full_plan, random_plan};
 use dispatcher::sample::reports::{
-    accepted_report, any_report, last_moment_report, one_tick_reports, random_book, running_tasks,
-    Report,
+    accepted_report, any_report, last_moment_report, one_tick_reports, running_tasks, Report,
 };
 use dispatcher::sample::tally::Tally;
 use dispatcher::sample::wild::{one_rule_broken, wild_book, wild_plan};
 use dispatcher::sample::Rng;
-use dispatcher::{minimum_early, open_book, proved, read_plan, report, sound};
+use dispatcher::{drop_task, minimum_early, open_book, proved, read_plan, report, sound};
 use dispatcher::{Book, Plan};
 
 fn compare_opening(tally: &mut Tally, plan: &Plan) -> Book {
@@ -29,6 +33,16 @@ fn compare_report(tally: &mut Tally, book: &Book, (task, tick): Report) -> Book 
     let got = proved::report(book, task, tick);
     assert_eq!(got.answer, wanted.answer, "end {task} at {tick}, {book:?}");
     assert!(got.book == wanted.book, "end {task} at {tick}, {book:?}");
+    tally.count(wanted.answer);
+    wanted.book
+}
+
+/// The book after the drop, which is the one given when it is refused.
+fn compare_drop(tally: &mut Tally, book: &Book, task: u32) -> Book {
+    let wanted = drop_task(book, task);
+    let got = proved::drop_task(book, task);
+    assert_eq!(got.answer, wanted.answer, "drop {task}, {book:?}");
+    assert!(got.book == wanted.book, "drop {task}, {book:?}");
     tally.count(wanted.answer);
     wanted.book
 }
@@ -222,19 +236,154 @@ fn mornings_are_answered_alike() {
     assert!(reports >= 200_000, "too few reports");
 }
 
+/// What was compared along mornings with drops.
+struct Dropping {
+    drops: Tally,
+    reports: Tally,
+    /// Dropped tasks that passed, and reports after which some of them passed
+    /// one by one over several boards.
+    passed: u64,
+    chains: u64,
+}
+
+impl Dropping {
+    fn compare(&mut self, book: &Book, event: Event) -> Book {
+        let next = match event {
+            Event::End(task, tick) => compare_report(&mut self.reports, book, (task, tick)),
+            Event::Drop(task) => compare_drop(&mut self.drops, book, task),
+        };
+        let passed = passed_tasks(book, &next);
+        self.passed += passed.len() as u64;
+        self.chains += u64::from(is_chain_over_boards(book, &passed));
+        next
+    }
+
+    fn finish_kind(&mut self, kind: &str) {
+        self.drops.finish_kind(&format!("drops {kind}"));
+        self.reports.finish_kind(&format!("reports {kind}"));
+    }
+}
+
+/// A whole morning, its drops before and between the reports, and any other
+/// drops and reports before each right one.
+fn compare_dropping_morning(rng: &mut Rng, dropping: &mut Dropping, plan: &Plan) {
+    let mut book = open_book(plan).book;
+    for task in first_drops(rng, &book) {
+        book = compare_drop(&mut dropping.drops, &book, task);
+    }
+    let drop_percent = rng.pick(&[0, 15, 50]);
+    while let Some(right) = accepted_event(rng, &book, drop_percent) {
+        for _ in 0..3 {
+            let any = any_event(rng, &book);
+            dropping.compare(&book, any);
+        }
+        compare_figure(&mut dropping.reports, &book);
+        let next = dropping.compare(&book, right);
+        assert!(next != book, "{right:?} was refused, {book:?}");
+        book = next;
+    }
+    let too_late = any_drop(rng, &book);
+    compare_drop(&mut dropping.drops, &book, too_late);
+    compare_figure(&mut dropping.reports, &book);
+}
+
+fn take_dropping_mornings(rng: &mut Rng, dropping: &mut Dropping) {
+    for _ in 0..2400 {
+        let plan = random_plan(rng);
+        compare_dropping_morning(rng, dropping, &plan);
+    }
+    dropping.finish_kind("of random mornings");
+    for _ in 0..60 {
+        let plan = full_plan(rng, 64);
+        compare_dropping_morning(rng, dropping, &plan);
+    }
+    dropping.finish_kind("of mornings of 64 tasks");
+}
+
+fn take_every_event_on_every_book(dropping: &mut Dropping) {
+    let plan = read_plan(CHAIN).plan;
+    let events = every_event(&plan);
+    for book in every_book(&plan) {
+        compare_figure(&mut dropping.reports, &book);
+        for &event in &events {
+            dropping.compare(&book, event);
+        }
+        compare_drop(&mut dropping.drops, &book, u32::MAX);
+    }
+    dropping.finish_kind("on every book of a small plan");
+}
+
+fn take_every_drop_on_every_book_of_plan_a(tally: &mut Tally) {
+    for book in every_book(&read_plan(PLAN_A).plan) {
+        for task in 0..=6 {
+            compare_drop(tally, &book, task);
+        }
+    }
+    tally.finish_kind("drops on every book of plan A");
+}
+
+/// Drops and reports on books of which most are not sound.
+fn take_events_on_changed_books(rng: &mut Rng, dropping: &mut Dropping) {
+    for _ in 0..1500 {
+        let book = random_book(rng);
+        for _ in 0..4 {
+            let changed = mutated_book(rng, &book);
+            let wrong = wrongly_dropped_book(rng, &book);
+            for unsound in [changed, wrong] {
+                let any = any_drop(rng, &book);
+                compare_drop(&mut dropping.drops, &unsound, any);
+                let any = any_event(rng, &book);
+                dropping.compare(&unsound, any);
+            }
+        }
+    }
+    dropping.finish_kind("on changed books");
+}
+
+#[test]
+fn drops_are_answered_alike() {
+    let (mut rng, drops) = Tally::seeded("compare_drop");
+    let mut dropping = Dropping {
+        drops,
+        reports: Tally::new("compare_drop, reports"),
+        passed: 0,
+        chains: 0,
+    };
+    take_dropping_mornings(&mut rng, &mut dropping);
+    take_every_event_on_every_book(&mut dropping);
+    take_every_drop_on_every_book_of_plan_a(&mut dropping.drops);
+    take_events_on_changed_books(&mut rng, &mut dropping);
+    dropping.drops.finish(80_000, &[0, 9, 10, 19]);
+    let codes = [0, 9, 10, 11, 12, 13, 14, 15];
+    dropping.reports.finish(50_000, &codes);
+    let Dropping { passed, chains, .. } = dropping;
+    dropping
+        .reports
+        .say_part(passed, "dropped tasks that passed");
+    dropping
+        .reports
+        .say_part(chains, "chains over several boards");
+    assert!(passed >= 5_000 && chains >= 500, "too few chains");
+}
+
 /// All books of a morning, and for each some with one to three places changed.
 fn judge_books_of_mornings(rng: &mut Rng, tally: &mut Tally) {
     for _ in 0..1200 {
         let mut book = open_book(&random_plan(rng)).book;
-        for _ in 0..=book.tasks {
+        for task in first_drops(rng, &book) {
+            book = must_take(&book, Event::Drop(task));
+        }
+        while let Some(event) = accepted_event(rng, &book, 15) {
             compare_judging(tally, &book);
-            for _ in 0..8 {
+            for _ in 0..6 {
                 compare_judging(tally, &mutated_book(rng, &book));
             }
-            if let Some((task, tick)) = accepted_report(rng, &book) {
-                book = report(&book, task, tick).book;
+            for _ in 0..3 {
+                compare_judging(tally, &wrongly_dropped_book(rng, &book));
             }
+            book = must_take(&book, event);
         }
+        compare_judging(tally, &book);
     }
     tally.finish_kind("books of mornings, sound and changed");
 }
@@ -247,35 +396,51 @@ fn judge_wild_books(rng: &mut Rng, tally: &mut Tally) {
             compare_judging(tally, &wild_book(rng, &book));
         }
     }
-    tally.finish_kind("books of random starts, ends and marks");
+    tally.finish_kind("books of random starts, ends, marks and drops");
 }
 
-/// Every small clock, start, end and mark of every task along plan A.
+/// Every small clock, start, end, mark and drop of every task along plan A,
+/// with nobody dropped and with task 3.
 fn judge_every_change_along_plan_a(tally: &mut Tally) {
-    let mut book = open_book(&read_plan(PLAN_A).plan).book;
-    for next in 0..=REPORTS_A.len() {
-        for i in 0..6 {
-            judge_every_change_of_a_task(tally, &book, i);
-        }
-        if let Some(&(task, tick)) = REPORTS_A.get(next) {
-            book = report(&book, task, tick).book;
-        }
-    }
+    let fresh = open_book(&read_plan(PLAN_A).plan).book;
+    judge_every_change_along(tally, &fresh, &REPORTS_A);
+    let without_3 = must_take(&fresh, Event::Drop(3));
+    judge_every_change_along(tally, &without_3, &[(2, 3), (1, 4), (4, 6)]);
     tally.finish_kind("books along plan A with one task changed");
 }
 
+fn judge_every_change_along(tally: &mut Tally, first: &Book, reports: &[Report]) {
+    let mut book = *first;
+    for next in 0..=reports.len() {
+        for i in 0..6 {
+            judge_every_change_of_a_task(tally, &book, i);
+        }
+        if let Some(&(task, tick)) = reports.get(next) {
+            book = must_take(&book, Event::End(task, tick));
+        }
+    }
+}
+
 fn judge_every_change_of_a_task(tally: &mut Tally, book: &Book, i: usize) {
+    let mut changed = *book;
     for mark in 0..=3 {
-        for start in 0..=10 {
-            for end in 0..=10 {
-                let mut changed = *book;
-                changed.mark[i] = mark;
-                changed.start[i] = start;
-                changed.end[i] = end;
-                compare_judging(tally, &changed);
-                changed.clock = changed.end.iter().max().copied().unwrap_or(0);
-                compare_judging(tally, &changed);
-            }
+        changed.mark[i] = mark;
+        for dropped in 0..=2 {
+            changed.dropped[i] = dropped;
+            judge_every_time_of_a_task(tally, &changed, i);
+        }
+    }
+}
+
+fn judge_every_time_of_a_task(tally: &mut Tally, book: &Book, i: usize) {
+    for start in 0..=7 {
+        for end in 0..=9 {
+            let mut changed = *book;
+            changed.start[i] = start;
+            changed.end[i] = end;
+            compare_judging(tally, &changed);
+            changed.clock = changed.end.iter().max().copied().unwrap_or(0);
+            compare_judging(tally, &changed);
         }
     }
 }

@@ -1,32 +1,35 @@
 //! Whole logs of the proved library compared with the second dispatcher's.
 
 use dispatcher::proved::{write_log, LONGEST_LOG};
+use dispatcher::sample::events::{
+    accepted_event, any_event, event_line, first_drops, must_take, Event,
+};
 use dispatcher::sample::faults::damaged_text;
-use dispatcher::sample::lines::{damaged_lines, noise};
+use dispatcher::sample::lines::{damaged_lines, noise, with_odd_ends_line};
 use dispatcher::sample::plans::{full_plan, random_plan};
-use dispatcher::sample::reports::{accepted_report, any_report, Report};
 use dispatcher::sample::{announced_seed, Rng};
 use dispatcher::text::plan_text;
-use dispatcher::{open_book, report, run_log, Plan};
+use dispatcher::{open_book, run_log, Plan};
 
 const FILL: u8 = 0xa5;
 
-/// The ends of a morning to its end, wrong reports among them.
+/// The ends and drops of a morning to its end, wrong ones among them.
 fn morning_ends(rng: &mut Rng, plan: &Plan) -> Vec<u8> {
     let mut book = open_book(plan).book;
     let mut ends = Vec::new();
-    while let Some(next) = accepted_report(rng, &book) {
+    for task in first_drops(rng, &book) {
+        ends.extend(event_line(Event::Drop(task)));
+        book = must_take(&book, Event::Drop(task));
+    }
+    let drop_percent = rng.pick(&[0, 15, 50]);
+    while let Some(next) = accepted_event(rng, &book, drop_percent) {
         if rng.chance(30) {
-            push_line(&mut ends, any_report(rng, &book));
+            ends.extend(event_line(any_event(rng, &book)));
         }
-        push_line(&mut ends, next);
-        book = report(&book, next.0, next.1).book;
+        ends.extend(event_line(next));
+        book = must_take(&book, next);
     }
     ends
-}
-
-fn push_line(ends: &mut Vec<u8>, report: Report) {
-    ends.extend_from_slice(format!("end\t{}\t{}\n", report.0, report.1).as_bytes());
 }
 
 /// Both logs are the same bytes, and nothing past the log is touched.
@@ -44,12 +47,16 @@ fn compare(out: &mut [u8], plan: &[u8], ends: &[u8]) -> Vec<u8> {
     expected
 }
 
+fn has_line(log: &[u8], word: &str) -> bool {
+    log.split(|&byte| byte == b'\n')
+        .any(|line| line.starts_with(word.as_bytes()))
+}
+
 #[test]
 fn logs_are_the_same() {
     let mut rng = Rng::new(announced_seed("logs"));
     let mut out = vec![FILL; LONGEST_LOG];
-    let mut refused = 0;
-    let mut longest = 0;
+    let (mut refused, mut skipped, mut longest) = (0, 0, 0);
     for round in 0..21_000u32 {
         let plan = if round % 100 == 0 {
             full_plan(&mut rng, 64)
@@ -63,23 +70,29 @@ fn logs_are_the_same() {
             1 | 2 => ends = damaged_text(&mut rng, &ends),
             3 => ends = damaged_lines(&mut rng, &ends),
             4 if round % 3 == 0 => ends = noise(&mut rng),
+            4 => ends = with_odd_ends_line(&mut rng, &ends),
             _ => {}
         }
         let log = compare(&mut out, &text, &ends);
         longest = longest.max(log.len());
-        refused += u32::from(log.windows(7).any(|bytes| bytes == b"refused"));
+        refused += u32::from(has_line(&log, "refused"));
+        skipped += u32::from(has_line(&log, "skip"));
     }
-    println!("21000 pairs of texts, {refused} logs with a refusal, the longest {longest} bytes");
+    println!("21000 pairs of texts, {refused} logs with a refusal, {skipped} with a skip");
+    println!("the longest has {longest} bytes");
     assert!(refused > 5_000 && refused < 20_000);
+    assert!(skipped > 5_000 && skipped < 20_000);
 }
 
 #[test]
 fn ends_of_the_greatest_length() {
     let plan = plan_text(&full_plan(&mut Rng::new(announced_seed("long ends")), 64));
     let mut out = vec![FILL; LONGEST_LOG];
-    let line = b"end\t0\t0\n";
-    let mut ends: Vec<u8> = line.iter().copied().cycle().take(32_768).collect();
-    assert!(compare(&mut out, &plan, &ends).len() > 60_000);
+    for line in ["end\t0\t0\n", "drop\t0\n", "drop\t64\n"] {
+        let lines = 32_768 / line.len();
+        assert!(compare(&mut out, &plan, line.repeat(lines).as_bytes()).len() > 60_000);
+    }
+    let mut ends = b"end\t0\t0\n".repeat(32_768 / 8);
     ends.push(b'\n');
     assert_eq!(compare(&mut out, &plan, &ends), b"refused\t1\t0\t0\n");
     assert_eq!(compare(&mut out, b"", b""), b"refused\t2\t1\t0\n");

@@ -1,6 +1,6 @@
 //! Where each field of the values lies, for callers in another language.
 
-use dispatcher::{Answer, Book, Figure, Opening, Plan, Reading, Reported, Written};
+use dispatcher::{Answer, Book, Dropped, Figure, Opening, Plan, Reading, Reported, Written};
 use std::mem::{offset_of, size_of};
 
 #[test]
@@ -26,9 +26,10 @@ fn book_lies_as_stated() {
     assert_eq!(offset_of!(Book, start), 584);
     assert_eq!(offset_of!(Book, end), 840);
     assert_eq!(offset_of!(Book, mark), 1096);
-    assert_eq!(offset_of!(Book, holds), 1160);
-    assert_eq!(offset_of!(Book, after), 3208);
-    assert_eq!(size_of::<Book>(), 7304);
+    assert_eq!(offset_of!(Book, dropped), 1160);
+    assert_eq!(offset_of!(Book, holds), 1224);
+    assert_eq!(offset_of!(Book, after), 3272);
+    assert_eq!(size_of::<Book>(), 7368);
 }
 
 #[test]
@@ -37,6 +38,7 @@ fn answers_stand_first() {
     assert_eq!(offset_of!(Reading, plan), 12);
     assert_eq!(offset_of!(Opening, book), 12);
     assert_eq!(offset_of!(Reported, book), 12);
+    assert_eq!(offset_of!(Dropped, book), 12);
     assert_eq!(offset_of!(Figure, early), 12);
     assert_eq!(offset_of!(Written, length), 12);
 }

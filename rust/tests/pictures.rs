@@ -22,7 +22,7 @@ fn expect_refused(plan: &str, log: &str, why: &str) {
 
 #[test]
 fn the_committed_pictures_are_drawn_anew() {
-    for name in ["plan-a", "full-morning"] {
+    for name in ["plan-a", "full-morning", "absent-students"] {
         let folder = format!("examples/{name}");
         let output = draw(&format!("{folder}/plan.txt"), &format!("{folder}/log.txt"));
         let committed = fs::read(at_root(&format!("{folder}/picture.svg"))).unwrap();
@@ -36,6 +36,7 @@ fn the_readme_shows_them() {
     let readme = fs::read_to_string(at_root("README.md")).unwrap();
     assert!(readme.contains("(examples/plan-a/picture.svg)"));
     assert!(readme.contains("(examples/full-morning/picture.svg)"));
+    assert!(readme.contains("(examples/absent-students/picture.svg)"));
 }
 
 #[test]

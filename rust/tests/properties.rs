@@ -2,18 +2,22 @@
 //! Each test prints its seed; set SEED to repeat or to try another.
 
 use dispatcher::judge::clash;
-use dispatcher::sample::damage::{mutated_book, mutated_plan};
+use dispatcher::sample::damage::{mutated_book, mutated_plan, wrongly_dropped_book};
+use dispatcher::sample::events::{
+    accepted_event, any_drop, event_line, first_drops, is_chain_over_boards, must_take,
+    passed_tasks, random_book, take, Event,
+};
 use dispatcher::sample::faults::{damaged_text, faulty_pair_plan, one_fault};
 use dispatcher::sample::plans::random_plan;
 use dispatcher::sample::reports::{
-    accepted_report, any_report, last_moment_report, one_tick_reports, random_book, running_tasks,
+    any_report, last_moment_report, one_tick_reports, running_tasks,
 };
 use dispatcher::sample::{announced_seed, Rng};
 use dispatcher::text::plan_text;
 use dispatcher::values::{items, LONGEST_TEXT};
 use dispatcher::{
-    accepted, first_faulty_pair, minimum_early, open_book, read_plan, report, run_log, sound,
-    write_plan,
+    accepted, drop_task, first_faulty_pair, minimum_early, open_book, read_plan, report, run_log,
+    sound, write_plan,
 };
 use dispatcher::{Answer, Book, Plan};
 
@@ -33,22 +37,44 @@ fn written_text(plan: &Plan) -> Vec<u8> {
     out
 }
 
-fn must_report(book: &Book, task: u32, tick: u32) -> Book {
-    let reported = report(book, task, tick);
-    assert_eq!(reported.answer, Answer::ACCEPTED, "end {task} at {tick}");
-    reported.book
+/// A whole morning: every book from the fresh one to the last, and between
+/// each two the report or drop that made the second of the first.
+struct Morning {
+    books: Vec<Book>,
+    events: Vec<Event>,
 }
 
-/// A whole morning: every book from the fresh one to the last.
-fn random_morning(rng: &mut Rng, plan: &Plan) -> Vec<Book> {
-    let opening = open_book(plan);
-    assert_eq!(opening.answer, Answer::ACCEPTED);
-    let mut books = vec![opening.book];
-    while let Some((task, tick)) = accepted_report(rng, &books[books.len() - 1]) {
-        let next = must_report(&books[books.len() - 1], task, tick);
-        books.push(next);
+impl Morning {
+    fn new(plan: &Plan) -> Morning {
+        let opening = open_book(plan);
+        assert_eq!(opening.answer, Answer::ACCEPTED);
+        Morning {
+            books: vec![opening.book],
+            events: Vec::new(),
+        }
     }
-    books
+
+    fn now(&self) -> &Book {
+        &self.books[self.books.len() - 1]
+    }
+
+    fn take(&mut self, event: Event) {
+        self.books.push(must_take(self.now(), event));
+        self.events.push(event);
+    }
+}
+
+/// Reports to the end, drops before them and, in some mornings, between them.
+fn random_morning(rng: &mut Rng, plan: &Plan) -> Morning {
+    let mut morning = Morning::new(plan);
+    for task in first_drops(rng, morning.now()) {
+        morning.take(Event::Drop(task));
+    }
+    let drop_percent = rng.pick(&[0, 0, 15, 50]);
+    while let Some(event) = accepted_event(rng, morning.now(), drop_percent) {
+        morning.take(event);
+    }
+    morning
 }
 
 #[test]
@@ -208,6 +234,10 @@ fn check_starts_are_the_latest_awaited_ends(last: &Book) {
         }
         assert_eq!(last.start[i], latest);
         assert!(last.start[i] <= last.begin[i]);
+        if last.dropped[i] == 1 {
+            assert_eq!(last.end[i], last.start[i]);
+            continue;
+        }
         assert!(last.start[i] < last.end[i] && last.end[i] <= last.finish[i]);
     }
 }
@@ -250,26 +280,38 @@ fn check_figures_along(books: &[Book]) -> u32 {
     early
 }
 
+/// How many of a morning's reports let dropped tasks pass one after the other.
+fn chains_in(morning: &Morning) -> usize {
+    let steps = morning.books.windows(2);
+    steps
+        .filter(|step| is_chain_over_boards(&step[1], &passed_tasks(&step[0], &step[1])))
+        .count()
+}
+
 #[test]
 fn mornings_keep_what_the_plan_promises() {
     let mut rng = rng_for("mornings_keep_what_the_plan_promises");
-    let (mut reports, mut early) = (0, 0);
-    for _ in 0..400 {
+    let (mut events, mut early, mut chains) = (0, 0, 0);
+    for _ in 0..800 {
         let plan = random_plan(&mut rng);
-        let books = random_morning(&mut rng, &plan);
-        let last = &books[books.len() - 1];
-        assert_eq!(books.len(), count(last) + 1);
+        let morning = random_morning(&mut rng, &plan);
+        let last = morning.now();
+        assert!(last.mark[..count(last)].iter().all(|&mark| mark == 2));
+        // Each task is dropped or reported, and never both.
+        assert_eq!(morning.events.len(), count(last));
         check_clashing_tasks_keep_plan_order(last);
         check_starts_are_the_latest_awaited_ends(last);
-        for book in &books {
+        for book in &morning.books {
             assert!(sound(book));
             check_figure_is_kept(book, last);
         }
-        early += check_figures_along(&books);
-        reports += books.len() - 1;
+        early += check_figures_along(&morning.books);
+        events += morning.events.len();
+        chains += chains_in(&morning);
     }
-    println!("400 mornings, {reports} reports, M above 0 in {early} books");
-    assert!(early > 100);
+    println!("800 mornings, {events} reports and drops, M above 0 in {early} books");
+    println!("{chains} chains of dropped tasks over several boards");
+    assert!(early > 100 && chains > 100);
 }
 
 #[test]
@@ -277,8 +319,7 @@ fn no_two_clashing_tasks_ever_run_at_once() {
     let mut rng = rng_for("no_two_clashing_tasks_ever_run_at_once");
     for _ in 0..300 {
         let plan = random_plan(&mut rng);
-        for book in random_morning(&mut rng, &plan) {
-            let plan = book.plan();
+        for book in random_morning(&mut rng, &plan).books {
             let running = running_tasks(&book);
             for (k, &a) in running.iter().enumerate() {
                 assert!(running[k + 1..].iter().all(|&b| !clash(&plan, a, b)));
@@ -290,19 +331,23 @@ fn no_two_clashing_tasks_ever_run_at_once() {
 #[test]
 fn the_least_limit_is_always_accepted() {
     let mut rng = rng_for("the_least_limit_is_always_accepted");
-    let mut tried = 0;
+    let (mut tried, mut dropped) = (0, 0);
     for _ in 0..150 {
         let mut book = open_book(&random_plan(&mut rng)).book;
+        let drop_percent = rng.pick(&[0, 15, 70]);
         while let Some((task, tick)) = last_moment_report(&book) {
             tried += 1;
-            let at_limit = must_report(&book, task, tick);
-            let (task, tick) = accepted_report(&mut rng, &book).unwrap();
-            let other = must_report(&book, task, tick);
-            book = if rng.chance(50) { at_limit } else { other };
+            let at_limit = must_take(&book, Event::End(task, tick));
+            let event = accepted_event(&mut rng, &book, drop_percent).unwrap();
+            let other = must_take(&book, event);
+            book = if rng.chance(30) { at_limit } else { other };
         }
+        // Nobody runs, so nobody may be left that has not ended.
         assert!(book.mark[..count(&book)].iter().all(|&mark| mark == 2));
+        dropped += book.dropped.iter().filter(|&&dropped| dropped == 1).count();
     }
-    println!("{tried} least limits");
+    println!("{tried} least limits, {dropped} tasks dropped");
+    assert!(dropped > 100);
 }
 
 #[test]
@@ -314,8 +359,10 @@ fn reports_of_one_tick_may_come_in_any_order() {
         let mut reports = one_tick_reports(&mut rng, &book);
         rng.shuffle(&mut reports);
         reports.truncate(8);
-        let take_all =
-            |order: &[(u32, u32)]| order.iter().fold(book, |b, r| must_report(&b, r.0, r.1));
+        let take_all = |order: &[(u32, u32)]| {
+            let take_one = |b: Book, r: &(u32, u32)| must_take(&b, Event::End(r.0, r.1));
+            order.iter().fold(book, take_one)
+        };
         let first = take_all(&reports);
         for _ in 0..3 {
             rng.shuffle(&mut reports);
@@ -325,6 +372,64 @@ fn reports_of_one_tick_may_come_in_any_order() {
     }
     println!("{groups} groups of two or more reports");
     assert!(groups > 50);
+}
+
+/// The book after all the events; None when one of them is refused.
+fn book_after(plan: &Plan, events: &[Event]) -> Option<Book> {
+    let mut book = open_book(plan).book;
+    for &event in events {
+        let (answer, next) = take(&book, event);
+        if !answer.is_accepted() {
+            return None;
+        }
+        book = next;
+    }
+    Some(book)
+}
+
+/// The events with reports still by rising tick, but those of one tick in any
+/// order, and each drop anywhere among them.
+fn reordered(rng: &mut Rng, events: &[Event]) -> Vec<Event> {
+    let mut order = events.to_vec();
+    rng.shuffle(&mut order);
+    let is_drop = |event: &Event| matches!(event, Event::Drop(_));
+    let (drops, mut mixed): (Vec<Event>, Vec<Event>) = order.into_iter().partition(is_drop);
+    mixed.sort_by_key(|event| match event {
+        Event::End(_, tick) => *tick,
+        Event::Drop(_) => 0,
+    });
+    for drop in drops {
+        mixed.insert(rng.index(mixed.len() + 1), drop);
+    }
+    mixed
+}
+
+#[test]
+fn the_same_reports_and_drops_leave_the_same_book() {
+    let mut rng = rng_for("the_same_reports_and_drops_leave_the_same_book");
+    let (mut taken, mut refused) = (0, 0);
+    for _ in 0..600 {
+        let plan = random_plan(&mut rng);
+        let mut events = random_morning(&mut rng, &plan).events;
+        events.truncate(rng.index(events.len() + 1));
+        let first = book_after(&plan, &events);
+        assert!(first.is_some());
+        for _ in 0..5 {
+            let order = reordered(&mut rng, &events);
+            let other = book_after(&plan, &order);
+            if other.is_none() {
+                refused += 1;
+                continue;
+            }
+            assert!(other == first);
+            taken += u32::from(order != events);
+        }
+        // A task that waits at some time waits from the first, so drops may come first.
+        events.sort_by_key(|event| matches!(event, Event::End(..)));
+        assert!(book_after(&plan, &events) == first);
+    }
+    println!("{taken} other orders taken, {refused} refused");
+    assert!(taken > 500 && refused > 100);
 }
 
 /// The code a report must meet, from the table's sentences, on a sound book.
@@ -377,70 +482,154 @@ fn refused_reports_leave_the_book() {
     assert!(by_code[10..16].iter().all(|&n| n > 0));
 }
 
-/// The book that its own plan and its own ends give, if those are accepted.
+/// The code a drop must meet, from the request's sentence, on a sound book.
+fn expected_drop_code(book: &Book, task: u32) -> u32 {
+    if !(1..=u32::from(book.tasks)).contains(&task) {
+        return 10;
+    }
+    let i = task as usize - 1;
+    let start_is_known = book.mark[i] == 1 || book.mark[i] == 2;
+    if start_is_known || book.dropped[i] == 1 {
+        return 19;
+    }
+    0
+}
+
+#[test]
+fn refused_drops_leave_the_book_and_accepted_ones_nearly() {
+    let mut rng = rng_for("refused_drops_leave_the_book_and_accepted_ones_nearly");
+    let mut by_code = [0u32; 20];
+    for _ in 0..400 {
+        let book = random_book(&mut rng);
+        for _ in 0..20 {
+            let task = any_drop(&mut rng, &book);
+            let answered = drop_task(&book, task);
+            let code = expected_drop_code(&book, task);
+            assert_eq!(answered.answer.code, code, "drop {task}");
+            by_code[code as usize] += 1;
+            let mut expected = book;
+            if code == 0 {
+                expected.dropped[task as usize - 1] = 1;
+                assert!(sound(&expected));
+            } else {
+                let said = (answered.answer.first, answered.answer.second);
+                assert_eq!(said, (task, 0));
+            }
+            assert!(answered.book == expected);
+        }
+    }
+    let [accepted, unknown, started] = [0, 10, 19].map(|code: usize| by_code[code]);
+    println!("accepted {accepted}, code 10: {unknown}, code 19: {started}");
+    assert!(accepted > 100 && unknown > 100 && started > 100);
+}
+
+/// The book that its own plan, its own drops and its own ends give, if those
+/// are accepted.
 fn replayed(book: &Book) -> Option<Book> {
-    let opening = open_book(&book.plan());
-    if !opening.answer.is_accepted() {
+    if !open_book(&book.plan()).answer.is_accepted() {
         return None;
     }
-    let mut ended: Vec<usize> = (0..count(book)).filter(|&i| book.mark[i] == 2).collect();
+    let dropped = (0..count(book)).filter(|&i| book.dropped[i] == 1);
+    let mut events: Vec<Event> = dropped.map(|i| Event::Drop(i as u32 + 1)).collect();
+    let ended_itself = |i: &usize| book.mark[*i] == 2 && book.dropped[*i] != 1;
+    let mut ended: Vec<usize> = (0..count(book)).filter(ended_itself).collect();
     ended.sort_by_key(|&i| book.end[i]);
-    let mut replay = opening.book;
-    for i in ended {
-        let reported = report(&replay, i as u32 + 1, book.end[i]);
-        if !reported.answer.is_accepted() {
-            return None;
-        }
-        replay = reported.book;
-    }
-    Some(replay)
+    events.extend(ended.iter().map(|&i| Event::End(i as u32 + 1, book.end[i])));
+    book_after(&book.plan(), &events)
 }
 
 #[test]
 fn sound_books_are_exactly_those_a_run_gives() {
     let mut rng = rng_for("sound_books_are_exactly_those_a_run_gives");
-    let mut kept = 0;
-    for _ in 0..600 {
+    let (mut kept, mut with_drops) = (0, 0);
+    for _ in 0..900 {
         let book = random_book(&mut rng);
+        assert!(sound(&book) && replayed(&book) == Some(book));
         for _ in 0..15 {
             let changed = mutated_book(&mut rng, &book);
             let given_by_a_run = replayed(&changed) == Some(changed);
             assert_eq!(sound(&changed), given_by_a_run, "{changed:?}");
             kept += u32::from(given_by_a_run);
+            with_drops += u32::from(given_by_a_run && changed.dropped != [0; 64]);
         }
     }
-    println!("9000 changed books, {kept} of them sound");
-    assert!(kept > 50 && kept < 8950);
+    println!("13500 changed books, {kept} of them sound, {with_drops} with drops");
+    assert!(kept < 13_000 && with_drops > 50);
+}
+
+#[test]
+fn a_wrong_drop_is_never_sound() {
+    let mut rng = rng_for("a_wrong_drop_is_never_sound");
+    for _ in 0..600 {
+        let book = random_book(&mut rng);
+        for _ in 0..10 {
+            let wrong = wrongly_dropped_book(&mut rng, &book);
+            assert!(!sound(&wrong), "{wrong:?}");
+            let answered = drop_task(&wrong, any_drop(&mut rng, &book));
+            assert_eq!(answered.answer, Answer::UNSOUND);
+            assert!(answered.book == wrong);
+        }
+    }
+}
+
+/// The lines of a log between two `early` lines, without those.
+fn paragraphs(log: &str) -> Vec<Vec<&str>> {
+    let lines: Vec<&str> = log.lines().collect();
+    lines
+        .split_inclusive(|line| line.starts_with("early\t"))
+        .map(|part| part[..part.len() - 1].to_vec())
+        .collect()
+}
+
+/// After its first line, `start` and `skip` lines by rising task number.
+fn check_starts_rise(paragraph: &[&str]) {
+    let mut number_before = 0;
+    for line in &paragraph[1..] {
+        let fields: Vec<&str> = line.split('\t').collect();
+        assert!(["start", "skip"].contains(&fields[0]), "{line}");
+        let number: u32 = fields[1].parse().unwrap();
+        assert!(number_before < number, "{line}");
+        number_before = number;
+    }
 }
 
 #[test]
 fn runlog_prints_each_task_once_and_ends_with_the_last_figure() {
     let mut rng = rng_for("runlog_prints_each_task_once");
+    let mut skipped = 0;
     for _ in 0..150 {
         let plan = random_plan(&mut rng);
-        let books = random_morning(&mut rng, &plan);
-        let last = &books[books.len() - 1];
-        let mut ended: Vec<usize> = (0..count(last)).collect();
-        ended.sort_by_key(|&i| last.end[i]);
-        let lines = ended
+        let morning = random_morning(&mut rng, &plan);
+        let last = morning.now();
+        let ends: Vec<u8> = morning
+            .events
             .iter()
-            .map(|&i| format!("end\t{}\t{}\n", i + 1, last.end[i]));
-        let ends: String = lines.collect();
-        let log = String::from_utf8(run_log(&plan_text(&plan), ends.as_bytes())).unwrap();
+            .copied()
+            .flat_map(event_line)
+            .collect();
+        let log = String::from_utf8(run_log(&plan_text(&plan), &ends)).unwrap();
         let lines_of = |word: &str| log.lines().filter(|l| l.starts_with(word)).count();
-        assert_eq!(lines_of("start\t"), count(last));
-        assert_eq!(lines_of("end\t"), count(last));
+        let dropped = last.dropped.iter().filter(|&&dropped| dropped == 1).count();
+        assert_eq!(lines_of("start\t"), count(last) - dropped);
+        assert_eq!(lines_of("end\t"), count(last) - dropped);
+        assert_eq!((lines_of("drop\t"), lines_of("skip\t")), (dropped, dropped));
         assert_eq!(lines_of("early\t"), count(last) + 1);
         assert_eq!(lines_of("refused\t"), 0);
+        paragraphs(&log)
+            .iter()
+            .for_each(|part| check_starts_rise(part));
         let closing = format!("early\t{}\t{}\n", last.clock, minimum_early(last).early);
         assert!(log.ends_with(&closing));
+        skipped += dropped;
     }
+    println!("150 logs, {skipped} tasks skipped");
+    assert!(skipped > 100);
 }
 
 /// One damaged input of a random kind; the refusal number it met, or 0.
 fn code_of_a_damaged_input(rng: &mut Rng) -> u32 {
     let plan = random_plan(rng);
-    match rng.within(1, 6) {
+    match rng.within(1, 7) {
         1 => read_plan(&one_fault(rng, &plan).text).answer.code,
         2 => read_plan(&damaged_text(rng, &plan_text(&plan))).answer.code,
         3 => {
@@ -462,6 +651,10 @@ fn code_of_a_damaged_input(rng: &mut Rng) -> u32 {
             let (task, tick) = any_report(rng, &book);
             report(&book, task, tick).answer.code
         }
+        6 => {
+            let book = random_book(rng);
+            drop_task(&book, any_drop(rng, &book)).answer.code
+        }
         _ => {
             let book = random_book(rng);
             minimum_early(&mutated_book(rng, &book)).answer.code
@@ -472,12 +665,14 @@ fn code_of_a_damaged_input(rng: &mut Rng) -> u32 {
 #[test]
 fn every_refusal_number_is_reached() {
     let mut rng = rng_for("every_refusal_number_is_reached");
-    let mut by_code = [0u32; 17];
+    let mut by_code = [0u32; 20];
     for _ in 0..8000 {
         by_code[code_of_a_damaged_input(&mut rng) as usize] += 1;
     }
-    for (code, times) in by_code.iter().enumerate() {
+    // 17 and 18 belong to requests that are not in.
+    for code in (0..=16).chain([19]) {
+        let times = by_code[code];
         println!("code {code}: {times}");
-        assert!(*times > 0, "code {code} was never reached");
+        assert!(times > 0, "code {code} was never reached");
     }
 }

@@ -3,7 +3,7 @@
 use dispatcher::sample::plan_a::{ENDS_A, PLAN_A, REPORTS_A};
 use dispatcher::values::refusal;
 use dispatcher::{
-    accepted, minimum_early, open_book, read_plan, report, run_log, sound, write_plan,
+    accepted, drop_task, minimum_early, open_book, read_plan, report, run_log, sound, write_plan,
 };
 use dispatcher::{Answer, Book, Plan};
 
@@ -81,6 +81,9 @@ fn check_book_9(book: &Book, what: &str) {
     let reported = report(book, 0, 0);
     assert_eq!(reported.answer, refusal(9, 0, 0), "{what}");
     assert_eq!(reported.book, *book, "{what}");
+    let dropped = drop_task(book, 0);
+    assert_eq!(dropped.answer, refusal(9, 0, 0), "{what}");
+    assert_eq!(dropped.book, *book, "{what}");
     let figure = minimum_early(book);
     assert_eq!(figure.answer, refusal(9, 0, 0), "{what}");
     assert_eq!(figure.early, 0, "{what}");

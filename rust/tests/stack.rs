@@ -6,6 +6,7 @@
 //! no longer holds the pattern afterwards was used.
 
 use dispatcher::proved::{measure, Function, Measured, Register};
+use dispatcher::sample::events::{droppable_tasks, must_take, Event};
 use dispatcher::sample::plans::full_plan;
 use dispatcher::sample::reports::last_moment_report;
 use dispatcher::sample::tally::say;
@@ -59,6 +60,12 @@ fn check_report(what: &str, book: &Book, (task, tick): (u32, u32), code: u32) {
     check(what, measured, code);
 }
 
+fn check_drop(what: &str, book: &Book, task: u32, code: u32) {
+    let registers = [Place, Number(task as usize), Number(0)];
+    let measured = measure(Function::Drop, bytes_of(book), registers);
+    check(what, measured, code);
+}
+
 fn check_figure(what: &str, book: &Book, code: u32) {
     assert_eq!(size_of::<Figure>(), 16);
     let measured = measure(Function::MinimumEarly, bytes_of(book), no_registers());
@@ -83,6 +90,13 @@ fn no_call_takes_more_than_64_kib() {
     check_report("a report", &book, (task, tick), 0);
     check_report("a refused report", &book, (65, tick), 10);
     check_figure("M", &book, 0);
+    let droppable = droppable_tasks(&book);
+    check_drop("a drop", &book, droppable[0], 0);
+    check_drop("a refused drop", &book, task, 19);
+    let all_dropped = droppable
+        .iter()
+        .fold(book, |book, &task| must_take(&book, Event::Drop(task)));
+    check_report("a report with drops", &all_dropped, (task, tick), 0);
 }
 
 #[test]

@@ -1,14 +1,14 @@
 -- The code of a report by the tests that lead to it.
 use Prim.Native.Nat.{ℕ, _≤_, _<_}
 use native.Mathlib.Omega.{arith}
-use mathlib.Core.Bool.{Bool, true, false, cond}
+use mathlib.Core.Bool.{Bool, true, false, not, cond, _||_}
 use mathlib.Core.Path.{_≡_, sym, _∙_}
 use mathlib.Core.Logic.{_≢_}
 use lib.Dec.{eqb}
 use borrow.Author.Tests.{eq-eqb, ne-eqb, le-leb, lt-leb, lt-ltb, le-ltb}
 use Rattle.theory.specs.Plan.{Plan}
 use Rattle.theory.specs.Book.{Book, limit}
-use Rattle.theory.specs.Report.{nonePast, reportCode}
+use Rattle.theory.specs.Report.{nonePast, reportCode, dropCode}
 
 -- task 0 is nobody
 pub code-nobody : (task other : ℕ) → task ≡ 0 → 10 ≡ cond (eqb task 0) 10 other
@@ -79,3 +79,18 @@ module _ (plan : Plan) (book : Book) (k tick : ℕ) where
                   le-ltb (limit plan book k) tick (omega arith),
                   sym q ∙ h,
                 )
+
+-- and of a drop
+module _ (plan : Plan) (book : Book) (k : ℕ) where
+  pub drop-10 : plan .tasks ≤ k → 10 ≡ dropCode plan book k
+  unfolding dropCode
+  drop-10 h = rw (le-leb (plan .tasks) k h)
+
+  module _ (known : k < plan .tasks) where
+    pub drop-19 : (not (eqb (book .mark k) 0) || eqb (book .dropped k) 1) ≡ true → 19 ≡ dropCode plan book k
+    unfolding dropCode
+    drop-19 h = rw (lt-leb (plan .tasks) k known, h)
+
+    pub drop-0 : (not (eqb (book .mark k) 0) || eqb (book .dropped k) 1) ≡ false → 0 ≡ dropCode plan book k
+    unfolding dropCode
+    drop-0 h = rw (lt-leb (plan .tasks) k known, h)

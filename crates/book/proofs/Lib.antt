@@ -1,9 +1,12 @@
 pub mod SoundLaws
 pub mod TableLaws
 pub mod StartLaws
+pub mod SkipLaws
 pub mod CodeLaws
 pub mod EarlyLaws
 pub mod Accepted
+pub mod Sizes
 pub mod Views
+pub mod Soundness
 pub mod ReportLaws
 pub mod Reports

@@ -9,13 +9,13 @@ use lib.Dec.{eqb}
 use lib.ListN.{length, set, getD-replicate}
 use lib.Seq.{getD-set-same, getD-set-other}
 use borrow.Author.Tests.{eq-eqb, ne-eqb, not-true, not-false}
-use Rattle.laws.specs.Cases.{by-eq}
+use Rattle.laws.specs.Cases.{by-eq, and-no}
 use Rattle.laws.specs.Every.{every}
 use Rattle.laws.specs.Latest.{latest}
 use Rattle.theory.specs.Book.{ended, taskTest, soundTest}
 use Rattle.theory.specs.Figure.{minimumEarly}
-use Rattle.theory.specs.Report.{Accepts, reportCode, nonePast}
-use Rattle.theory.proofs.Reflect.{code-accepts, all-ended-at}
+use Rattle.theory.specs.Report.{Accepts, AcceptsDrop, reportCode, dropCode, nonePast}
+use Rattle.theory.proofs.Reflect.{code-accepts, code-accepts-drop, all-ended-at}
 use Rattle.theory.proofs.Task.{started-all}
 use Rattle.plan.specs.Answer.{refuse, granted}
 use Rattle.plan.specs.Value.{at, isAccepted}
@@ -23,17 +23,21 @@ use Rattle.plan.specs.declared.Answer.{Answer}
 use Rattle.plan.specs.declared.Plan.{Plan}
 use Rattle.book.specs.View.{planIn, planView, bookView, planSeen}
 use Rattle.book.specs.Sound.{pastNothing, isSound}
-use Rattle.book.specs.Open.{blankBook, letGoIn, openedOn, zeroBook, openingOf}
+use Rattle.book.specs.Open.{blankBook, mayGo, letGoIn, skipTimesIn, openedOn, zeroBook, openingOf}
 use Rattle.book.specs.Report.{codeOf, reportAnswer, endedIn, nextBook, reportedOf}
+use Rattle.book.specs.Drop.{dropCodeOf, dropAnswer, droppedIn, droppedOf}
 use Rattle.book.specs.Early.{figureOf}
 use Rattle.book.specs.Table.{Closed, Fit}
-use Rattle.book.specs.Arrays.{codeSeen, startsSeen}
+use Rattle.book.specs.Arrays.{codeSeen, dropSeen, startsSeen}
 use Rattle.book.specs.declared.Book.{Book}
 use Rattle.book.specs.declared.Opening.{Opening}
 use Rattle.book.specs.declared.Reported.{Reported}
+use Rattle.book.specs.declared.Dropped.{Dropped}
 use Rattle.book.specs.declared.Figure.{Figure}
 use Rattle.book.proofs.Accepted.{PlanFacts, plan-facts, plan-lawful, plan-boards, plan-turns}
-use Rattle.book.proofs.Views.{SoundFacts, is-sound-facts}
+use Rattle.book.proofs.Views.{at-zeros}
+use Rattle.book.proofs.Soundness.{SoundFacts, is-sound-facts}
+use Rattle.book.proofs.SkipLaws.{idle-times}
 
 -- the soundness test, part by part
 module _ (book : Book) {plan : Bool} (p : plan ≡ isAccepted (planIn book)) where
@@ -67,6 +71,11 @@ module _ (book : Book) {plan : Bool} (p : plan ≡ isAccepted (planIn book)) whe
             and-true true = refl
             and-true false = refl
 
+-- nobody is dropped on a blank book
+none-dropped : (plan : Plan) (n : ℕ) → skipTimesIn n (blankBook plan) ≡ blankBook plan
+unfolding blankBook
+none-dropped plan n = idle-times n (blankBook plan) (λ i l. rw (at-zeros i) (and-no (mayGo (blankBook plan) i)))
+
 -- opening
 module _ (plan : Plan) {ok : Bool} (p : ok ≡ isAccepted plan) {answer : Answer} {book : Book} where
   pub opening-refused :
@@ -76,10 +85,11 @@ module _ (plan : Plan) {ok : Bool} (p : ok ≡ isAccepted plan) {answer : Answer
   opening-refused h a b = rw (sym p ∙ not-true ok h, a, b)
 
   pub opening-granted :
-      not ok ≡ false → answer ≡ granted → {empty : Book} → empty ≡ blankBook plan → book ≡ letGoIn empty
+      not ok ≡ false → answer ≡ granted → {empty : Book} → empty ≡ blankBook plan
+      → book ≡ letGoIn (skipTimesIn (empty .tasks) empty)
       → _≡_ {A = Opening} (record { answer = answer; book = book }) (openingOf plan)
   unfolding openingOf openedOn
-  opening-granted h a e b = rw (sym p ∙ not-false ok h, a, b, e)
+  opening-granted h a e b = rw (sym p ∙ not-false ok h, a, b, e, none-dropped plan _)
 
 -- nobody has started on a blank book
 pub fit-blank : (plan : Plan) → isAccepted plan ≡ true → Fit (blankBook plan)
@@ -175,12 +185,69 @@ module _ (book : Book) (task tick : ℕ) {sound : Bool} (s : sound ≡ isSound b
         granted-fit size = fit-ended book (task - 1) tick ((is-sound-facts book) .0 its-sound) (its-task .1) size
 
         pub reported-granted :
-            {answer : Answer} → answer ≡ granted → {next : Book} → next ≡ letGoIn (endedIn book (task - 1) tick)
+            {answer : Answer} → answer ≡ granted → {next : Book}
+            → next ≡ letGoIn (skipTimesIn (book .tasks) (endedIn book (task - 1) tick))
             → _≡_ {A = Reported} (record { answer = answer; book = next }) (reportedOf book task tick)
         unfolding reportedOf reportAnswer nextBook
         reported-granted a e = rw (a, e, its-sound, ← its-code, eq-eqb code 0 z)
 
+-- code 0 of a drop names a waiting task
+pub drop-zero :
+    (book : Book) (task : ℕ) → dropCodeOf book task ≡ 0 → (0 < task) × (AcceptsDrop (planView book) (bookView book) (task - 1))
+unfolding dropCodeOf
+drop-zero book task h =
+    by-eq task 0
+    (λ e. let z : _≡_ {A = ℕ} 10 0 = rw (eq-eqb task 0 e) at h in absurd (omega arith))
+    (λ n. (omega arith, code-accepts-drop (planView book) (bookView book) (task - 1) (rw (ne-eqb task 0 n) at h)))
+
+-- a drop
+module _ (book : Book) (task : ℕ) {sound : Bool} (s : sound ≡ isSound book) where
+  pub dropped-unsound :
+      {answer : Answer} → not sound ≡ true → answer ≡ refuse 9 0 0
+      → _≡_ {A = Dropped} (record { answer = answer; book = book }) (droppedOf book task)
+  unfolding droppedOf dropAnswer
+  dropped-unsound h a = rw (a, sym s ∙ not-true sound h)
+
+  module _ (h : not sound ≡ false) {code : ℕ} (c : code ≡ dropSeen (book .tasks) (book .mark) (book .dropped) task) where
+    drop-sound : isSound book ≡ true
+    drop-sound = sym s ∙ not-false sound h
+
+    drop-code-is : code ≡ dropCodeOf book task
+    unfolding dropCodeOf dropCode
+    drop-code-is = c
+
+    pub dropped-refused :
+        {answer : Answer} → code ≢ 0 → answer ≡ refuse code task 0
+        → _≡_ {A = Dropped} (record { answer = answer; book = book }) (droppedOf book task)
+    unfolding droppedOf dropAnswer
+    dropped-refused n a = rw (a, drop-sound, ← drop-code-is, ne-eqb code 0 n, ne-eqb code 0 n)
+
+    module _ (z : code ≡ 0) where
+      drop-task : (0 < task) × (AcceptsDrop (planView book) (bookView book) (task - 1))
+      drop-task = drop-zero book task (sym drop-code-is ∙ z)
+
+      pub dropped-task : 0 < task
+      dropped-task = drop-task .0
+
+      pub dropped-place : task - 1 < 64
+      dropped-place = omega (arith, drop-task .1 .task, sound-plan book drop-sound .tasks-to)
+
+      pub dropped-granted :
+          {answer : Answer} → answer ≡ granted → {next : Book} → next ≡ droppedIn book (task - 1)
+          → _≡_ {A = Dropped} (record { answer = answer; book = next }) (droppedOf book task)
+      unfolding droppedOf dropAnswer
+      dropped-granted a e = rw (a, e, drop-sound, ← drop-code-is, eq-eqb code 0 z)
+
 -- the same of the definitions alone
+module _ (book : Book) (task : ℕ) (h : isSound book ≡ true) where
+  pub drop-refused-book : dropCodeOf book task ≢ 0 → (droppedOf book task) .book ≡ book
+  unfolding droppedOf dropAnswer
+  drop-refused-book n = rw (h, ne-eqb (dropCodeOf book task) 0 n, ne-eqb (dropCodeOf book task) 0 n)
+
+  pub drop-granted-book : dropCodeOf book task ≡ 0 → (droppedOf book task) .book ≡ droppedIn book (task - 1)
+  unfolding droppedOf dropAnswer
+  drop-granted-book z = rw (h, eq-eqb (dropCodeOf book task) 0 z)
+
 module _ (book : Book) (task tick : ℕ) (h : isSound book ≡ true) where
   pub book-refused : codeOf book task tick ≢ 0 → (reportedOf book task tick) .book ≡ book
   unfolding reportedOf reportAnswer

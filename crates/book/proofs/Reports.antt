@@ -1,88 +1,132 @@
--- A report on a sound book is the theory's report on its view; the book stays sound and sized, its plan stays.
+-- A report or drop on a sound book is the theory's on its view; the book stays sound and sized, its plan stays.
 use Prim.Native.Nat.{ℕ, _-_}
 use native.Mathlib.Omega.{arith}
 use mathlib.Core.Bool.{true, cond}
-use mathlib.Core.Path.{_≡_, sym, ap, _∙_}
+use mathlib.Core.Path.{_≡_, refl, sym, ap, _∙_}
 use mathlib.Core.Logic.{_≢_}
 use lib.Dec.{eqb}
 use borrow.Author.Tests.{eq-eqb, ne-eqb, le-leb}
 use Rattle.laws.specs.Cases.{by-eq}
-use Rattle.theory.specs.Report.{reportCode, next, bookAfter}
+use Rattle.theory.specs.Report.{reportCode, dropCode, Event, eventCode, stepTo, bookAfter}
 use Rattle.theory.proofs.Reflect.{after-taken, after-refused}
 use Rattle.book.specs.View.{planIn, planView, bookView}
 use Rattle.book.specs.Sound.{isSound}
-use Rattle.book.specs.Report.{codeOf, nextBook, reportedOf}
+use Rattle.book.specs.Report.{codeOf, nextBook}
+use Rattle.book.specs.Drop.{dropCodeOf, droppedIn}
+use Rattle.book.specs.Event.{bookTold}
 use Rattle.book.specs.declared.Book.{Book}
-use Rattle.book.proofs.Views.{Sized, sized-next, plan-next, view-next, next-is-sound}
-use Rattle.book.proofs.ReportLaws.{code-zero, sound-plan, book-refused, book-granted}
+use Rattle.book.proofs.Sizes.{Sized, sized-next, plan-next}
+use Rattle.book.proofs.Views.{view-next}
+use Rattle.book.proofs.Soundness.{next-is-sound}
+use Rattle.book.proofs.Sizes.{sized-dropped, plan-dropped}
+use Rattle.book.proofs.Views.{view-dropped}
+use Rattle.book.proofs.Soundness.{dropped-is-sound}
+use Rattle.book.proofs.ReportLaws.{code-zero, drop-zero, sound-plan, book-refused, book-granted, drop-refused-book, drop-granted-book}
 
--- the book that a report hands back
-abbrev pub reportBook : Book → ℕ → ℕ → Book
-reportBook book task tick = (reportedOf book task tick) .book
+-- the code of a report or drop from 10 on, and the book after one that is accepted
+abbrev pub codeIn : Book → Event → ℕ
+codeIn book (Event.ends task tick) = codeOf book task tick
+codeIn book (Event.drops task) = dropCodeOf book task
+
+abbrev pub stepIn : Book → Event → Book
+stepIn book (Event.ends task tick) = nextBook book (task - 1) tick
+stepIn book (Event.drops task) = droppedIn book (task - 1)
 
 -- the theory's number of a task; task 0 is nobody, as T is
-abbrev pub theoryTask : Book → ℕ → ℕ
-theoryTask book task = cond (eqb task 0) (book .tasks) (task - 1)
+abbrev pub theoryTask : ℕ → ℕ → ℕ
+theoryTask tasks task = cond (eqb task 0) tasks (task - 1)
 
-pub code-seen-by : (book : Book) (task tick : ℕ) → codeOf book task tick ≡ reportCode (planView book) (bookView book) (theoryTask book task) tick
-unfolding codeOf reportCode
-code-seen-by book task tick =
+abbrev pub theoryEvent : ℕ → Event → Event
+theoryEvent tasks (Event.ends task tick) = Event.ends (theoryTask tasks task) tick
+theoryEvent tasks (Event.drops task) = Event.drops (theoryTask tasks task)
+
+pub code-seen-by : (book : Book) (event : Event) → codeIn book event ≡ eventCode (planView book) (bookView book) (theoryEvent (book .tasks) event)
+unfolding codeOf reportCode dropCodeOf dropCode
+code-seen-by book (Event.ends task tick) =
+    by-eq task 0
+    (λ z. rw (eq-eqb task 0 z, le-leb (book .tasks) (book .tasks) (omega arith)))
+    (λ n. rw (ne-eqb task 0 n))
+code-seen-by book (Event.drops task) =
     by-eq task 0
     (λ z. rw (eq-eqb task 0 z, le-leb (book .tasks) (book .tasks) (omega arith)))
     (λ n. rw (ne-eqb task 0 n))
 
-pub data Told (book : Book) (task tick : ℕ) (after : Book) : Type 0 where
-  taken : codeOf book task tick ≡ 0 → after ≡ nextBook book (task - 1) tick → Told book task tick after
-  refused : codeOf book task tick ≢ 0 → after ≡ book → Told book task tick after
+step-plan : (book : Book) (event : Event) → planIn (stepIn book event) ≡ planIn book
+step-plan book (Event.ends task tick) = plan-next book (task - 1) tick
+step-plan book (Event.drops task) = plan-dropped book (task - 1)
 
-module _ (book : Book) (task tick : ℕ) (h : isSound book ≡ true) where
-  pub told : Told book task tick (reportBook book task tick)
-  told =
+step-sized : (book : Book) (event : Event) → Sized book → Sized (stepIn book event)
+step-sized book (Event.ends task tick) s = sized-next book (task - 1) tick s
+step-sized book (Event.drops task) s = sized-dropped book (task - 1) s
+
+module _ (book : Book) (h : isSound book ≡ true) where
+  step-sound : (event : Event) → codeIn book event ≡ 0 → Sized book → isSound (stepIn book event) ≡ true
+  step-sound (Event.ends task tick) z s = next-is-sound book (task - 1) tick s h (code-zero book task tick z .1)
+  step-sound (Event.drops task) z s = dropped-is-sound book (task - 1) s h (drop-zero book task z .1)
+
+  step-view :
+      (event : Event) → codeIn book event ≡ 0 → Sized book
+      → bookView (stepIn book event) ≡ stepTo (planView book) (bookView book) (theoryEvent (book .tasks) event)
+  step-view (Event.ends task tick) z s =
+      let r = code-zero book task tick z in
+      let few = sound-plan book h .tasks-to in
+      let n : task ≢ 0 = omega (arith, r .0) in
+      rw (ne-eqb task 0 n) (view-next book (task - 1) tick s few (omega (arith, r .1 .task)))
+  step-view (Event.drops task) z s =
+      let r = drop-zero book task z in
+      let few = sound-plan book h .tasks-to in
+      let n : task ≢ 0 = omega (arith, r .0) in
+      rw (ne-eqb task 0 n) (view-dropped book (task - 1) s (omega (arith, r .1 .task)))
+
+pub data Told (book : Book) (event : Event) (after : Book) : Type 0 where
+  taken : codeIn book event ≡ 0 → after ≡ stepIn book event → Told book event after
+  refused : codeIn book event ≢ 0 → after ≡ book → Told book event after
+
+module _ (book : Book) (h : isSound book ≡ true) where
+  pub told : (event : Event) → Told book event (bookTold book event)
+  told (Event.ends task tick) =
       by-eq (codeOf book task tick) 0
       (λ z. Told.taken z (book-granted book task tick h z))
       (λ n. Told.refused n (book-refused book task tick h n))
+  told (Event.drops task) =
+      by-eq (dropCodeOf book task) 0
+      (λ z. Told.taken z (drop-granted-book book task h z))
+      (λ n. Told.refused n (drop-refused-book book task h n))
 
-  pub report-plan : planIn (reportBook book task tick) ≡ planIn book
-  report-plan = go (reportBook book task tick) told
-    where
-      go : (after : Book) → Told book task tick after → planIn after ≡ planIn book
-      go after (Told.taken z e) = rw e (plan-next book (task - 1) tick)
-      go after (Told.refused n e) = rw e
-
-  module _ (s : Sized book) where
-    pub report-sized : Sized (reportBook book task tick)
-    report-sized = go (reportBook book task tick) told
+  module _ (event : Event) where
+    pub event-plan : planIn (bookTold book event) ≡ planIn book
+    event-plan = go (bookTold book event) (told event)
       where
-        go : (after : Book) → Told book task tick after → Sized after
-        go after (Told.taken z e) = rw e (sized-next book (task - 1) tick s)
-        go after (Told.refused n e) = rw e s
+        go : (after : Book) → Told book event after → planIn after ≡ planIn book
+        go after (Told.taken z e) = rw e (step-plan book event)
+        go after (Told.refused n e) = rw e
 
-    pub report-sound : isSound (reportBook book task tick) ≡ true
-    report-sound = go (reportBook book task tick) told
-      where
-        go : (after : Book) → Told book task tick after → isSound after ≡ true
-        go after (Told.taken z e) = rw e (next-is-sound book (task - 1) tick s h (code-zero book task tick z .1))
-        go after (Told.refused n e) = rw e h
+    module _ (s : Sized book) where
+      pub event-sized : Sized (bookTold book event)
+      event-sized = go (bookTold book event) (told event)
+        where
+          go : (after : Book) → Told book event after → Sized after
+          go after (Told.taken z e) = rw e (step-sized book event s)
+          go after (Told.refused n e) = rw e s
 
-    pub report-view :
-        bookView (reportBook book task tick) ≡ bookAfter (planView book) (bookView book) (theoryTask book task) tick
-    report-view = go (reportBook book task tick) told
-      where
-        go :
-            (after : Book) → Told book task tick after
-            → bookView after ≡ bookAfter (planView book) (bookView book) (theoryTask book task) tick
-        go after (Told.taken z e) =
-            let r = code-zero book task tick z in
-            let few = sound-plan book h .tasks-to in
-            let n : task ≢ 0 = omega (arith, r .0) in
-            let same : theoryTask book task ≡ task - 1 = rw (ne-eqb task 0 n) in
-            let view : bookView (nextBook book (task - 1) tick) ≡ next (planView book) (bookView book) (task - 1) tick =
-            view-next book (task - 1) tick s few (omega (arith, r .1 .task)) in
-            ap (λ (x : Book). bookView x) e ∙ view
-            ∙ sym
-            (ap (λ (x : ℕ). bookAfter (planView book) (bookView book) x tick) same
-            ∙ after-taken (planView book) (bookView book) (task - 1) tick (rw (code-seen-by book task tick, same) at z))
-        go after (Told.refused n e) =
-            ap (λ (x : Book). bookView x) e
-            ∙ sym
-            (after-refused (planView book) (bookView book) (theoryTask book task) tick (λ z. n (code-seen-by book task tick ∙ z)))
+      pub event-sound : isSound (bookTold book event) ≡ true
+      event-sound = go (bookTold book event) (told event)
+        where
+          go : (after : Book) → Told book event after → isSound after ≡ true
+          go after (Told.taken z e) = rw e (step-sound book h event z s)
+          go after (Told.refused n e) = rw e h
+
+      pub event-view :
+          bookView (bookTold book event) ≡ bookAfter (planView book) (bookView book) (theoryEvent (book .tasks) event)
+      event-view = go (bookTold book event) (told event)
+        where
+          go :
+              (after : Book) → Told book event after
+              → bookView after ≡ bookAfter (planView book) (bookView book) (theoryEvent (book .tasks) event)
+          go after (Told.taken z e) =
+              ap (λ (x : Book). bookView x) e ∙ step-view book h event z s
+              ∙ sym (after-taken (planView book) (bookView book) (theoryEvent (book .tasks) event) (sym (code-seen-by book event) ∙ z))
+          go after (Told.refused n e) =
+              ap (λ (x : Book). bookView x) e
+              ∙ sym
+              (after-refused (planView book) (bookView book) (theoryEvent (book .tasks) event) (λ z. n (code-seen-by book event ∙ z)))

@@ -28,6 +28,7 @@ startedTo book n = record {
   start = each n (λ i. cond (mayGo book i) (book .clock) (at (book .start) i)) (book .start);
   end = book .end;
   mark = each n (λ i. cond (mayGo book i) 1 (at (book .mark) i)) (book .mark);
+  dropped = book .dropped;
   holds = book .holds;
   after = book .after;
 }
@@ -54,6 +55,7 @@ module _ (book : Book) (i : ℕ) {next : Book} (h : next ≡ startedTo book i) w
         start = set (next .start) i (book .clock);
         end = next .end;
         mark = set (next .mark) i 1;
+        dropped = next .dropped;
         holds = next .holds;
         after = next .after;
       })

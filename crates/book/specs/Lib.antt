@@ -2,6 +2,8 @@ pub mod View
 pub mod Sound
 pub mod Open
 pub mod Report
+pub mod Drop
+pub mod Event
 pub mod Early
 pub mod Table
 pub mod Arrays

@@ -1,9 +1,9 @@
--- Opening a book, and letting go whoever may go.
-use Prim.Native.Nat.{ℕ}
+-- Opening a book, skipping dropped tasks that may go, and letting go whoever may go.
+use Prim.Native.Nat.{ℕ, zero, suc}
 use mathlib.Core.Bool.{Bool, cond}
 use lib.ListN.{replicate}
 use Rattle.laws.specs.Each.{each}
-use Rattle.theory.specs.Report.{goes}
+use Rattle.theory.specs.Report.{goes, skips}
 use Rattle.plan.specs.Answer.{refuse, granted}
 use Rattle.plan.specs.Value.{at, isAccepted, zeroPlan}
 use Rattle.plan.specs.declared.Plan.{Plan}
@@ -23,6 +23,7 @@ blankBook plan = record {
   start = replicate 64 0;
   end = replicate 64 0;
   mark = replicate 64 0;
+  dropped = replicate 64 0;
   holds = plan .holds;
   after = plan .after;
 }
@@ -43,9 +44,35 @@ letGoIn book = record {
   start = each (book .tasks) (λ i. cond (mayGo book i) (book .clock) (at (book .start) i)) (book .start);
   end = book .end;
   mark = each (book .tasks) (λ i. cond (mayGo book i) 1 (at (book .mark) i)) (book .mark);
+  dropped = book .dropped;
   holds = book .holds;
   after = book .after;
 }
+
+-- a dropped task takes no time: once it may go it starts and ends at the clock
+abbrev pub maySkip : Book → ℕ → Bool
+maySkip book i = skips (planView book) (bookView book) i
+
+unfoldable pub skipIn : Book → Book
+skipIn book = record {
+  boards = book .boards;
+  tasks = book .tasks;
+  clock = book .clock;
+  board = book .board;
+  begin = book .begin;
+  finish = book .finish;
+  start = each (book .tasks) (λ i. cond (maySkip book i) (book .clock) (at (book .start) i)) (book .start);
+  end = each (book .tasks) (λ i. cond (maySkip book i) (book .clock) (at (book .end) i)) (book .end);
+  mark = each (book .tasks) (λ i. cond (maySkip book i) 2 (at (book .mark) i)) (book .mark);
+  dropped = book .dropped;
+  holds = book .holds;
+  after = book .after;
+}
+
+-- others that it held back may follow on the same tick, so this is done again and again
+unfoldable pub skipTimesIn : ℕ → Book → Book
+skipTimesIn zero book = book
+skipTimesIn (suc n) book = skipTimesIn n (skipIn book)
 
 -- A task that waits for nobody starts at tick 0, even if it was planned later
 unfoldable pub openedOn : Plan → Book

@@ -8,7 +8,7 @@ use Rattle.plan.specs.Answer.{refuse, granted, isGranted}
 use Rattle.plan.specs.declared.Answer.{Answer}
 use Rattle.book.specs.View.{planView, bookView}
 use Rattle.book.specs.Sound.{isSound}
-use Rattle.book.specs.Open.{letGoIn}
+use Rattle.book.specs.Open.{skipTimesIn, letGoIn}
 use Rattle.book.specs.declared.Book.{Book}
 use Rattle.book.specs.declared.Reported.{Reported}
 
@@ -34,13 +34,14 @@ endedIn book k tick = record {
   start = book .start;
   end = set (book .end) k tick;
   mark = set (book .mark) k 2;
+  dropped = book .dropped;
   holds = book .holds;
   after = book .after;
 }
 
--- end it, then let go whoever may go
+-- end it, skip the dropped tasks that may go, then let go whoever may go. No chain is longer than there are tasks
 unfoldable pub nextBook : Book → ℕ → ℕ → Book
-nextBook book k tick = letGoIn (endedIn book k tick)
+nextBook book k tick = letGoIn (skipTimesIn (book .tasks) (endedIn book k tick))
 
 -- a refused report gives the book it was given
 unfoldable pub reportedOf : Book → ℕ → ℕ → Reported

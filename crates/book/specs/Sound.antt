@@ -9,7 +9,8 @@ use Rattle.book.specs.declared.Book.{Book}
 abbrev pub pastNothing : Book → Bool
 pastNothing book =
     blankFrom (book .tasks) (book .start)
-    && (blankFrom (book .tasks) (book .end) && blankFrom (book .tasks) (book .mark))
+    && (blankFrom (book .tasks) (book .end)
+    && (blankFrom (book .tasks) (book .mark) && blankFrom (book .tasks) (book .dropped)))
 
 -- its plan is accepted; starts, ends, waiting and running tasks and the clock are as the rules say
 unfoldable pub isSound : Book → Bool

@@ -24,11 +24,12 @@ planIn book = record {
 abbrev pub planSeen : ℕ → List ℕ → List ℕ → theory-plan.Plan
 planSeen tasks begin finish = earlyStart tasks (at begin) (at finish)
 
-abbrev pub bookSeen : List ℕ → List ℕ → List ℕ → ℕ → theory-book.Book
-bookSeen mark start end clock = record { mark = at mark; start = at start; end = at end; clock = clock }
+abbrev pub bookSeen : List ℕ → List ℕ → List ℕ → List ℕ → ℕ → theory-book.Book
+bookSeen mark start end dropped clock =
+    record { mark = at mark; start = at start; end = at end; dropped = at dropped; clock = clock }
 
 abbrev pub planView : Book → theory-plan.Plan
 planView book = planSeen (book .tasks) (book .begin) (book .finish)
 
 abbrev pub bookView : Book → theory-book.Book
-bookView book = bookSeen (book .mark) (book .start) (book .end) (book .clock)
+bookView book = bookSeen (book .mark) (book .start) (book .end) (book .dropped) (book .clock)

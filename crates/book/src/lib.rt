@@ -1,6 +1,7 @@
 // A book on a plan: planned times, starts, ends and marks beside the clock, and the rest of its plan.
 mod early;
 mod refusal;
+mod skip;
 mod sound;
 mod start;
 mod table;
@@ -10,12 +11,13 @@ use plan::Plan;
 use plan::ranges::is_accepted;
 ghost use mathlib.Core.Path.{_≡_};
 ghost use Rattle.book.specs.Sound.{isSound};
-ghost use Rattle.book.specs.Open.{blankBook, letGoIn, zeroBook, openingOf};
+ghost use Rattle.book.specs.Open.{blankBook, skipTimesIn, letGoIn, zeroBook, openingOf};
 ghost use Rattle.book.specs.Report.{reportedOf};
+ghost use Rattle.book.specs.Drop.{droppedOf};
 ghost use Rattle.book.specs.Early.{figureOf};
 ghost use Rattle.book.specs.Table.{Fit};
 
-// mark: 0 waiting, 1 running, 2 ended.
+// mark: 0 waiting, 1 running, 2 ended; dropped: 1 for a dropped task, 0 for any other.
 #[repr(C)]
 pub struct Book {
     pub boards: u8,
@@ -27,6 +29,7 @@ pub struct Book {
     pub start: [u32; 64],
     pub end: [u32; 64],
     pub mark: [u8; 64],
+    pub dropped: [u8; 64],
     pub holds: [u8; 2048],
     pub after: [u8; 4096],
 }
@@ -44,9 +47,23 @@ pub struct Reported {
 }
 
 #[repr(C)]
+pub struct Dropped {
+    pub answer: Answer,
+    pub book: Book,
+}
+
+#[repr(C)]
 pub struct Figure {
     pub answer: Answer,
     pub early: u32,
+}
+
+// The arrays after one round of skipping, and whether it skipped somebody.
+pub(crate) struct Round {
+    pub mark: [u8; 64],
+    pub start: [u32; 64],
+    pub end: [u32; 64],
+    pub some: bool,
 }
 
 // The test of code 9.
@@ -65,7 +82,7 @@ pub fn is_sound(book: Book) -> bool
         return false;
     }
     let tasks = book.tasks as usize;
-    if !sound::past_nothing(&book.start, &book.end, &book.mark, tasks) {
+    if !sound::past_nothing(&book.start, &book.end, &book.mark, &book.dropped, tasks) {
         return false;
     }
     if !sound::tasks_sound(
@@ -74,6 +91,7 @@ pub fn is_sound(book: Book) -> bool
         &book.start,
         &book.end,
         &book.mark,
+        &book.dropped,
         book.clock,
         tasks,
     ) {
@@ -101,6 +119,7 @@ fn blank_book(plan: Plan) -> Book
         start: [0; 64],
         end: [0; 64],
         mark: [0; 64],
+        dropped: [0; 64],
         holds,
         after,
     }
@@ -120,19 +139,21 @@ fn zero_book() -> Book
         start: [0; 64],
         end: [0; 64],
         mark: [0; 64],
+        dropped: [0; 64],
         holds: [0; 2048],
         after: [0; 4096],
     }
 }
 
-// Whoever may go starts at the clock.
+// Dropped tasks that may go are skipped, then whoever may go starts at the clock.
 fn let_go(book: Book) -> Book
     requires { ⌜ Fit book ⌝ }
-    ensures { λ r. ⌜ r ≡ letGoIn book ⌝ }
+    ensures { λ r. ⌜ r ≡ letGoIn (skipTimesIn (book .tasks) book) ⌝ }
 {
     let tasks = book.tasks as usize;
     let last = table::last_tasks(&book.board, &book.begin, &book.finish, &book.mark, tasks);
-    start::start_free(book, last)
+    let skipped = skip::skip_free(book, last);
+    start::start_free(book, skipped, last)
 }
 
 pub fn open_book(plan: Plan) -> Opening
@@ -192,6 +213,32 @@ impl Book {
         Reported {
             answer: refusal::refuse(0, 0, 0),
             book: let_go(self),
+        }
+    }
+
+    // A dropped task takes no time, but only once all it waits for have ended.
+    pub fn drop(mut self, task: u32) -> Dropped
+        ensures { λ r. ⌜ r ≡ droppedOf self task ⌝ }
+    {
+        if !is_sound(self) {
+            return Dropped {
+                answer: refusal::refuse(9, 0, 0),
+                book: self,
+            };
+        }
+        let tasks = self.tasks as usize;
+        let refused = refusal::drop_code(&self.mark, &self.dropped, tasks, task);
+        if refused != 0 {
+            return Dropped {
+                answer: refusal::refuse(refused, task, 0),
+                book: self,
+            };
+        }
+        let k = (task - 1) as usize;
+        self.dropped[k] = 1;
+        Dropped {
+            answer: refusal::refuse(0, 0, 0),
+            book: self,
         }
     }
 

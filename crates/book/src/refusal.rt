@@ -1,4 +1,4 @@
-// The codes 10 to 15 of a report.
+// The codes 10 to 15 of a report, 10 and 19 of a drop.
 use crate::sound::limit_of;
 use crate::sound::wide;
 use plan::Answer;
@@ -7,7 +7,7 @@ ghost use Prim.Native.Nat.{_≤_};
 ghost use Rattle.theory.specs.Report.{nonePast};
 ghost use Rattle.plan.specs.Answer as plan-answer;
 ghost use Rattle.book.specs.View.{planSeen};
-ghost use Rattle.book.specs.Arrays.{startsSeen, codeSeen};
+ghost use Rattle.book.specs.Arrays.{startsSeen, codeSeen, dropSeen};
 
 pub(crate) fn refuse(code: u32, first: u32, second: u32) -> Answer
     ensures { λ r. ⌜ r ≡ plan-answer.refuse code first second ⌝ }
@@ -74,6 +74,29 @@ pub(crate) fn report_code<'a>(
     }
     if !none_past(begin, finish, start, mark, tasks, tick) {
         return 15;
+    }
+    0
+}
+
+// 10, then 19 where its start is known or it is already dropped, or 0.
+pub(crate) fn drop_code<'a>(
+    mark: &'a [u8; 64],
+    dropped: &'a [u8; 64],
+    tasks: usize,
+    task: u32,
+) -> u32
+    requires { ⌜ tasks ≤ 64 ⌝ }
+    ensures { λ r. ⌜ r ≡ dropSeen tasks (now (mark .entry)) (now (dropped .entry)) task ⌝ }
+{
+    if task == 0 {
+        return 10;
+    }
+    let k = (task - 1) as usize;
+    if tasks <= k {
+        return 10;
+    }
+    if (mark[k] != 0) | (dropped[k] == 1) {
+        return 19;
     }
     0
 }

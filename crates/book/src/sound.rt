@@ -4,7 +4,7 @@ ghost use mathlib.Core.Bool.{cond, _&&_};
 ghost use Prim.Native.Nat.{_+_, _-_, _<_, _≤_, max};
 ghost use Rattle.laws.specs.Every.{every};
 ghost use Rattle.laws.specs.Latest.{latest};
-ghost use Rattle.theory.specs.Book.{ended, allEnded, due, taskTest};
+ghost use Rattle.theory.specs.Book.{ended, allEnded, due, waitsAtAll, taskTest};
 ghost use Rattle.plan.specs.Value.{at, blankFrom};
 ghost use Rattle.book.specs.View.{planSeen, bookSeen};
 use plan::ranges::blank_bytes;
@@ -85,6 +85,19 @@ pub(crate) fn last_end<'a>(mark: &'a [u8; 64], end: &'a [u32; 64], tasks: usize)
     last
 }
 
+// Does the task wait for somebody?
+fn waits_at_all<'a>(begin: &'a [u32; 64], finish: &'a [u32; 64], tasks: usize, i: usize) -> bool
+    requires { ⌜ (tasks ≤ 64) × (i < 64) ⌝ }
+    ensures { λ r. ⌜ r ≡ waitsAtAll (planSeen tasks (now (begin .entry)) (now (finish .entry))) i ⌝ }
+{
+    let by = begin[i];
+    let mut some = false;
+    for j in 0..tasks {
+        some = (finish[j] <= by) | some;
+    }
+    some
+}
+
 // Is the task's state as the rules say?
 fn task_sound<'a>(
     begin: &'a [u32; 64],
@@ -92,28 +105,35 @@ fn task_sound<'a>(
     start: &'a [u32; 64],
     end: &'a [u32; 64],
     mark: &'a [u8; 64],
+    dropped: &'a [u8; 64],
     clock: u32,
     tasks: usize,
     i: usize,
 ) -> bool
     requires { ⌜ (tasks ≤ 64) × (i < 64) ⌝ }
-    ensures { λ r. ⌜ r ≡ taskTest (planSeen tasks (now (begin .entry)) (now (finish .entry))) (bookSeen (now (mark .entry)) (now (start .entry)) (now (end .entry)) clock) i ⌝ }
+    ensures { λ r. ⌜ r ≡ taskTest (planSeen tasks (now (begin .entry)) (now (finish .entry))) (bookSeen (now (mark .entry)) (now (start .entry)) (now (end .entry)) (now (dropped .entry)) clock) i ⌝ }
 {
     let state = mark[i];
+    let gone = dropped[i];
     let started = start[i];
     let over = end[i];
     let free = all_ended(begin, finish, mark, tasks, i);
     if state == 0 {
-        return !free & ((started == 0) & (over == 0));
+        return (gone <= 1) & (!free & ((started == 0) & (over == 0)));
     }
     let due = due_at(begin, finish, end, tasks, i);
+    if gone == 1 {
+        let some = waits_at_all(begin, finish, tasks, i);
+        let at_once = (started == due) & ((over == started) & (over <= clock));
+        return (state == 2) & (some & (free & at_once));
+    }
     let limit = limit_of(begin[i], finish[i], started);
     if state == 1 {
-        return free & ((started == due) & ((over == 0) & (wide(clock) <= limit)));
+        let runs = (started == due) & ((over == 0) & (wide(clock) <= limit));
+        return (gone == 0) & (free & runs);
     }
-    (state == 2)
-        & (free
-            & ((started == due) & ((started < over) & ((wide(over) <= limit) & (over <= clock)))))
+    let in_time = (started < over) & ((wide(over) <= limit) & (over <= clock));
+    (state == 2) & ((gone == 0) & (free & ((started == due) & in_time)))
 }
 
 pub(crate) fn tasks_sound<'a>(
@@ -122,14 +142,15 @@ pub(crate) fn tasks_sound<'a>(
     start: &'a [u32; 64],
     end: &'a [u32; 64],
     mark: &'a [u8; 64],
+    dropped: &'a [u8; 64],
     clock: u32,
     tasks: usize,
 ) -> bool
     requires { ⌜ tasks ≤ 64 ⌝ }
-    ensures { λ r. ⌜ r ≡ every tasks (taskTest (planSeen tasks (now (begin .entry)) (now (finish .entry))) (bookSeen (now (mark .entry)) (now (start .entry)) (now (end .entry)) clock)) ⌝ }
+    ensures { λ r. ⌜ r ≡ every tasks (taskTest (planSeen tasks (now (begin .entry)) (now (finish .entry))) (bookSeen (now (mark .entry)) (now (start .entry)) (now (end .entry)) (now (dropped .entry)) clock)) ⌝ }
 {
     for i in 0..tasks {
-        if !task_sound(begin, finish, start, end, mark, clock, tasks, i) {
+        if !task_sound(begin, finish, start, end, mark, dropped, clock, tasks, i) {
             return false;
         }
     }
@@ -141,9 +162,11 @@ pub(crate) fn past_nothing<'a>(
     start: &'a [u32; 64],
     end: &'a [u32; 64],
     mark: &'a [u8; 64],
+    dropped: &'a [u8; 64],
     tasks: usize,
 ) -> bool
-    ensures { λ r. ⌜ r ≡ (blankFrom tasks (now (start .entry)) && (blankFrom tasks (now (end .entry)) && blankFrom tasks (now (mark .entry)))) ⌝ }
+    ensures { λ r. ⌜ r ≡ (blankFrom tasks (now (start .entry)) && (blankFrom tasks (now (end .entry)) && (blankFrom tasks (now (mark .entry)) && blankFrom tasks (now (dropped .entry))))) ⌝ }
 {
-    blank_ticks(&start[..], tasks) & (blank_ticks(&end[..], tasks) & blank_bytes(&mark[..], tasks))
+    let ticks = blank_ticks(&start[..], tasks) & blank_ticks(&end[..], tasks);
+    ticks & (blank_bytes(&mark[..], tasks) & blank_bytes(&dropped[..], tasks))
 }

@@ -1,5 +1,6 @@
 // The start rule: whoever waits and by the table waits for nobody any more starts at the clock.
 use crate::Book;
+use crate::Round;
 ghost use mathlib.Core.Path.{_≡_};
 ghost use mathlib.Core.Bool.{_&&_};
 ghost use Prim.Native.Nat.{_<_, _≤_};
@@ -7,7 +8,7 @@ ghost use Rattle.theory.specs.Book.{waiting};
 ghost use Rattle.plan.specs.Value.{at};
 ghost use Rattle.book.specs.View.{planView};
 ghost use Rattle.book.specs.Open.{letGoIn};
-ghost use Rattle.book.specs.Table.{hasEnded, rowEnded, SmallRow, TableTo, Fit};
+ghost use Rattle.book.specs.Table.{hasEnded, rowEnded, SmallRow, TableTo, Fit, withRound};
 
 fn has_ended(mark: &[u8; 64], held: u8) -> bool
     requires { ⌜ held ≤ 64 ⌝ }
@@ -33,7 +34,7 @@ fn row_ended(mark: &[u8; 64], row: [u8; 8]) -> bool
     true
 }
 
-fn may_go(mark: &[u8; 64], row: [u8; 8], i: usize) -> bool
+pub(crate) fn may_go(mark: &[u8; 64], row: [u8; 8], i: usize) -> bool
     requires { ⌜ i < 64 ⌝ }
     requires { ⌜ (at (now mark) i ≡ 0 → SmallRow row) ⌝ }
     ensures { λ r. ⌜ r ≡ (waiting (at (now (mark .entry))) i && rowEnded (at (now (mark .entry))) row) ⌝ }
@@ -44,16 +45,23 @@ fn may_go(mark: &[u8; 64], row: [u8; 8], i: usize) -> bool
     row_ended(mark, row)
 }
 
-pub(crate) fn start_free(book: Book, last: [[u8; 8]; 64]) -> Book
-    requires { ⌜ Fit book ⌝ }
-    requires { ⌜ TableTo (planView book) (at (book .board)) (at (book .mark)) (book .tasks) last ⌝ }
-    ensures { λ r. ⌜ r ≡ letGoIn book ⌝ }
+// The book with the arrays of the skipping, and then the starts.
+pub(crate) fn start_free(book: Book, skipped: Round, last: [[u8; 8]; 64]) -> Book
+    requires { ⌜ Fit (withRound book skipped) ⌝ }
+    requires { ⌜ TableTo (planView book) (at (book .board)) (at (skipped .mark)) (book .tasks) last ⌝ }
+    ensures { λ r. ⌜ r ≡ letGoIn (withRound book skipped) ⌝ }
 {
     let mut next = book;
+    let mark = skipped.mark;
+    let start = skipped.start;
+    let end = skipped.end;
+    next.mark = mark;
+    next.start = start;
+    next.end = end;
     let tasks = book.tasks as usize;
     for i in 0..tasks {
         let row = last[i];
-        if may_go(&book.mark, row, i) {
+        if may_go(&mark, row, i) {
             next.start[i] = book.clock;
             next.mark[i] = 1;
         }

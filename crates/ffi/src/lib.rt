@@ -8,9 +8,11 @@ ghost use Rattle.plan.specs.Value.{isAccepted};
 ghost use Rattle.book.specs.Sound.{isSound};
 ghost use Rattle.book.specs.Open.{openingOf};
 ghost use Rattle.book.specs.Report.{reportedOf};
+ghost use Rattle.book.specs.Drop.{droppedOf};
 ghost use Rattle.book.specs.Early.{figureOf};
 ghost use Rattle.log.specs.Ends.{Ran};
 use book::Book;
+use book::Dropped;
 use book::Figure;
 use book::Opening;
 use book::Reported;
@@ -68,6 +70,13 @@ pub extern "C" fn dispatch_report(book: Book, task: u32, tick: u32) -> Reported
     ensures { λ r. ⌜ r ≡ reportedOf book task tick ⌝ }
 {
     book.report(task, tick)
+}
+
+#[no_mangle]
+pub extern "C" fn dispatch_drop(book: Book, task: u32) -> Dropped
+    ensures { λ r. ⌜ r ≡ droppedOf book task ⌝ }
+{
+    book.drop(task)
 }
 
 #[no_mangle]

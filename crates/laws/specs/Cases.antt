@@ -37,12 +37,20 @@ pub and-r : (a b : Bool) → (a && b) ≡ true → b ≡ true
 and-r true b h = h
 and-r false b h = cc
 
+pub and-no : (a : Bool) → (a && false) ≡ false
+and-no true = refl
+and-no false = refl
+
 pub and-of : {a b : Bool} → a ≡ true → b ≡ true → (a && b) ≡ true
 and-of p q = rw (p, q)
 
 pub or-at : (a b : Bool) → (a || b) ≡ true → (a ≡ true) ⊎ (b ≡ true)
 or-at true b h = inl refl
 or-at false b h = inr h
+
+pub or-no : (a b : Bool) → (a || b) ≡ false → (a ≡ false) × (b ≡ false)
+or-no true b h = true-false refl h
+or-no false b h = (refl, h)
 
 pub or-l : {a : Bool} (b : Bool) → a ≡ true → (a || b) ≡ true
 or-l b p = rw p

@@ -35,3 +35,9 @@ count-lt (suc n) w v f k l a b =
 
 pub count-some : (n : ℕ) (w : ℕ → Bool) (k : ℕ) → k < n → w k ≡ true → 0 < count n w
 count-some n w k l h = let r = count-lt n w (λ j. false) (λ j l′ q. cc) k l h refl in omega arith
+
+pub count-all : (n : ℕ) (w : ℕ → Bool) → count n w ≤ n
+unfolding count
+count-all zero w = omega arith
+count-all (suc n) w =
+    let r = count-all n w in by-bool (w n) (λ h. rw h (omega arith)) (λ h. rw h (omega arith))

@@ -36,10 +36,25 @@ module _ {A : Type 0} where
       (λ e. rw (e, getD-set-same (each n f l) n (f n) d (omega (arith, length-each n f l))))
       (λ ne. getD-set-other (each n f l) n i (f n) d ne ∙ each-below n f l i d (omega arith) k)
 
+  each-none : (f : ℕ → A) (l : List A) → each 0 f l ≡ l
+  unfolding each
+  each-none f l = refl
+
+  each-stays : (n : ℕ) (f : ℕ → A) (l : List A) (d : A) → f n ≡ getD l n d → each (suc n) f l ≡ each n f l
+  unfolding each
+  each-stays n f l d e = rw (e, ← each-past n f l n d (omega arith), set-getD)
+
   -- a turn that stores nothing
   pub each-skip : (n : ℕ) (f : ℕ → A) (l : List A) (d : A) → f n ≡ getD l n d → each n f l ≡ each (n + 1) f l
   unfolding each
-  each-skip n f l d e = rw (add-one, e, ← each-past n f l n d (omega arith), set-getD)
+  each-skip n f l d e = rw (add-one, each-stays n f l d e)
+
+  -- no value differs from what was there
+  pub each-idle : (n : ℕ) (f : ℕ → A) (l : List A) (d : A) → ((i : ℕ) → i < n → f i ≡ getD l i d) → each n f l ≡ l
+  each-idle zero f l d h = each-none f l
+  each-idle (suc n) f l d h =
+      let e : each (suc n) f l ≡ each n f l = each-stays n f l d (h n (omega arith)) in
+      e ∙ each-idle n f l d (λ i k. h i (omega arith))
 
   unfoldable pub rows : ℕ → ℕ → (ℕ → List A) → List A → List A
   rows width zero f l = l

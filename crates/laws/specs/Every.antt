@@ -66,3 +66,11 @@ unfolding any
 any-at zero p h = true-false h refl
 any-at (suc n) p h =
     ⊎-elim (λ e. (n, omega arith, e)) (λ e. let r = any-at n p e in (r .0, omega arith, r .2)) (or-at (p n) (any n p) h)
+
+pub any-same : (n : ℕ) (p q : ℕ → Bool) → ((j : ℕ) → j < n → p j ≡ q j) → any n p ≡ any n q
+unfolding any
+any-same zero p q f = refl
+any-same (suc n) p q f = rw (f n (omega arith), any-same n p q (λ j l. f j (omega arith)))
+
+pub any-not : (n : ℕ) (p : ℕ → Bool) → any n p ≡ false → (j : ℕ) → j < n → p j ≡ false
+any-not n p h j l = by-bool (p j) (λ e. true-false (any-of n p j l e) h) (λ e. e)

@@ -72,3 +72,13 @@ latest-same (suc n) w w′ e e′ f g =
     by-bool (w n)
     (λ h. let h′ : w′ n ≡ true = cc in let s = g n (omega arith) h in rw (h, h′) (omega arith))
     (λ h. let h′ : w′ n ≡ false = cc in rw (h, h′) (omega arith))
+
+-- more are picked, and none of them is later
+pub latest-more :
+    (n : ℕ) (w v : ℕ → Bool) (e f : ℕ → ℕ) → ((j : ℕ) → j < n → w j ≡ true → (v j ≡ true) × (f j ≡ e j))
+    → ((j : ℕ) → j < n → v j ≡ true → f j ≤ latest n w e) → latest n w e ≡ latest n v f
+latest-more n w v e f stay by =
+    let a = latest-under n v f (latest n w e) by in
+    let b =
+    latest-under n w e (latest n v f) (λ j l h. let q = stay j l h in let o = latest-over n v f j l (q .0) in omega (arith, q .1)) in
+    omega arith

@@ -1,39 +1,48 @@
 -- The lines of ends.txt, one after the other, and the whole log.
 use Prim.Native.Nat.{ℕ, zero, suc, _+_, _-_, _*_, _≤_, _<_}
 use mathlib.Core.Path.{_≡_, refl, sym, ap, _∙_}
-use mathlib.Core.Logic.{_≢_}
-use mathlib.Core.Bool.{Bool, true, false, not, cond, _&&_}
+use mathlib.Core.Logic.{_≢_, inl, inr, ⊎-elim}
+use mathlib.Core.Bool.{true, not}
 use mathlib.Core.List.{List, [], _∷_, _++_}
 use native.Mathlib.Omega.{arith}
-use lib.Dec.{eqb, leb, ltb}
-use lib.ListN.{length, getD, take, drop, length-append, length-take, length-drop}
-use lib.Seq.{sets}
-use borrow.Author.Tests.{eq-eqb, ne-eqb, eqb-true, lt-ltb, le-ltb, ltb-true, lt-leb, le-leb}
-use Rattle.laws.specs.Cases.{by-bool, by-eq, true-false}
-use Rattle.laws.specs.Lists.{same, same-eq}
-use Rattle.laws.specs.Split.{indexOf, before, after, splitOn, joinOn, join-split}
+use lib.ListN.{length, getD, length-append, length-take, length-drop}
+use borrow.Author.Tests.{eq-eqb, ne-eqb, eqb-true, lt-ltb, le-ltb, ltb-true}
+use types.Run.{OneOf}
+use denote.Enum.Declared
+use Rattle.laws.specs.Cases.{by-bool, by-eq, true-false, and-l}
+use Rattle.laws.specs.Lists.{same-eq}
+use Rattle.laws.specs.Split.{indexOf, before, after, joinOn, join-split}
 use Rattle.text.specs.Line.{LF, hasLine, fields, field}
 use Rattle.text.specs.Number.{isNumber}
 use Rattle.text.specs.Place.{Place}
+use Rattle.theory.specs.Report.{Event}
 use Rattle.plan.specs.Answer.{refuse}
-use Rattle.book.specs.Report.{reportedOf}
 use Rattle.book.specs.declared.Book.{Book}
-use Rattle.log.specs.Entries.{END, isEndLine, entryOf}
+use Rattle.log.specs.Entries.{END, DROP, namesTask, isEndLine, isDropLine, entryOf}
 use Rattle.log.specs.Lines.{refusedLine}
-use Rattle.log.specs.Log.{reportLog, endsLog}
+use Rattle.log.specs.Log.{endsLog}
 use Rattle.log.specs.Writes.{Wrote, Told, Whole, roomFor}
-use Rattle.log.specs.Ends.{nextEntry, endsMost}
+use Rattle.log.specs.Ends.{nextEntry, entryLog, entryBook, endsMost}
 use Rattle.log.specs.declared.Entry.{Entry}
-use Rattle.log.specs.declared.Entry.the-variants.{End, Refused}
-use Rattle.log.proofs.EntryLaws.{end-line-parts}
+use Rattle.log.specs.declared.Entry.the-variants.{End, Drop, Refused}
+use Rattle.log.proofs.Entry.{the-type}
+use Rattle.log.proofs.EntryLaws.{names-parts}
 use Rattle.log.proofs.ReportLaws.{whole-kept}
-use Rattle.log.proofs.WriteLaws.{Left, left-turn, left-last, looser, nothing, wrote-length}
+use Rattle.log.proofs.WriteLaws.{Left, left-turn, left-last, nothing, wrote-length}
 
 -- ---- the next line
 
-by-entry : {C : Type 0} (e : Entry) → ((code : ℕ) → e ≡ Refused code → C) → ((task tick : ℕ) → e ≡ End task tick → C) → C
+-- an entry that is not refused, as the code tells it apart
+abbrev pub Taken : Entry → Type 0
+Taken e = OneOf (0 ∷ 1 ∷ []) (Declared.tagOf the-type e)
+
+not-taken : (code : ℕ) → Taken (Refused code) → ⊥
+not-taken code t = ⊎-elim (λ e. omega arith) (λ e. omega arith) t
+
+by-entry : {C : Type 0} (e : Entry) → ((code : ℕ) → e ≡ Refused code → C) → (Taken e → C) → C
 by-entry (Refused code) f g = f code refl
-by-entry (End task tick) f g = g task tick refl
+by-entry (End task tick) f g = g (inl refl)
+by-entry (Drop task) f g = g (inr refl)
 
 module _ (s : List ℕ) {r : ℕ} (p : Place LF s r) where
   pub entry-none : r ≡ length s → Refused 3 ≡ nextEntry s
@@ -49,46 +58,53 @@ unfolding isNumber
 number-some [] h = true-false h refl
 number-some (b ∷ s) h = omega arith
 
-three-parts : (l : List (List ℕ)) → length l ≡ 3 → length (joinOn 9 l) ≡ length (getD l 0 []) + length (getD l 1 []) + length (getD l 2 []) + 2
+-- a separator before each part but the first
+joined : (a : List ℕ) (l : List (List ℕ)) → length a + length l ≤ length (joinOn 9 (a ∷ l))
 unfolding joinOn
-three-parts [] h = absurd (omega arith)
-three-parts (a ∷ []) h = absurd (omega arith)
-three-parts (a ∷ b ∷ []) h = absurd (omega arith)
-three-parts (a ∷ b ∷ c ∷ []) h = simp length-append (omega arith)
-three-parts (a ∷ b ∷ c ∷ d ∷ l) h = absurd (omega arith)
+joined a [] = omega arith
+joined a (b ∷ l) = omega (arith, joined b l, length-append a (9 ∷ joinOn 9 (b ∷ l)))
 
-end-bytes : (line : List ℕ) → isEndLine line ≡ true → 7 ≤ length line
-end-bytes line h =
-    let n = eqb-true (length (fields line)) 3 (end-line-parts line h 0 (omega arith)) in
-    let w : length (field line 0) ≡ 3 = ap length (same-eq (field line 0) END (end-line-parts line h 1 (omega arith))) in
-    let a = number-some (field line 1) (end-line-parts line h 2 (omega arith)) in
-    let b = number-some (field line 2) (end-line-parts line h 3 (omega arith)) in
-    omega (arith, three-parts (fields line) n, ap length (join-split 9 line))
+two-parts :
+    (l : List (List ℕ)) → 2 ≤ length l → length (getD l 0 []) + length (getD l 1 []) + length l ≤ length (joinOn 9 l) + 1
+unfolding joinOn
+two-parts [] h = absurd (omega arith)
+two-parts (a ∷ []) h = absurd (omega arith)
+two-parts (a ∷ b ∷ l) h = omega (arith, joined b l, length-append a (9 ∷ joinOn 9 (b ∷ l)))
 
-says-end : (line : List ℕ) (task tick : ℕ) → entryOf line ≡ End task tick → isEndLine line ≡ true
+-- the word, a tab before each number, and a digit
+names-bytes : (word : List ℕ) (n : ℕ) (line : List ℕ) → 2 ≤ n → namesTask word n line ≡ true → length word + n ≤ length line
+names-bytes word n line few h =
+    let m = eqb-true (length (fields line)) n (names-parts word n line h 0 (omega arith)) in
+    let w : length (field line 0) ≡ length word =
+    ap length (same-eq (field line 0) word (names-parts word n line h 1 (omega arith))) in
+    let a = number-some (field line 1) (names-parts word n line h 2 (omega arith)) in
+    omega (arith, two-parts (fields line) (omega arith), ap length (join-split 9 line))
+
+line-bytes : (line : List ℕ) → Taken (entryOf line) → 6 ≤ length line
 unfolding entryOf
-says-end line task tick e =
+line-bytes line t =
     by-bool (isEndLine line)
-    (λ h. h)
-    (λ h. let q : Refused 3 ≡ End task tick = rw h at e in let z : _≡_ {A = ℕ} 0 1 = cc in absurd (omega arith))
+    (λ h. names-bytes END 3 line (omega arith) (and-l (namesTask END 3 line) (isNumber (field line 2)) h))
+    (λ h.
+    by-bool (isDropLine line)
+    (λ g. names-bytes DROP 2 line (omega arith) g)
+    (λ g. let q : Taken (Refused 3) = rw (h, g) at t in absurd (not-taken 3 q)))
 
-module _ (s : List ℕ) {task tick : ℕ} (e : nextEntry s ≡ End task tick) where
-  end-there : hasLine s ≡ true
+module _ (s : List ℕ) (t : Taken (nextEntry s)) where
+  line-there : hasLine s ≡ true
   unfolding nextEntry
-  end-there =
-      by-bool (hasLine s)
-      (λ h. h)
-      (λ h. let q : Refused 3 ≡ End task tick = rw h at e in let z : _≡_ {A = ℕ} 0 1 = cc in absurd (omega arith))
+  line-there =
+      by-bool (hasLine s) (λ h. h) (λ h. let q : Taken (Refused 3) = rw h at t in absurd (not-taken 3 q))
 
-  end-says : entryOf (before LF s) ≡ End task tick
+  line-says : entryOf (before LF s) ≡ nextEntry s
   unfolding nextEntry
-  end-says = rw end-there at e
+  line-says = rw line-there
 
-  -- a line that says an end uses up 8 bytes
-  pub end-used : length (after LF s) + 8 ≤ length s
-  end-used =
-      let i = ltb-true (indexOf LF s) (length s) end-there in
-      let b = end-bytes (before LF s) (says-end (before LF s) task tick end-says) in
+  -- a line that is not refused uses up 7 bytes
+  pub line-used : length (after LF s) + 7 ≤ length s
+  line-used =
+      let i = ltb-true (indexOf LF s) (length s) line-there in
+      let b = line-bytes (before LF s) (rw line-says t) in
       omega (arith, length-take (indexOf LF s) s, length-drop (suc (indexOf LF s)) s)
 
 -- ---- the fuel is enough
@@ -110,12 +126,18 @@ module _ (f : ℕ) (book : Book) (n : ℕ) (s : List ℕ) (some : length s ≢ 0
       rw (ne-eqb (length s) 0 some, h, endsLog) (ap (λ (x : ℕ). refusedLine (refuse x n 0)) k))
 
   ends-turn :
-      {task tick : ℕ} → nextEntry s ≡ End task tick
+      Taken (nextEntry s)
       → endsLog (suc f) book n s
-      ≡ reportLog book task (reportedOf book task tick)
-      ++ endsLog f (reportedOf book task tick .book) (n + 1) (after LF s)
+      ≡ entryLog book (nextEntry s) ++ endsLog f (entryBook book (nextEntry s)) (n + 1) (after LF s)
   unfolding endsLog
-  ends-turn e = rw (ne-eqb (length s) 0 some, end-there s e, end-says s e, endsLog)
+  ends-turn t = go (nextEntry s) (line-says s t) t
+    where
+      go :
+          (e : Entry) → entryOf (before LF s) ≡ e → Taken e
+          → endsLog (suc f) book n s ≡ entryLog book e ++ endsLog f (entryBook book e) (n + 1) (after LF s)
+      go (End task tick) q t′ = rw (ne-eqb (length s) 0 some, line-there s t, q, endsLog)
+      go (Drop task) q t′ = rw (ne-eqb (length s) 0 some, line-there s t, q, endsLog)
+      go (Refused code) q t′ = absurd (not-taken code t′)
 
 fuel : (f g : ℕ) (book : Book) (n : ℕ) (s : List ℕ) → length s ≤ f → length s ≤ g → endsLog f book n s ≡ endsLog g book n s
 fuel zero g book n s p q = ends-empty zero book n s (omega arith) ∙ sym (ends-empty g book n s (omega arith))
@@ -126,11 +148,11 @@ fuel (suc f) (suc g) book n s p q =
     (λ some.
     by-entry (nextEntry s)
     (λ code e. ends-stop f book n s some e ∙ sym (ends-stop g book n s some e))
-    (λ task tick e.
-    ends-turn f book n s some e
-    ∙ ap (λ (l : List ℕ). reportLog book task (reportedOf book task tick) ++ l)
-    (fuel f g (reportedOf book task tick .book) (n + 1) (after LF s) (omega (arith, end-used s e)) (omega (arith, end-used s e)))
-    ∙ sym (ends-turn g book n s some e)))
+    (λ t.
+    ends-turn f book n s some t
+    ∙ ap (λ (l : List ℕ). entryLog book (nextEntry s) ++ l)
+    (fuel f g (entryBook book (nextEntry s)) (n + 1) (after LF s) (omega (arith, line-used s t)) (omega (arith, line-used s t)))
+    ∙ sym (ends-turn g book n s some t)))
 
 abbrev pub restLog : Book → ℕ → List ℕ → List ℕ
 restLog book n s = endsLog (length s) book n s
@@ -145,15 +167,30 @@ module _ (book : Book) (n : ℕ) (s : List ℕ) where
       ∙ ends-stop (length s) book n s (λ z. omega arith) e
 
   pub rest-turn :
-      {task tick : ℕ} → 0 < length s → nextEntry s ≡ End task tick
-      → restLog book n s
-      ≡ reportLog book task (reportedOf book task tick) ++ restLog (reportedOf book task tick .book) (n + 1) (after LF s)
-  rest-turn {task} {tick} h e =
+      0 < length s → Taken (nextEntry s)
+      → restLog book n s ≡ entryLog book (nextEntry s) ++ restLog (entryBook book (nextEntry s)) (n + 1) (after LF s)
+  rest-turn h t =
       fuel (length s) (suc (length s)) book n s (omega arith) (omega arith)
-      ∙ ends-turn (length s) book n s (λ z. omega arith) e
-      ∙ ap (λ (l : List ℕ). reportLog book task (reportedOf book task tick) ++ l)
-      (fuel (length s) (length (after LF s)) (reportedOf book task tick .book) (n + 1) (after LF s)
-      (omega (arith, end-used s e)) (omega arith))
+      ∙ ends-turn (length s) book n s (λ z. omega arith) t
+      ∙ ap (λ (l : List ℕ). entryLog book (nextEntry s) ++ l)
+      (fuel (length s) (length (after LF s)) (entryBook book (nextEntry s)) (n + 1) (after LF s)
+      (omega (arith, line-used s t)) (omega arith))
+
+-- ---- one entry
+
+whole-entry : (book : Book) (e : Entry) → Whole book → Whole (entryBook book e)
+whole-entry book (End task tick) w = whole-kept book (Event.ends task tick) w
+whole-entry book (Drop task) w = whole-kept book (Event.drops task) w
+whole-entry book (Refused code) w = w
+
+-- a refused line is not told here
+pub told-nothing :
+    (out : List ℕ) (from : ℕ) (book : Book) (e : Entry) → OneOf (2 ∷ []) (Declared.tagOf the-type e)
+    → Told out from book (entryLog book e) (entryBook book e) out from book
+told-nothing out from book (End task tick) t = absurd (omega arith)
+told-nothing out from book (Drop task) t = absurd (omega arith)
+told-nothing out from book (Refused code) t =
+    record { book-is = refl; wrote = nothing out from 3432; paid = omega arith }
 
 -- ---- the walk over the lines
 
@@ -190,24 +227,27 @@ module _ {out : List ℕ} {from : ℕ} {opened : Book} {ends : List ℕ} where
             rw (rest-stop book line rest some q) at (w .left) in
             left-last l v (omega (arith, l .stays, w .room, v .small))
 
-        module _ {task tick : ℕ} (e : entry ≡ End task tick) where
-          walk-says : nextEntry rest ≡ End task tick
-          walk-says = sym n ∙ e
+        module _ (t : Taken entry) where
+          walk-taken : Taken (nextEntry rest)
+          walk-taken = rw n at t
 
           pub walk-used : {next : List ℕ} → next ≡ after LF rest → length next < length rest
-          walk-used q = rw q (omega (arith, end-used rest walk-says))
+          walk-used q = rw q (omega (arith, line-used rest walk-taken))
 
           pub walk-turn :
-              {m′ : List ℕ} {place′ : ℕ} {book′ : Book} {next : List ℕ} → Told m place book task tick m′ place′ book′
-              → next ≡ after LF rest → Walk out from opened ends m′ book′ place′ (line + 1) next
-          walk-turn {m′} {place′} {book′} {next} t q =
-              let u = end-used rest walk-says in
-              let l = rw (rest-turn book line rest some walk-says) at (w .left) in
-              let x = left-turn (reportLog book task (reportedOf book task tick)) _ l (t .wrote) in
+              {m′ : List ℕ} {place′ : ℕ} {book′ : Book} {next : List ℕ}
+              → Told m place book (entryLog book entry) (entryBook book entry) m′ place′ book′ → next ≡ after LF rest
+              → Walk out from opened ends m′ book′ place′ (line + 1) next
+          walk-turn {m′} {place′} {book′} {next} h q =
+              let told : Told m place book (entryLog book (nextEntry rest)) (entryBook book (nextEntry rest)) m′ place′ book′ =
+              rw n at h in
+              let u = line-used rest walk-taken in
+              let l = rw (rest-turn book line rest some walk-taken) at (w .left) in
+              let x = left-turn (entryLog book (nextEntry rest)) _ l (told .wrote) in
               record {
-                kept = wrote-length (t .wrote) ∙ w .kept;
-                whole = rw (t .book-is) (whole-kept book task tick (w .whole));
+                kept = wrote-length (told .wrote) ∙ w .kept;
+                whole = rw (told .book-is) (whole-entry book (nextEntry rest) (w .whole));
                 lines = rw q (omega (arith, w .lines));
-                room = rw q (omega (arith, w .room, t .paid, t .wrote .place));
-                left = rw (q, t .book-is) x;
+                room = rw q (omega (arith, w .room, told .paid, told .wrote .place));
+                left = rw (q, told .book-is) x;
               }

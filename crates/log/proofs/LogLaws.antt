@@ -18,13 +18,14 @@ use Rattle.book.specs.Open.{blankBook, letGoIn, openedOn, openingOf}
 use Rattle.book.specs.declared.Book.{Book}
 use Rattle.book.specs.declared.Opening.{Opening}
 use Rattle.book.proofs.Accepted.{plan-facts}
-use Rattle.book.proofs.Views.{SizedPlan, sized-opened}
+use Rattle.book.proofs.Sizes.{SizedPlan, sized-opened}
 use Rattle.log.specs.Lines.{refusedLine, runLine, earlyLine, startLines}
 use Rattle.log.specs.Log.{openLog, endsLog, logOf}
 use Rattle.log.specs.Writes.{Wrote, Whole, startsIn, goingLog, openedLog}
 use Rattle.log.specs.Ends.{EndsFit, endsMost, Ran}
 use Rattle.log.proofs.WriteLaws.{also, wrote-length}
-use Rattle.log.proofs.ReportLaws.{starts-same, come-most, whole-of}
+use Rattle.log.proofs.ComeLaws.{come-most}
+use Rattle.log.proofs.ReportLaws.{starts-same, whole-of}
 
 module _ (plan : Plan) where
   blank-mark : blankBook plan .mark ≡ replicate 64 0
@@ -40,8 +41,8 @@ module _ (plan : Plan) where
   opened-same =
       let book = openedOn plan in
       ap (λ (x : List ℕ). runLine book ++ (x ++ earlyLine book))
-      (ap (λ (m : List ℕ). startsIn m (book .mark) (book .board) (book .begin) (book .start) (book .tasks)) (sym blank-mark)
-      ∙ ap (startsIn (blankBook plan .mark) (book .mark) (book .board) (book .begin) (book .start)) opened-tasks
+      (ap (λ (m : List ℕ). startsIn m (book .mark) (book .dropped) (book .board) (book .begin) (book .start) (book .tasks)) (sym blank-mark)
+      ∙ ap (startsIn (blankBook plan .mark) (book .mark) (book .dropped) (book .board) (book .begin) (book .start)) opened-tasks
       ∙ sym (starts-same (blankBook plan) book (plan .tasks)))
 
   opening-book : isAccepted plan ≡ true → openingOf plan .book ≡ openedOn plan
@@ -115,7 +116,7 @@ module _ (plan ends out : List ℕ) where
               whole = rw its-book (whole-of _ (sized-opened (readingOf plan .plan) its-sized));
               room =
                   omega
-                  (arith, opened-few, come-most (o .book .mark) (o .book .tasks), v .place, v .small, wrote-length v);
+                  (arith, opened-few, come-most (o .book .mark) (o .book .dropped) (o .book .tasks), v .place, v .small, wrote-length v);
             }
 
             text-is : openedLog (o .book) ++ endsLog (length ends) (o .book) 1 ends ≡ logOf plan ends
@@ -130,4 +131,4 @@ module _ (plan ends out : List ℕ) where
                 {m′ : List ℕ} {p′ : ℕ} → Wrote m p (endsLog (length ends) (o .book) 1 ends) (endsMost (o .book) ends) m′ p′
                 → Ran plan ends out m′ p′
             ran-ends w =
-                ran-whole text-is (omega (arith, opened-few, come-most (o .book .mark) (o .book .tasks))) (also v w)
+                ran-whole text-is (omega (arith, opened-few, come-most (o .book .mark) (o .book .dropped) (o .book .tasks))) (also v w)

@@ -1,6 +1,7 @@
 -- Writing lines, one part after the other.
 use Prim.Native.Nat.{ℕ, zero, suc, _+_, _-_, _*_, _≤_, _<_}
 use mathlib.Core.Path.{_≡_, refl, sym, ap, _∙_}
+use mathlib.Core.Logic.{_≢_}
 use mathlib.Core.Bool.{Bool, true, false, not, cond, _&&_, _||_}
 use mathlib.Core.List.{List, [], _∷_, _++_, map, append-assoc, append-nil}
 use native.Mathlib.Omega.{arith}
@@ -8,16 +9,17 @@ use native.Mathlib.Numerals.{add-one}
 use lib.Dec.{eqb}
 use lib.ListN.{length, getD, drop, drop-of-length-le, length-append}
 use lib.Seq.{sets, length-sets, drop-cons}
-use borrow.Author.Tests.{le-leb}
+use borrow.Author.Tests.{le-leb, eq-eqb, ne-eqb}
 use Rattle.laws.specs.Cases.{by-bool}
 use Rattle.laws.specs.Count.{count}
 use Rattle.laws.specs.Digits.{digitsOf}
 use Rattle.laws.specs.Sets.{sets-append}
 use Rattle.laws.specs.Split.{joinOn}
 use Rattle.laws.specs.Width.{ten-digits}
+use Rattle.text.specs.Bytes.{bytes}
 use Rattle.text.specs.Put.{Put}
 use Rattle.log.specs.Lines.{numbersLine}
-use Rattle.log.specs.Writes.{Wrote, starting, startIn, startsIn}
+use Rattle.log.specs.Writes.{Wrote, taskLine, starting, startIn, startsIn}
 
 -- ---- one text after the other
 
@@ -135,7 +137,7 @@ pub line-whole :
     → Wrote out at (numbersLine word l) (8 + 11 * length l) m′ p′
 line-whole l {word = word} h v w = rw numbers-tabbed (looser {a = length word + (11 * length l + 1)} (omega arith) (also v w))
 
--- ---- start lines
+-- ---- start and skip lines
 
 not-starting : (a b : Bool) → (not a || b) ≡ true → (a && not b) ≡ false
 not-starting true true h = refl
@@ -157,48 +159,59 @@ count-step : (i : ℕ) (w : ℕ → Bool) → count (i + 1) w ≡ cond (w i) 1 0
 unfolding count
 count-step i w = ap (λ (n : ℕ). count n w) (add-one i)
 
-module _ (old mark board begin start : List ℕ) where
+module _ (old mark dropped board begin start : List ℕ) where
   pub start-none :
       (i : ℕ) (out : List ℕ) (at : ℕ) → (not (eqb (getD old i 0) 0) || eqb (getD mark i 0) 0) ≡ true
-      → Wrote out at (startIn old mark board begin start i) 52 out at
+      → Wrote out at (startIn old mark dropped board begin start i) 52 out at
   start-none i out at h =
       rw (not-starting (eqb (getD old i 0) 0) (eqb (getD mark i 0) 0) h) (nothing out at 52)
 
-  pub start-some :
-      (i : ℕ) → (not (eqb (getD old i 0) 0) || eqb (getD mark i 0) 0) ≡ false → starting old mark i ≡ true
-  start-some i h = is-starting (eqb (getD old i 0) 0) (eqb (getD mark i 0) 0) h
+  module _ (i : ℕ) (h : (not (eqb (getD old i 0) 0) || eqb (getD mark i 0) 0) ≡ false) where
+    start-some : starting old mark i ≡ true
+    start-some = is-starting (eqb (getD old i 0) 0) (eqb (getD mark i 0) 0) h
+
+    module _ {out : List ℕ} {at : ℕ} {m : List ℕ} {p : ℕ} where
+      pub start-skips :
+          getD dropped i 0 ≡ 1 → Wrote out at (taskLine (bytes "skip") board begin start i) 52 m p
+          → Wrote out at (startIn old mark dropped board begin start i) 52 m p
+      start-skips d w = rw (start-some, eq-eqb (getD dropped i 0) 1 d) w
+
+      pub start-goes :
+          getD dropped i 0 ≢ 1 → Wrote out at (taskLine (bytes "start") board begin start i) 52 m p
+          → Wrote out at (startIn old mark dropped board begin start i) 52 m p
+      start-goes d w = rw (start-some, ne-eqb (getD dropped i 0) 1 d) w
 
   pub starts-none :
-      (out : List ℕ) (at : ℕ) → Wrote out at (startsIn old mark board begin start 0) (52 * count 0 (starting old mark)) out at
+      (out : List ℕ) (at : ℕ) → Wrote out at (startsIn old mark dropped board begin start 0) (52 * count 0 (starting old mark)) out at
   unfolding startsIn count
   starts-none out at = nothing out at 0
 
   starts-step :
       (i : ℕ)
-      → startsIn old mark board begin start (i + 1)
-      ≡ startsIn old mark board begin start i ++ startIn old mark board begin start i
+      → startsIn old mark dropped board begin start (i + 1)
+      ≡ startsIn old mark dropped board begin start i ++ startIn old mark dropped board begin start i
   unfolding startsIn
-  starts-step i = ap (startsIn old mark board begin start) (add-one i)
+  starts-step i = ap (startsIn old mark dropped board begin start) (add-one i)
 
   start-small :
-      (i : ℕ) → length (startIn old mark board begin start i) ≤ 52
-      → length (startIn old mark board begin start i) ≤ 52 * cond (starting old mark i) 1 0
+      (i : ℕ) → length (startIn old mark dropped board begin start i) ≤ 52
+      → length (startIn old mark dropped board begin start i) ≤ 52 * cond (starting old mark i) 1 0
   start-small i h = by-bool (starting old mark i) (λ e. rw e (rw e at h)) (λ e. rw e (omega arith))
 
   module _ {out : List ℕ} {at : ℕ} {m : List ℕ} {p : ℕ} where
     pub starts-turn :
         (i : ℕ) {m′ : List ℕ} {p′ : ℕ}
-        → Wrote out at (startsIn old mark board begin start i) (52 * count i (starting old mark)) m p
-        → Wrote m p (startIn old mark board begin start i) 52 m′ p′
-        → Wrote out at (startsIn old mark board begin start (i + 1)) (52 * count (i + 1) (starting old mark)) m′ p′
+        → Wrote out at (startsIn old mark dropped board begin start i) (52 * count i (starting old mark)) m p
+        → Wrote m p (startIn old mark dropped board begin start i) 52 m′ p′
+        → Wrote out at (startsIn old mark dropped board begin start (i + 1)) (52 * count (i + 1) (starting old mark)) m′ p′
     starts-turn i {m′} {p′} v w =
-        let y : Wrote m p (startIn old mark board begin start i) (52 * cond (starting old mark i) 1 0) m′ p′ =
+        let y : Wrote m p (startIn old mark dropped board begin start i) (52 * cond (starting old mark i) 1 0) m′ p′ =
         record { place = w .place; bytes = w .bytes; small = start-small i (w .small) } in
         let z = also v y in
         let e = count-step i (starting old mark) in
         record { place = rw starts-step (z .place); bytes = rw starts-step (z .bytes); small = rw starts-step (omega (arith, z .small, e)) }
 
     pub starts-end :
-        {n i : ℕ} → i ≤ n → n ≤ i → Wrote out at (startsIn old mark board begin start i) (52 * count i (starting old mark)) m p
-        → Wrote out at (startsIn old mark board begin start n) (52 * count n (starting old mark)) m p
+        {n i : ℕ} → i ≤ n → n ≤ i → Wrote out at (startsIn old mark dropped board begin start i) (52 * count i (starting old mark)) m p
+        → Wrote out at (startsIn old mark dropped board begin start n) (52 * count n (starting old mark)) m p
     starts-end {n} {i} h g w = let e : n ≡ i = omega arith in rw e w

@@ -11,12 +11,14 @@ use Rattle.plan.specs.Read.{readingOf}
 use Rattle.plan.specs.declared.Plan.{Plan}
 use Rattle.book.specs.Open.{blankBook, openedOn}
 use Rattle.book.specs.Report.{reportedOf}
+use Rattle.book.specs.Drop.{droppedOf}
 use Rattle.book.specs.declared.Book.{Book}
 use Rattle.book.specs.declared.Reported.{Reported}
+use Rattle.book.specs.declared.Dropped.{Dropped}
 use Rattle.log.specs.Entries.{entryOf}
-use Rattle.log.specs.Lines.{runLine, endLine, earlyLine, refusedLine, startLines}
+use Rattle.log.specs.Lines.{runLine, endLine, dropLine, earlyLine, refusedLine, startLines}
 use Rattle.log.specs.declared.Entry.{Entry}
-use Rattle.log.specs.declared.Entry.the-variants.{End, Refused}
+use Rattle.log.specs.declared.Entry.the-variants.{End, Drop, Refused}
 
 -- `run`; then a `start` line for each task started at 0; an `early` line
 unfoldable pub openLog : Plan → List ℕ
@@ -24,7 +26,7 @@ openLog plan =
     runLine (openedOn plan)
     ++ (startLines (blankBook plan) (openedOn plan) (plan .tasks) ++ earlyLine (openedOn plan))
 
--- an `end` line, the `start` lines it caused, and an `early` line; or a `refused` line
+-- an `end` line, the `start` and `skip` lines it caused, and an `early` line; or a `refused` line
 unfoldable pub reportLog : Book → ℕ → Reported → List ℕ
 reportLog book task reported =
     cond (isGranted (reported .answer))
@@ -32,7 +34,14 @@ reportLog book task reported =
     ++ (startLines book (reported .book) (book .tasks) ++ earlyLine (reported .book)))
     (refusedLine (reported .answer))
 
--- line by line from line n on; 3 and 4 print and stop, codes 10 to 15 print and the next line is read
+-- a `drop` line and an `early` line; or a `refused` line
+unfoldable pub dropLog : Book → ℕ → Dropped → List ℕ
+dropLog book task dropped =
+    cond (isGranted (dropped .answer))
+    (dropLine book (task - 1) ++ earlyLine (dropped .book))
+    (refusedLine (dropped .answer))
+
+-- line by line from line n on; 3 and 4 print and stop, codes 10 to 15 and 19 print and the next line is read
 unfoldable pub endsLog : ℕ → Book → ℕ → List ℕ → List ℕ
 endsLog zero book n ends = []
 endsLog (suc fuel) book n ends =
@@ -45,6 +54,9 @@ endsLog (suc fuel) book n ends =
           | End task tick ↦
               let reported = reportedOf book task tick in
               reportLog book task reported ++ endsLog fuel (reported .book) (n + 1) (after LF ends)
+          | Drop task ↦
+              let dropped = droppedOf book task in
+              dropLog book task dropped ++ endsLog fuel (dropped .book) (n + 1) (after LF ends)
         ]
       ]
     ]

@@ -1,13 +1,16 @@
 // What ends.txt prints, line by line.
 ghost use mathlib.Core.Path.{_≡_};
+ghost use Prim.Native.Nat.{_+_, _≤_};
 ghost use lib.ListN.{length};
 ghost use Rattle.plan.specs.Answer.{refuse};
 ghost use Rattle.log.specs.Log.{endsLog};
-ghost use Rattle.log.specs.Writes.{Wrote};
-ghost use Rattle.log.specs.Ends.{nextEntry, EndsFit, endsMost};
+ghost use Rattle.log.specs.Writes.{Wrote, Told, Whole};
+ghost use Rattle.log.specs.Ends.{nextEntry, entryLog, entryBook, EndsFit, endsMost};
 use crate::Entry;
 use crate::line::put_refused;
 use crate::read::read_entry;
+use crate::report::Step;
+use crate::report::put_drop;
 use crate::report::put_report;
 use book::Book;
 use plan::Answer;
@@ -36,6 +39,18 @@ fn next_entry(rest: &[u8]) -> Entry
     read_entry(part_before(rest, LF))
 }
 
+// One line of ends.txt. A refused one stops the log, so the caller answers it.
+fn put_entry(out: &mut [u8], at: usize, book: Book, entry: Entry) -> Step
+    requires { ⌜ (at + 3432 ≤ length (now out)) × Whole book ⌝ }
+    ensures { λ r. ⌜ Told (now (out .entry)) at book (entryLog book entry) (entryBook book entry) (now (out .exit)) (r .place) (r .book) ⌝ }
+{
+    match entry {
+        Entry::End(task, tick) => put_report(out, at, book, task, tick),
+        Entry::Drop(task) => put_drop(out, at, book, task),
+        Entry::Refused(_) => Step { place: at, book },
+    }
+}
+
 // Line by line, the rest of the text and the book going on to the next line.
 pub(crate) fn put_ends(out: &mut [u8], at: usize, opened: Book, ends: &[u8]) -> usize
     requires { ⌜ EndsFit (now out) at opened (now ends) ⌝ }
@@ -46,20 +61,17 @@ pub(crate) fn put_ends(out: &mut [u8], at: usize, opened: Book, ends: &[u8]) -> 
     let mut line: u32 = 1;
     let mut rest = ends;
     while 0 < rest.len() {
-        match next_entry(rest) {
-            Entry::Refused(code) => {
-                return put_refused(out, place, refuse(code, line));
-            }
-            Entry::End(task, tick) => {
-                let step = put_report(out, place, book, task, tick);
-                place = step.place;
-                let after = step.book;
-                book = after;
-                let next = part_after(rest, LF);
-                rest = next;
-                line += 1;
-            }
+        let entry = next_entry(rest);
+        if let Entry::Refused(code) = entry {
+            return put_refused(out, place, refuse(code, line));
         }
+        let step = put_entry(out, place, book, entry);
+        place = step.place;
+        let after = step.book;
+        book = after;
+        let next = part_after(rest, LF);
+        rest = next;
+        line += 1;
     }
     place
 }

@@ -15,9 +15,10 @@ use report::put_opened;
 // A buffer of this length is always long enough.
 pub const LOG_MOST: usize = 212992;
 
-// What a line of ends.txt says: a task's end at a tick, or the code that refuses the line.
+// What a line of ends.txt says: a task's end at a tick, a task that is dropped, or the code that refuses the line.
 pub enum Entry {
     End(u32, u32),
+    Drop(u32),
     Refused(u32),
 }
 

@@ -5,7 +5,7 @@ ghost use Prim.Native.Nat.{_+_, _-_, _*_, _<_, _≤_};
 ghost use lib.ListN.{length};
 ghost use Rattle.laws.specs.Count.{count};
 ghost use Rattle.text.specs.Bytes.{bytes};
-ghost use Rattle.log.specs.Lines.{numbersLine, runLine, earlyLine, refusedLine};
+ghost use Rattle.log.specs.Lines.{numbersLine, runLine, dropLine, earlyLine, refusedLine};
 ghost use Rattle.log.specs.Writes.{Wrote, taskLine, starting, startIn, startsIn};
 use book::Book;
 use plan::Answer;
@@ -71,7 +71,16 @@ fn early_by(planned: u32, actual: u32) -> u32
     planned - actual
 }
 
-// A `start` or `end` line of task i, from 0.
+// The `drop` line of task i, from 0.
+pub(crate) fn put_drop_line(out: &mut [u8], at: usize, book: Book, i: usize) -> usize
+    requires { ⌜ (i < 64) × (at + 52 ≤ length (now out)) ⌝ }
+    ensures { λ r. ⌜ Wrote (now (out .entry)) at (dropLine book i) 30 (now (out .exit)) r ⌝ }
+{
+    let number = (i + 1) as u32;
+    put_line(out, at, b"drop", &[number, wide(book.board[i])])
+}
+
+// A `start`, `skip` or `end` line of task i, from 0.
 pub(crate) fn put_task_line<'a>(
     out: &mut [u8],
     at: usize,
@@ -89,43 +98,48 @@ pub(crate) fn put_task_line<'a>(
     put_line(out, at, word, &[number, wide(board[i]), actual[i], early])
 }
 
-// The `start` line of task i, if it has started.
+// The `start` line of task i, if it has started, or its `skip` line, if it was dropped.
 fn put_start<'a>(
     out: &mut [u8],
     at: usize,
     old: &'a [u8; 64],
     mark: &'a [u8; 64],
+    dropped: &'a [u8; 64],
     board: &'a [u8; 64],
     begin: &'a [u32; 64],
     start: &'a [u32; 64],
     i: usize,
 ) -> usize
     requires { ⌜ (i < 64) × (at + 52 ≤ length (now out)) ⌝ }
-    ensures { λ r. ⌜ Wrote (now (out .entry)) at (startIn (now (old .entry)) (now (mark .entry)) (now (board .entry)) (now (begin .entry)) (now (start .entry)) i) 52 (now (out .exit)) r ⌝ }
+    ensures { λ r. ⌜ Wrote (now (out .entry)) at (startIn (now (old .entry)) (now (mark .entry)) (now (dropped .entry)) (now (board .entry)) (now (begin .entry)) (now (start .entry)) i) 52 (now (out .exit)) r ⌝ }
 {
     if (old[i] != 0) | (mark[i] == 0) {
         return at;
     }
+    if dropped[i] == 1 {
+        return put_task_line(out, at, b"skip", board, begin, start, i);
+    }
     put_task_line(out, at, b"start", board, begin, start, i)
 }
 
-// The `start` lines by rising task number.
+// The `start` and `skip` lines by rising task number.
 pub(crate) fn put_starts<'a>(
     out: &mut [u8],
     at: usize,
     old: &'a [u8; 64],
     mark: &'a [u8; 64],
+    dropped: &'a [u8; 64],
     board: &'a [u8; 64],
     begin: &'a [u32; 64],
     start: &'a [u32; 64],
     tasks: usize,
 ) -> usize
     requires { ⌜ (tasks ≤ 64) × (at + 3328 ≤ length (now out)) ⌝ }
-    ensures { λ r. ⌜ Wrote (now (out .entry)) at (startsIn (now (old .entry)) (now (mark .entry)) (now (board .entry)) (now (begin .entry)) (now (start .entry)) tasks) (52 * count tasks (starting (now (old .entry)) (now (mark .entry)))) (now (out .exit)) r ⌝ }
+    ensures { λ r. ⌜ Wrote (now (out .entry)) at (startsIn (now (old .entry)) (now (mark .entry)) (now (dropped .entry)) (now (board .entry)) (now (begin .entry)) (now (start .entry)) tasks) (52 * count tasks (starting (now (old .entry)) (now (mark .entry)))) (now (out .exit)) r ⌝ }
 {
     let mut place = at;
     for i in 0..tasks {
-        place = put_start(out, place, old, mark, board, begin, start, i);
+        place = put_start(out, place, old, mark, dropped, board, begin, start, i);
     }
     place
 }

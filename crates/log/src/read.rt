@@ -1,6 +1,7 @@
 // Reading a line of ends.txt.
 ghost use mathlib.Core.Path.{_≡_};
-ghost use Rattle.log.specs.Entries.{isEndLine, entryOf};
+ghost use mathlib.Core.Bool.{true};
+ghost use Rattle.log.specs.Entries.{namesTask, isEndLine, isDropLine, endEntry, dropEntry, entryOf};
 use crate::Entry;
 use text::Number;
 use text::decimal::is_number;
@@ -9,20 +10,28 @@ use text::part::count_fields;
 use text::part::field;
 use text::part::same;
 
+fn names_task(line: &[u8], word: &[u8], n: usize) -> bool
+    ensures { λ r. ⌜ r ≡ namesTask (now (word .entry)) n (now (line .entry)) ⌝ }
+{
+    (count_fields(line) == n) & (same(field(line, 0), word) & is_number(field(line, 1)))
+}
+
 fn is_end_line(line: &[u8]) -> bool
     ensures { λ r. ⌜ r ≡ isEndLine (now (line .entry)) ⌝ }
 {
-    let numbers = is_number(field(line, 1)) & is_number(field(line, 2));
-    (count_fields(line) == 3) & (same(field(line, 0), b"end") & numbers)
+    names_task(line, b"end", 3) & is_number(field(line, 2))
 }
 
-// 3 before 4: a number that is too large is looked for once the whole line is well formed.
-pub fn read_entry(line: &[u8]) -> Entry
-    ensures { λ r. ⌜ r ≡ entryOf (now (line .entry)) ⌝ }
+fn is_drop_line(line: &[u8]) -> bool
+    ensures { λ r. ⌜ r ≡ isDropLine (now (line .entry)) ⌝ }
 {
-    if !is_end_line(line) {
-        return Entry::Refused(3);
-    }
+    names_task(line, b"drop", 2)
+}
+
+fn read_end(line: &[u8]) -> Entry
+    requires { ⌜ isEndLine (now line) ≡ true ⌝ }
+    ensures { λ r. ⌜ r ≡ endEntry (now (line .entry)) ⌝ }
+{
     let Number::Value(task) = read_number(field(line, 1)) else {
         return Entry::Refused(4);
     };
@@ -30,4 +39,27 @@ pub fn read_entry(line: &[u8]) -> Entry
         return Entry::Refused(4);
     };
     Entry::End(task, tick)
+}
+
+fn read_drop(line: &[u8]) -> Entry
+    requires { ⌜ isDropLine (now line) ≡ true ⌝ }
+    ensures { λ r. ⌜ r ≡ dropEntry (now (line .entry)) ⌝ }
+{
+    let Number::Value(task) = read_number(field(line, 1)) else {
+        return Entry::Refused(4);
+    };
+    Entry::Drop(task)
+}
+
+// 3 before 4: a number that is too large is looked for once the whole line is well formed.
+pub fn read_entry(line: &[u8]) -> Entry
+    ensures { λ r. ⌜ r ≡ entryOf (now (line .entry)) ⌝ }
+{
+    if is_end_line(line) {
+        return read_end(line);
+    }
+    if !is_drop_line(line) {
+        return Entry::Refused(3);
+    }
+    read_drop(line)
 }

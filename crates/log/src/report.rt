@@ -1,11 +1,14 @@
-// Opening a run and reporting to it, with what each prints.
+// Opening a run, reporting to it and dropping a task, with what each prints.
 ghost use mathlib.Core.Path.{_≡_};
 ghost use mathlib.Core.Bool.{true};
 ghost use Prim.Native.Nat.{_+_, _*_, _<_, _≤_};
 ghost use lib.ListN.{length};
 ghost use Rattle.laws.specs.Count.{count};
-ghost use Rattle.log.specs.Log.{reportLog};
+ghost use Rattle.book.specs.Report.{reportedOf};
+ghost use Rattle.book.specs.Drop.{droppedOf};
+ghost use Rattle.log.specs.Log.{reportLog, dropLog};
 ghost use Rattle.log.specs.Writes.{Wrote, Told, Whole, starting, goingLog, openedLog};
+use crate::line::put_drop_line;
 use crate::line::put_early;
 use crate::line::put_refused;
 use crate::line::put_run;
@@ -13,7 +16,7 @@ use crate::line::put_starts;
 use crate::line::put_task_line;
 use book::Book;
 
-// The place after what a report printed, and the book after it.
+// The place after what a report or a drop printed, and the book after it.
 pub(crate) struct Step {
     pub place: usize,
     pub book: Book,
@@ -30,6 +33,7 @@ fn put_going(out: &mut [u8], at: usize, old: &[u8; 64], book: Book) -> usize
         at,
         old,
         &book.mark,
+        &book.dropped,
         &book.board,
         &book.begin,
         &book.start,
@@ -48,7 +52,7 @@ pub(crate) fn put_opened(out: &mut [u8], at: usize, book: Book) -> usize
 
 pub(crate) fn put_report(out: &mut [u8], at: usize, book: Book, task: u32, tick: u32) -> Step
     requires { ⌜ (at + 3432 ≤ length (now out)) × Whole book ⌝ }
-    ensures { λ r. ⌜ Told (now (out .entry)) at book task tick (now (out .exit)) (r .place) (r .book) ⌝ }
+    ensures { λ r. ⌜ Told (now (out .entry)) at book (reportLog book task (reportedOf book task tick)) (reportedOf book task tick .book) (now (out .exit)) (r .place) (r .book) ⌝ }
 {
     let reported = book.report(task, tick);
     let answer = reported.answer;
@@ -61,4 +65,24 @@ pub(crate) fn put_report(out: &mut [u8], at: usize, book: Book, task: u32, tick:
     let next = put_task_line(out, at, b"end", &after.board, &after.finish, &after.end, k);
     let place = put_going(out, next, &book.mark, after);
     Step { place, book: after }
+}
+
+pub(crate) fn put_drop(out: &mut [u8], at: usize, book: Book, task: u32) -> Step
+    requires { ⌜ (at + 3432 ≤ length (now out)) × Whole book ⌝ }
+    ensures { λ r. ⌜ Told (now (out .entry)) at book (dropLog book task (droppedOf book task)) (droppedOf book task .book) (now (out .exit)) (r .place) (r .book) ⌝ }
+{
+    let dropped = book.drop(task);
+    let answer = dropped.answer;
+    let after = dropped.book;
+    if answer.code != 0 {
+        let place = put_refused(out, at, answer);
+        return Step { place, book: after };
+    }
+    let k = (task - 1) as usize;
+    let next = put_drop_line(out, at, book, k);
+    let last = put_early(out, next, after);
+    Step {
+        place: last,
+        book: after,
+    }
 }

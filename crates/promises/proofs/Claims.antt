@@ -5,7 +5,7 @@ use mathlib.Core.Logic.{_↔_}
 use mathlib.Core.Bool.{Bool, true}
 use mathlib.Core.List.{List}
 use lib.ListN.{length}
-use Rattle.theory.specs.Report.{Report}
+use Rattle.theory.specs.Report.{Event}
 use Rattle.plan.specs.Answer.{granted}
 use Rattle.plan.specs.Value.{isAccepted}
 use Rattle.plan.specs.Read.{readingOf}
@@ -16,17 +16,19 @@ use Rattle.plan.specs.declared.Written.{Written}
 use Rattle.book.specs.Sound.{isSound}
 use Rattle.book.specs.Open.{openingOf}
 use Rattle.book.specs.Report.{reportedOf}
+use Rattle.book.specs.Drop.{droppedOf}
 use Rattle.book.specs.Early.{figureOf}
 use Rattle.book.specs.declared.Book.{Book}
 use Rattle.book.specs.declared.Opening.{Opening}
 use Rattle.book.specs.declared.Reported.{Reported}
+use Rattle.book.specs.declared.Dropped.{Dropped}
 use Rattle.book.specs.declared.Figure.{Figure}
-use Rattle.book.proofs.Views.{SizedPlan, Sized}
+use Rattle.book.proofs.Sizes.{SizedPlan, Sized}
 use Rattle.promises.specs.Runs.{Running, Ended, limitOf, runOf, Progress, Finishes}
 use Rattle.promises.proofs.SoundBook as sound-book
 use Rattle.promises.proofs.SoundBook.{Reached}
 
--- The sound books are exactly the books that an accepted plan and accepted reports give
+-- The sound books are exactly the books that an accepted plan and accepted reports and drops give
 pub sound-is-reached : (book : Book) → Sized book → (isSound book ≡ true) ↔ Reached book
 sound-is-reached book size =
     (λ h. sound-book.sound-reached book (record { sized = size; sound = h }), sound-book.reached-sound book)
@@ -48,10 +50,10 @@ module _ (book : Book) (size : Sized book) (sound : isSound book ≡ true) where
   can-be-finished = sound-book.finishes book (record { sized = size; sound = sound })
 
 pub every-run-finishes :
-    (plan : Plan) → SizedPlan plan → isAccepted plan ≡ true → (reports : List Report) → Finishes (runOf plan reports)
-every-run-finishes plan size ok reports = sound-book.finishes (runOf plan reports) (sound-book.on-run plan size ok reports .good)
+    (plan : Plan) → SizedPlan plan → isAccepted plan ≡ true → (events : List Event) → Finishes (runOf plan events)
+every-run-finishes plan size ok events = sound-book.finishes (runOf plan events) (sound-book.on-run plan size ok events .good)
 
--- No second answer meets a contract: those of read_plan, is_accepted, open_book, is_sound, report, minimum_early,
+-- No second answer meets a contract: those of read_plan, is_accepted, open_book, is_sound, report, drop, minimum_early,
 -- and of write_plan with its buffer
 pub one-reading : (text : List ℕ) (r q : Reading) → r ≡ readingOf text → q ≡ readingOf text → r ≡ q
 one-reading text r q e d = e ∙ sym d
@@ -64,6 +66,9 @@ one-opening plan r q e d = e ∙ sym d
 
 pub one-soundness : (book : Book) (r q : Bool) → r ≡ isSound book → q ≡ isSound book → r ≡ q
 one-soundness book r q e d = e ∙ sym d
+
+pub one-drop : (self : Book) (task : ℕ) (r q : Dropped) → r ≡ droppedOf self task → q ≡ droppedOf self task → r ≡ q
+one-drop self task r q e d = e ∙ sym d
 
 pub one-report :
     (self : Book) (task tick : ℕ) (r q : Reported) → r ≡ reportedOf self task tick → q ≡ reportedOf self task tick → r ≡ q

@@ -13,9 +13,9 @@ use Rattle.laws.specs.Cases.{by-bool, by-eq, by-le}
 use Rattle.laws.specs.Scan.{Found, Nothing, scan-cases}
 use Rattle.text.specs.Line.{hasLine, skip, lineAt, field}
 use Rattle.text.specs.Number.{valueOf}
-use Rattle.theory.specs.Book.{running, limit}
-use Rattle.theory.specs.Report.{nonePast, reportCode, Accepts}
-use Rattle.theory.proofs.Reflect.{accepts-code}
+use Rattle.theory.specs.Book.{waiting, running, isDropped, limit}
+use Rattle.theory.specs.Report.{nonePast, reportCode, Accepts, dropCode, AcceptsDrop, Event}
+use Rattle.theory.proofs.Reflect.{accepts-code, accepts-drop-code}
 use Rattle.plan.specs.Answer.{refuse, granted, isGranted, isRefused}
 use Rattle.plan.specs.Task.{Task, taskOk}
 use Rattle.plan.specs.Pairs.{overlap, sameBoard, clashByDrive, breaksAfter, pairCode, firstFault}
@@ -34,15 +34,17 @@ use Rattle.book.specs.View.{planView, bookView}
 use Rattle.book.specs.Sound.{isSound}
 use Rattle.book.specs.Open.{openingOf}
 use Rattle.book.specs.Report.{codeOf, reportAnswer, reportedOf}
+use Rattle.book.specs.Drop.{dropCodeOf, dropAnswer, droppedOf}
 use Rattle.book.specs.Early.{figureOf}
 use Rattle.book.specs.declared.Book.{Book}
 use Rattle.book.specs.declared.Opening.{Opening}
 use Rattle.book.specs.declared.Reported.{Reported}
+use Rattle.book.specs.declared.Dropped.{Dropped}
 use Rattle.book.specs.declared.Figure.{Figure}
-use Rattle.book.proofs.Views.{SizedPlan, Sized, sized-blank, sized-opened}
-use Rattle.book.proofs.ReportLaws.{code-zero}
-use Rattle.book.proofs.Reports.{report-sized}
-use Rattle.promises.specs.Says.{ReadingSays, OpeningSays, ReportSays, FigureSays, WriteSays}
+use Rattle.book.proofs.Sizes.{SizedPlan, Sized, sized-blank, sized-opened}
+use Rattle.book.proofs.ReportLaws.{code-zero, drop-zero}
+use Rattle.book.proofs.Reports.{event-sized}
+use Rattle.promises.specs.Says.{ReadingSays, OpeningSays, ReportSays, DropSays, FigureSays, WriteSays}
 use Rattle.promises.proofs.RunView.{answer-code}
 
 -- the same five lengths
@@ -190,6 +192,43 @@ module _ (book : Book) (task tick : ℕ) where
       (report-number book task tick)))
       (λ h. ReportSays.unsound h (unsound-report h))
 
+-- a drop
+drop-number : (book : Book) (task : ℕ) → (dropCodeOf book task ≡ 0) ⊎ ((dropCodeOf book task ≡ 10) ⊎ (dropCodeOf book task ≡ 19))
+unfolding dropCodeOf dropCode
+drop-number book task =
+    by-bool (eqb task 0) (λ a. rw a (inr (inl refl)))
+    (λ a.
+    by-bool (leb (book .tasks) (task - 1)) (λ b. rw (a, b) (inr (inl refl)))
+    (λ b.
+    by-bool (not (waiting (bookView book .mark) (task - 1)) || isDropped (bookView book .dropped) (task - 1))
+    (λ c. rw (a, b, c) (inr (inr refl)))
+    (λ c. rw (a, b, c) (inl refl))))
+
+module _ (book : Book) (task : ℕ) where
+  unsound-drop : isSound book ≡ false → droppedOf book task ≡ record { answer = refuse 9 0 0; book = book }
+  unfolding droppedOf dropAnswer
+  unsound-drop h = rw h
+
+  refused-drop :
+      isSound book ≡ true → dropCodeOf book task ≢ 0
+      → droppedOf book task ≡ record { answer = refuse (dropCodeOf book task) task 0; book = book }
+  unfolding droppedOf dropAnswer
+  refused-drop h n = rw (h, ne-eqb (dropCodeOf book task) 0 n, ne-eqb (dropCodeOf book task) 0 n)
+
+  taken-drop : isSound book ≡ true → dropCodeOf book task ≡ 0 → droppedOf book task .answer ≡ granted
+  unfolding droppedOf dropAnswer
+  taken-drop h z = rw (h, eq-eqb (dropCodeOf book task) 0 z)
+
+  pub drop-says : DropSays book task (droppedOf book task)
+  drop-says =
+      by-bool (isSound book)
+      (λ h.
+      by-eq (dropCodeOf book task) 0
+      (λ z. DropSays.taken h (taken-drop h z))
+      (λ n.
+      ⊎-elim (λ z. absurd (n z)) (λ c. DropSays.refused (dropCodeOf book task) h c (refused-drop h n)) (drop-number book task)))
+      (λ h. DropSays.unsound h (unsound-drop h))
+
 pub figure-says : (book : Book) → FigureSays book (figureOf book)
 unfolding figureOf
 figure-says book = by-bool (isSound book) (λ h. FigureSays.shown h (rw h)) (λ h. FigureSays.refused h (rw h))
@@ -242,6 +281,19 @@ report-code book task tick = go (reportedOf book task tick) (report-says book ta
     go r (ReportSays.unsound h e) = inr (rw e (omega arith, omega arith))
     go r (ReportSays.refused code h a b e) = inr (rw e (omega arith, b))
 
+pub drop-code :
+    (book : Book) (task : ℕ)
+    → (droppedOf book task .answer .code ≡ 0)
+    ⊎ ((droppedOf book task .answer .code ≡ 9) ⊎ ((droppedOf book task .answer .code ≡ 10) ⊎ (droppedOf book task .answer .code ≡ 19)))
+drop-code book task = go (droppedOf book task) (drop-says book task)
+  where
+    go :
+        (r : Dropped) → DropSays book task r
+        → (r .answer .code ≡ 0) ⊎ ((r .answer .code ≡ 9) ⊎ ((r .answer .code ≡ 10) ⊎ (r .answer .code ≡ 19)))
+    go r (DropSays.taken h e) = inl (rw e)
+    go r (DropSays.unsound h e) = inr (inl (rw e))
+    go r (DropSays.refused code h c e) = inr (inr (rw e c))
+
 pub figure-code : (book : Book) → (figureOf book .answer .code ≡ 0) ⊎ (figureOf book .answer .code ≡ 9)
 figure-code book = go (figureOf book) (figure-says book)
   where
@@ -280,7 +332,35 @@ opening-sized plan s = go (openingOf plan) (opening-says plan)
 
 pub reported-sized : (book : Book) (task tick : ℕ) → Sized book → Sized (reportedOf book task tick .book)
 reported-sized book task tick s =
-    by-bool (isSound book) (λ h. report-sized book task tick h s) (λ h. subst (λ (x : Reported). Sized (x .book)) (sym (unsound-report book task tick h)) s)
+    by-bool (isSound book) (λ h. event-sized book h (Event.ends task tick) s) (λ h. subst (λ (x : Reported). Sized (x .book)) (sym (unsound-report book task tick h)) s)
+
+pub dropped-sized : (book : Book) (task : ℕ) → Sized book → Sized (droppedOf book task .book)
+dropped-sized book task s =
+    by-bool (isSound book) (λ h. event-sized book h (Event.drops task) s) (λ h. subst (λ (x : Dropped). Sized (x .book)) (sym (unsound-drop book task h)) s)
+
+-- an accepted drop
+module _ (book : Book) (task : ℕ) where
+  drop-code-accepted : 0 < task → AcceptsDrop (planView book) (bookView book) (task - 1) → dropCodeOf book task ≡ 0
+  unfolding dropCodeOf
+  drop-code-accepted p a = rw (ne-eqb task 0 (omega arith)) (accepts-drop-code (planView book) (bookView book) (task - 1) a)
+
+  pub drop-accepted :
+      (droppedOf book task .answer .code ≡ 0)
+      ↔ ((isSound book ≡ true) × (0 < task) × AcceptsDrop (planView book) (bookView book) (task - 1))
+  drop-accepted = (there, back)
+    where
+      there :
+          droppedOf book task .answer .code ≡ 0
+          → (isSound book ≡ true) × (0 < task) × AcceptsDrop (planView book) (bookView book) (task - 1)
+      there z =
+          by-bool (isSound book)
+          (λ h. let r = drop-zero book task (sym (answer-code book h (Event.drops task)) ∙ z) in (h, r .0, r .1))
+          (λ h. let q : _≡_ {A = ℕ} 9 0 = rw (unsound-drop book task h) at z in absurd (omega arith))
+
+      back :
+          (isSound book ≡ true) × (0 < task) × AcceptsDrop (planView book) (bookView book) (task - 1)
+          → droppedOf book task .answer .code ≡ 0
+      back r = answer-code book (r .0) (Event.drops task) ∙ drop-code-accepted (r .1) (r .2)
 
 -- an accepted report
 module _ (book : Book) (task tick : ℕ) where
@@ -298,10 +378,10 @@ module _ (book : Book) (task tick : ℕ) where
           → (isSound book ≡ true) × (0 < task) × Accepts (planView book) (bookView book) (task - 1) tick
       there z =
           by-bool (isSound book)
-          (λ h. let r = code-zero book task tick (sym (answer-code book task tick h) ∙ z) in (h, r .0, r .1))
+          (λ h. let r = code-zero book task tick (sym (answer-code book h (Event.ends task tick)) ∙ z) in (h, r .0, r .1))
           (λ h. let q : _≡_ {A = ℕ} 9 0 = rw (unsound-report book task tick h) at z in absurd (omega arith))
 
       back :
           (isSound book ≡ true) × (0 < task) × Accepts (planView book) (bookView book) (task - 1) tick
           → reportedOf book task tick .answer .code ≡ 0
-      back r = answer-code book task tick (r .0) ∙ code-accepted (r .1) (r .2)
+      back r = answer-code book (r .0) (Event.ends task tick) ∙ code-accepted (r .1) (r .2)

@@ -1,12 +1,12 @@
 -- Demands 1, 2 and 3, over the definitions that the functions' contracts cite.
--- Tasks are counted from 0: a report names task i by i + 1.
+-- Tasks are counted from 0: a report or drop names task i by i + 1.
 use Prim.Native.Nat.{ℕ, _-_, _≤_, _<_}
 use mathlib.Core.Path.{_≡_}
 use mathlib.Core.Logic.{_≢_, _↔_, _⊎_}
 use mathlib.Core.Bool.{true}
 use mathlib.Core.List.{List, _++_}
 use lib.ListN.{length, take, drop}
-use Rattle.theory.specs.Report.{Report, Accepts}
+use Rattle.theory.specs.Report.{Event, Accepts, AcceptsDrop}
 use Rattle.theory.specs.Figure.{minimumEarly}
 use Rattle.plan.specs.Answer.{granted}
 use Rattle.plan.specs.Pairs.{clash}
@@ -19,14 +19,16 @@ use Rattle.book.specs.View.{planIn, planView, bookView}
 use Rattle.book.specs.Sound.{isSound}
 use Rattle.book.specs.Open.{openingOf}
 use Rattle.book.specs.Report.{reportedOf}
+use Rattle.book.specs.Drop.{droppedOf}
 use Rattle.book.specs.Early.{figureOf}
 use Rattle.book.specs.declared.Book.{Book}
-use Rattle.book.proofs.Views.{SizedPlan, Sized}
-use Rattle.promises.specs.Runs.{openedBook, runOf, acceptedOf, SameReports, Waiting, Running, Ended, Started, startOf, endOf}
+use Rattle.book.proofs.Sizes.{SizedPlan, Sized}
+use Rattle.promises.specs.Runs.{openedBook, runOf, acceptedOf, SameEvents, Waiting, Running, Ended, Started, Dropped, startOf, endOf}
 use Rattle.promises.specs.Runs.{WaitsFor, dueOf, AllEnded, InOrder, EarlyBy, StartsExactly}
-use Rattle.promises.specs.Says.{ReadingSays, OpeningSays, ReportSays, FigureSays, WriteSays}
+use Rattle.promises.specs.Says.{ReadingSays, OpeningSays, ReportSays, DropSays, FigureSays, WriteSays}
 use Rattle.promises.proofs.RunView as run-view
 use Rattle.promises.proofs.SoundBook as sound-book
+use Rattle.promises.proofs.Told as told
 use Rattle.promises.proofs.Codes as codes
 use Rattle.promises.proofs.Figures as figures
 use Rattle.promises.proofs.Rounds as rounds
@@ -54,6 +56,15 @@ report-code = codes.report-code
 pub report-says : (book : Book) (task tick : ℕ) → ReportSays book task tick (reportedOf book task tick)
 report-says = codes.report-says
 
+pub drop-code :
+    (book : Book) (task : ℕ)
+    → (droppedOf book task .answer .code ≡ 0)
+    ⊎ ((droppedOf book task .answer .code ≡ 9) ⊎ ((droppedOf book task .answer .code ≡ 10) ⊎ (droppedOf book task .answer .code ≡ 19)))
+drop-code = codes.drop-code
+
+pub drop-says : (book : Book) (task : ℕ) → DropSays book task (droppedOf book task)
+drop-says = codes.drop-says
+
 pub figure-code : (book : Book) → (figureOf book .answer .code ≡ 0) ⊎ (figureOf book .answer .code ≡ 9)
 figure-code = codes.figure-code
 
@@ -79,12 +90,22 @@ opening-sized = codes.opening-sized
 pub report-sized : (book : Book) (task tick : ℕ) → Sized book → Sized (reportedOf book task tick .book)
 report-sized = codes.reported-sized
 
+pub drop-sized : (book : Book) (task : ℕ) → Sized book → Sized (droppedOf book task .book)
+drop-sized = codes.dropped-sized
+
 -- DEMAND 2. A report is accepted exactly when none of codes 9 to 15 applies
 pub report-accepted :
     (book : Book) (task tick : ℕ)
     → (reportedOf book task tick .answer .code ≡ 0)
     ↔ ((isSound book ≡ true) × (0 < task) × Accepts (planView book) (bookView book) (task - 1) tick)
 report-accepted = codes.report-accepted
+
+-- and a drop exactly when none of 9, 10 and 19 does
+pub drop-accepted :
+    (book : Book) (task : ℕ)
+    → (droppedOf book task .answer .code ≡ 0)
+    ↔ ((isSound book ≡ true) × (0 < task) × AcceptsDrop (planView book) (bookView book) (task - 1))
+drop-accepted = codes.drop-accepted
 
 -- what is due: no end of those it waits for is later, it is one of these ends, and 0 where it waits for nobody
 pub due-over : (book : Book) (i j : ℕ) → j < book .tasks → WaitsFor book i j → endOf book j ≤ dueOf book i
@@ -99,7 +120,7 @@ pub due-none :
     (book : Book) (i : ℕ) → ((j : ℕ) → j < book .tasks → WaitsFor book i j → ⊥) → dueOf book i ≡ 0
 due-none = sound-book.due-none
 
--- of an accepted plan, its opened book and any list of reports
+-- of an accepted plan, its opened book and any list of reports and drops
 module _ (plan : Plan) (size : SizedPlan plan) (ok : isAccepted plan ≡ true) where
   -- A task that waits for nobody starts at tick 0, and no other then
   pub opening-starts :
@@ -108,33 +129,45 @@ module _ (plan : Plan) (size : SizedPlan plan) (ok : isAccepted plan ≡ true) w
       × (Started (openedBook plan) i → startOf (openedBook plan) i ≡ 0)
   opening-starts = sound-book.opened-starts plan size ok
 
-  module _ (reports : List Report) where
+  module _ (events : List Event) where
     -- the plan stays, the book is sound, the arrays keep their lengths
-    pub run-plan : planIn (runOf plan reports) ≡ plan
-    run-plan = sound-book.on-run plan size ok reports .same
+    pub run-plan : planIn (runOf plan events) ≡ plan
+    run-plan = sound-book.on-run plan size ok events .same
 
-    pub run-sound : isSound (runOf plan reports) ≡ true
-    run-sound = sound-book.on-run plan size ok reports .good .sound
+    pub run-sound : isSound (runOf plan events) ≡ true
+    run-sound = sound-book.on-run plan size ok events .good .sound
 
-    pub run-sized : Sized (runOf plan reports)
-    run-sized = sound-book.on-run plan size ok reports .good .sized
+    pub run-sized : Sized (runOf plan events)
+    run-sized = sound-book.on-run plan size ok events .good .sized
 
     -- its start is the latest of the ends of those it waits for, 0 where it waits for nobody
     pub start-is-due :
-        (i : ℕ) → i < runOf plan reports .tasks → Started (runOf plan reports) i
-        → startOf (runOf plan reports) i ≡ dueOf (runOf plan reports) i
-    start-is-due = sound-book.start-due (runOf plan reports) (sound-book.on-run plan size ok reports .good)
+        (i : ℕ) → i < runOf plan events .tasks → Started (runOf plan events) i
+        → startOf (runOf plan events) i ≡ dueOf (runOf plan events) i
+    start-is-due = sound-book.start-due (runOf plan events) (sound-book.on-run plan size ok events .good)
 
     -- a task has started exactly when all it waits for have ended
     pub started-when-free :
-        (i : ℕ) → i < runOf plan reports .tasks → Started (runOf plan reports) i ↔ AllEnded (runOf plan reports) i
-    started-when-free = sound-book.started-free (runOf plan reports) (sound-book.on-run plan size ok reports .good)
+        (i : ℕ) → i < runOf plan events .tasks → Started (runOf plan events) i ↔ AllEnded (runOf plan events) i
+    started-when-free = sound-book.started-free (runOf plan events) (sound-book.on-run plan size ok events .good)
 
     -- every waiting task has one it waits for that has not ended
     pub waiting-for-one :
-        (i : ℕ) → i < runOf plan reports .tasks → Waiting (runOf plan reports) i
-        → (j : ℕ) × (j < runOf plan reports .tasks) × WaitsFor (runOf plan reports) i j × (Ended (runOf plan reports) j → ⊥)
-    waiting-for-one = sound-book.waiting-for (runOf plan reports) (sound-book.on-run plan size ok reports .good)
+        (i : ℕ) → i < runOf plan events .tasks → Waiting (runOf plan events) i
+        → (j : ℕ) × (j < runOf plan events .tasks) × WaitsFor (runOf plan events) i j × (Ended (runOf plan events) j → ⊥)
+    waiting-for-one = sound-book.waiting-for (runOf plan events) (sound-book.on-run plan size ok events .good)
+
+    -- a dropped task takes no time: once its start is known it has ended, its end being its start
+    pub dropped-at-once :
+        (i : ℕ) → i < runOf plan events .tasks → Dropped (runOf plan events) i → Started (runOf plan events) i
+        → Ended (runOf plan events) i × (endOf (runOf plan events) i ≡ startOf (runOf plan events) i)
+    dropped-at-once = told.dropped-at-once (runOf plan events) (sound-book.on-run plan size ok events .good)
+
+    -- and is one that waits for somebody
+    pub dropped-waits :
+        (i : ℕ) → i < runOf plan events .tasks → Dropped (runOf plan events) i
+        → (j : ℕ) × (j < runOf plan events .tasks) × WaitsFor (runOf plan events) i j
+    dropped-waits = told.dropped-waits (runOf plan events) (sound-book.on-run plan size ok events .good)
 
 -- of any sound book and an accepted report
 module _ (book : Book) (size : Sized book) (sound : isSound book ≡ true) where
@@ -145,32 +178,45 @@ module _ (book : Book) (size : Sized book) (sound : isSound book ≡ true) where
         × (endOf (reportedOf book task tick .book) (task - 1) ≡ tick)
         × (reportedOf book task tick .book .clock ≡ tick)
     report-ends =
-        sound-book.report-ends
-        book (record { sized = size; sound = sound }) task tick (sound-book.code-of book task tick sound taken)
+        told.report-ends
+        book (record { sized = size; sound = sound }) task tick (told.code-of book task tick sound taken)
 
-    -- and nobody else has ended by it
+    -- and nobody else has ended by it, but dropped tasks that waited
     pub others-stay :
-        (i : ℕ) → i < book .tasks → i ≢ task - 1
+        (i : ℕ) → i < book .tasks → i ≢ task - 1 → (Dropped book i → Started book i)
         → (Ended (reportedOf book task tick .book) i ↔ Ended book i)
         × (endOf (reportedOf book task tick .book) i ≡ endOf book i)
     others-stay =
-        sound-book.others-stay
-        book (record { sized = size; sound = sound }) task tick (sound-book.code-of book task tick sound taken)
+        told.others-stay
+        book (record { sized = size; sound = sound }) task tick (told.code-of book task tick sound taken)
 
     -- a waiting task starts exactly when all it waits for have ended after it, and then at its tick
     pub starts-exactly :
         (i : ℕ) → i < book .tasks → Waiting book i → StartsExactly tick (reportedOf book task tick .book) i
     starts-exactly =
-        sound-book.report-starts
-        book (record { sized = size; sound = sound }) task tick (sound-book.code-of book task tick sound taken)
+        told.report-starts
+        book (record { sized = size; sound = sound }) task tick (told.code-of book task tick sound taken)
 
     -- a started task keeps its start
     pub starts-stay :
         (i : ℕ) → i < book .tasks → Started book i
         → Started (reportedOf book task tick .book) i × (startOf (reportedOf book task tick .book) i ≡ startOf book i)
     starts-stay =
-        sound-book.report-keeps
-        book (record { sized = size; sound = sound }) task tick (sound-book.code-of book task tick sound taken)
+        told.report-keeps
+        book (record { sized = size; sound = sound }) task tick (told.code-of book task tick sound taken)
+
+  module _ (task : ℕ) (taken : droppedOf book task .answer .code ≡ 0) where
+    -- the task is dropped, no other by it, and clock, marks, starts and ends stay
+    pub drop-marks : Dropped (droppedOf book task .book) (task - 1)
+    drop-marks = told.drop-marks book sound task (told.drop-code-of book task sound taken) size
+
+    pub drop-others : (i : ℕ) → i ≢ task - 1 → at (droppedOf book task .book .dropped) i ≡ at (book .dropped) i
+    drop-others = told.drop-others book sound task (told.drop-code-of book task sound taken)
+
+    pub drop-rest :
+        (droppedOf book task .book .clock ≡ book .clock) × (droppedOf book task .book .mark ≡ book .mark)
+        × (droppedOf book task .book .start ≡ book .start) × (droppedOf book task .book .end ≡ book .end)
+    drop-rest = told.drop-rest book sound task (told.drop-code-of book task sound taken)
 
   -- M is the least of planned start − start over the tasks running at that moment
   pub figure-is-defined : figureOf book ≡ record { answer = granted; early = minimumEarly (planView book) (bookView book) }
@@ -217,35 +263,36 @@ pub rest-stays :
     → drop (length (textOf plan)) (bufferAfter plan out) ≡ drop (length (textOf plan)) out
 rest-stays = rounds.rest-stays
 
--- DEMAND 3. Of an accepted plan, its opened book and any list of reports
+-- DEMAND 3. Of an accepted plan, its opened book and any list of reports, drops among them
 module _ (plan : Plan) (size : SizedPlan plan) (ok : isAccepted plan ≡ true) where
-  module _ (reports : List Report) where
+  module _ (events : List Event) where
     -- clashing tasks stand in plan order, and the later one starts no sooner than the earlier one has ended
     pub clashing-in-order :
         (a b : ℕ) → a < plan .tasks → b < plan .tasks → a ≢ b → clash (taskAt plan) a b ≡ true
-        → InOrder plan (runOf plan reports) a b ⊎ InOrder plan (runOf plan reports) b a
-    clashing-in-order = sound-book.clash-order plan size ok (runOf plan reports) (sound-book.on-run plan size ok reports)
+        → InOrder plan (runOf plan events) a b ⊎ InOrder plan (runOf plan events) b a
+    clashing-in-order = sound-book.clash-order plan size ok (runOf plan events) (sound-book.on-run plan size ok events)
 
     -- and never run at once
     pub clashing-never-at-once :
         (a b : ℕ) → a < plan .tasks → b < plan .tasks → a ≢ b → clash (taskAt plan) a b ≡ true
-        → Running (runOf plan reports) a → Running (runOf plan reports) b → ⊥
-    clashing-never-at-once = sound-book.never-both plan size ok (runOf plan reports) (sound-book.on-run plan size ok reports)
+        → Running (runOf plan events) a → Running (runOf plan events) b → ⊥
+    clashing-never-at-once = sound-book.never-both plan size ok (runOf plan events) (sound-book.on-run plan size ok events)
 
     -- no task starts after its planned start
     pub nobody-late :
-        (i : ℕ) → i < plan .tasks → Started (runOf plan reports) i → startOf (runOf plan reports) i ≤ at (plan .begin) i
-    nobody-late = sound-book.not-late plan size ok (runOf plan reports) (sound-book.on-run plan size ok reports)
+        (i : ℕ) → i < plan .tasks → Started (runOf plan events) i → startOf (runOf plan events) i ≤ at (plan .begin) i
+    nobody-late = sound-book.not-late plan size ok (runOf plan events) (sound-book.on-run plan size ok events)
 
-    -- the figure shown is kept: every task not ended then, so every one not started then, starts and ends at least that early
+    -- the figure shown is kept: every task not ended then, so every one not started then, starts and ends at least that early,
+    -- and so does one that is dropped later
     pub figure-kept :
-        (later : List Report) (i : ℕ) → i < plan .tasks → (Ended (runOf plan reports) i → ⊥)
-        → EarlyBy plan (figureOf (runOf plan reports) .early) (runOf plan (reports ++ later)) i
-    figure-kept = sound-book.kept-run plan size ok reports
+        (later : List Event) (i : ℕ) → i < plan .tasks → (Ended (runOf plan events) i → ⊥)
+        → EarlyBy plan (figureOf (runOf plan events) .early) (runOf plan (events ++ later)) i
+    figure-kept = sound-book.kept-run plan size ok events
 
-  -- the same accepted reports, in whatever order, leave the same book
+  -- the same accepted reports and the same accepted drops, in whatever order, leave the same book
   pub same-book :
-      (reports others : List Report)
-      → SameReports (acceptedOf (openedBook plan) reports) (acceptedOf (openedBook plan) others)
-      → runOf plan reports ≡ runOf plan others
-  same-book reports others same = run-view.same-after (openedBook plan) reports others (run-view.opened-good plan ok size) same
+      (events others : List Event)
+      → SameEvents (acceptedOf (openedBook plan) events) (acceptedOf (openedBook plan) others)
+      → runOf plan events ≡ runOf plan others
+  same-book events others same = run-view.same-after (openedBook plan) events others (run-view.opened-good plan ok size) same

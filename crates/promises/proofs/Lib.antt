@@ -1,5 +1,6 @@
 pub mod RunView
 pub mod SoundBook
+pub mod Told
 pub mod Codes
 pub mod Figures
 pub mod Rounds

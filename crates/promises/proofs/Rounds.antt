@@ -12,7 +12,7 @@ use Rattle.plan.specs.declared.Answer.{Answer}
 use Rattle.plan.specs.declared.Plan.{Plan}
 use Rattle.plan.proofs.RoundText.{read-answer, read-accepted, read-back}
 use Rattle.plan.proofs.RoundWrite.{write-text, write-rest, write-back}
-use Rattle.book.proofs.Views.{SizedPlan}
+use Rattle.book.proofs.Sizes.{SizedPlan}
 use Rattle.promises.proofs.Codes.{sized-as}
 
 module _ (text : List ℕ) (z : readingOf text .answer .code ≡ 0) where

@@ -1,7 +1,7 @@
--- Any list of reports on a sound book is the theory's run on its view, where task k is the theory's k - 1.
+-- Any list of reports and drops on a sound book is the theory's run on its view, where task k is the theory's k - 1.
 use Prim.Native.Nat.{ℕ, _+_, _-_}
 use native.Mathlib.Omega.{arith}
-use mathlib.Core.Bool.{true, cond}
+use mathlib.Core.Bool.{true}
 use mathlib.Core.List.{List, [], _∷_, _++_, map, List·Memᴰ, List·Memᴰ·head, List·Memᴰ·tail, List·Memᴰ·cases-cons, List·Memᴰ·not-nil}
 use mathlib.Core.Path.{_≡_, refl, sym, ap, _∙_}
 use mathlib.Core.Logic.{_≢_, ⊎-elim}
@@ -10,7 +10,7 @@ use lib.Seq.{ext-getD}
 use borrow.Author.Tests.{eq-eqb, ne-eqb}
 use Rattle.laws.specs.Cases.{by-eq}
 use Rattle.theory.specs.Book as theory-book
-use Rattle.theory.specs.Report.{Report, reportCode, run, accepted}
+use Rattle.theory.specs.Report.{Event, eventCode, run, accepted}
 use Rattle.theory.proofs.Same.{same-book}
 use Rattle.plan.specs.Answer.{granted, isGranted}
 use Rattle.plan.specs.Value.{at, isAccepted}
@@ -19,113 +19,125 @@ use Rattle.book.specs.View.{planIn, planView, bookView}
 use Rattle.book.specs.Sound.{isSound}
 use Rattle.book.specs.Open.{openedOn, openingOf}
 use Rattle.book.specs.Report.{codeOf, reportAnswer, reportedOf}
+use Rattle.book.specs.Drop.{dropCodeOf, dropAnswer, droppedOf}
+use Rattle.book.specs.Event.{answerTo, bookTold}
 use Rattle.book.specs.declared.Book.{Book}
 use Rattle.book.specs.declared.Opening.{Opening}
-use Rattle.book.proofs.Accepted.{planFor}
-use Rattle.book.proofs.Views.{SizedPlan, Sized, is-sound-facts, sized-opened, plan-opened, opened-is-sound}
-use Rattle.book.proofs.ReportLaws.{code-zero}
-use Rattle.book.proofs.Reports.{reportBook, theoryTask, code-seen-by, report-plan, report-sized, report-sound, report-view}
-use Rattle.promises.specs.Runs.{openedBook, bookAfter, acceptedOf, SameReports}
+use Rattle.book.proofs.Accepted.{planFor, plan-lawful}
+use Rattle.book.proofs.Sizes.{SizedPlan, Sized, sized-opened, plan-opened}
+use Rattle.book.proofs.Soundness.{SoundFacts, is-sound-facts, opened-is-sound}
+use Rattle.book.proofs.ReportLaws.{code-zero, drop-zero}
+use Rattle.book.proofs.Reports.{codeIn, theoryTask, theoryEvent, code-seen-by, event-plan, event-sized, event-sound, event-view}
+use Rattle.promises.specs.Runs.{openedBook, bookAfter, acceptedOf, SameEvents}
 
 -- a sound book whose arrays have their lengths
 pub record Good (book : Book) : Type 0 where
   pub sized : Sized book
   pub sound : isSound book ≡ true
 
-pub good-report : (book : Book) (task tick : ℕ) → Good book → Good (reportBook book task tick)
-good-report book task tick g = record {
-  sized = report-sized book task tick (g .sound) (g .sized);
-  sound = report-sound book task tick (g .sound) (g .sized);
+pub good-event : (book : Book) (event : Event) → Good book → Good (bookTold book event)
+good-event book event g = record {
+  sized = event-sized book (g .sound) event (g .sized);
+  sound = event-sound book (g .sound) event (g .sized);
 }
 
--- a report as the theory counts tasks, and back
-abbrev pub seen : ℕ → Report → Report
-seen tasks r = record { task = cond (eqb (r .task) 0) tasks (r .task - 1); tick = r .tick }
+-- a report or drop as the theory counts tasks is `theoryEvent`; and back
+abbrev pub named : Event → Event
+named (Event.ends task tick) = Event.ends (task + 1) tick
+named (Event.drops task) = Event.drops (task + 1)
 
-abbrev pub named : Report → Report
-named r = record { task = r .task + 1; tick = r .tick }
-
-pub good-run : (book : Book) (rs : List Report) → Good book → Good (bookAfter book rs)
+pub good-run : (book : Book) (es : List Event) → Good book → Good (bookAfter book es)
 unfolding bookAfter
 good-run book [] g = g
-good-run book (r ∷ rs) g = good-run (reportBook book (r .task) (r .tick)) rs (good-report book (r .task) (r .tick) g)
+good-run book (e ∷ es) g = good-run (bookTold book e) es (good-event book e g)
 
-pub plan-run : (book : Book) (rs : List Report) → Good book → planIn (bookAfter book rs) ≡ planIn book
+pub plan-run : (book : Book) (es : List Event) → Good book → planIn (bookAfter book es) ≡ planIn book
 unfolding bookAfter
 plan-run book [] g = refl
-plan-run book (r ∷ rs) g =
-    plan-run (reportBook book (r .task) (r .tick)) rs (good-report book (r .task) (r .tick) g)
-    ∙ report-plan book (r .task) (r .tick) (g .sound)
+plan-run book (e ∷ es) g = plan-run (bookTold book e) es (good-event book e g) ∙ event-plan book (g .sound) e
 
 pub view-run :
-    (book : Book) (rs : List Report) → Good book
-    → bookView (bookAfter book rs) ≡ run (planView book) (bookView book) (map (seen (book .tasks)) rs)
+    (book : Book) (es : List Event) → Good book
+    → bookView (bookAfter book es) ≡ run (planView book) (bookView book) (map (theoryEvent (book .tasks)) es)
 unfolding bookAfter run
 view-run book [] g = refl
-view-run book (r ∷ rs) g =
-    let c = reportBook book (r .task) (r .tick) in
-    view-run c rs (good-report book (r .task) (r .tick) g)
-    ∙ ap (λ (p : Plan). run (planFor p) (bookView c) (map (seen (p .tasks)) rs)) (report-plan book (r .task) (r .tick) (g .sound))
-    ∙ ap (λ (b : theory-book.Book). run (planView book) b (map (seen (book .tasks)) rs))
-    (report-view book (r .task) (r .tick) (g .sound) (g .sized))
+view-run book (e ∷ es) g =
+    let c = bookTold book e in
+    view-run c es (good-event book e g)
+    ∙ ap (λ (p : Plan). run (planFor p) (bookView c) (map (theoryEvent (p .tasks)) es)) (event-plan book (g .sound) e)
+    ∙ ap (λ (b : theory-book.Book). run (planView book) b (map (theoryEvent (book .tasks)) es))
+    (event-view book (g .sound) e (g .sized))
 
-pub after-append : (book : Book) (rs ss : List Report) → bookAfter book (rs ++ ss) ≡ bookAfter (bookAfter book rs) ss
+pub after-append : (book : Book) (es fs : List Event) → bookAfter book (es ++ fs) ≡ bookAfter (bookAfter book es) fs
 unfolding bookAfter
-after-append book [] ss = refl
-after-append book (r ∷ rs) ss = after-append (reportBook book (r .task) (r .tick)) rs ss
+after-append book [] fs = refl
+after-append book (e ∷ es) fs = after-append (bookTold book e) es fs
 
--- what a report answers
-module _ (book : Book) (task tick : ℕ) (h : isSound book ≡ true) where
-  pub answer-granted : codeOf book task tick ≡ 0 → reportedOf book task tick .answer ≡ granted
+-- what a report or drop answers
+module _ (book : Book) (h : isSound book ≡ true) where
+  pub answer-granted : (task tick : ℕ) → codeOf book task tick ≡ 0 → reportedOf book task tick .answer ≡ granted
   unfolding reportedOf reportAnswer
-  answer-granted z = rw (h, eq-eqb (codeOf book task tick) 0 z)
+  answer-granted task tick z = rw (h, eq-eqb (codeOf book task tick) 0 z)
 
-  pub answer-code : reportedOf book task tick .answer .code ≡ codeOf book task tick
-  unfolding reportedOf reportAnswer
-  answer-code =
+  pub answer-code : (event : Event) → answerTo book event .code ≡ codeIn book event
+  unfolding reportedOf reportAnswer droppedOf dropAnswer
+  answer-code (Event.ends task tick) =
       by-eq (codeOf book task tick) 0
       (λ z. rw (h, eq-eqb (codeOf book task tick) 0 z) (sym z))
       (λ n. rw (h, ne-eqb (codeOf book task tick) 0 n))
+  answer-code (Event.drops task) =
+      by-eq (dropCodeOf book task) 0
+      (λ z. rw (h, eq-eqb (dropCodeOf book task) 0 z) (sym z))
+      (λ n. rw (h, ne-eqb (dropCodeOf book task) 0 n))
 
   granted-seen :
-      isGranted (reportedOf book task tick .answer)
-      ≡ eqb (reportCode (planView book) (bookView book) (theoryTask book task) tick) 0
-  granted-seen = ap (λ (c : ℕ). eqb c 0) (answer-code ∙ code-seen-by book task tick)
+      (event : Event)
+      → isGranted (answerTo book event) ≡ eqb (eventCode (planView book) (bookView book) (theoryEvent (book .tasks) event)) 0
+  granted-seen event = ap (λ (c : ℕ). eqb c 0) (answer-code event ∙ code-seen-by book event)
 
-named-seen : (tasks : ℕ) (r : Report) → r .task ≢ 0 → named (seen tasks r) ≡ r
-named-seen tasks r n =
-    let e : cond (eqb (r .task) 0) tasks (r .task - 1) + 1 ≡ r .task = rw (ne-eqb (r .task) 0 n) (omega arith) in
-    λ i. record { task = e i; tick = r .tick }
+  named-seen : (event : Event) → codeIn book event ≡ 0 → named (theoryEvent (book .tasks) event) ≡ event
+  named-seen (Event.ends task tick) z =
+      let n : task ≢ 0 = omega (arith, code-zero book task tick z .0) in
+      let e : theoryTask (book .tasks) task + 1 ≡ task = rw (ne-eqb task 0 n) (omega arith) in
+      ap (λ (x : ℕ). Event.ends x tick) e
+  named-seen (Event.drops task) z =
+      let n : task ≢ 0 = omega (arith, drop-zero book task z .0) in
+      let e : theoryTask (book .tasks) task + 1 ≡ task = rw (ne-eqb task 0 n) (omega arith) in
+      ap (λ (x : ℕ). Event.drops x) e
 
-pub seen-named : (tasks : ℕ) (rs : List Report) → map (seen tasks) (map named rs) ≡ rs
+one-seen : (tasks : ℕ) (event : Event) → theoryEvent tasks (named event) ≡ event
+one-seen tasks (Event.ends task tick) =
+    let e : theoryTask tasks (task + 1) ≡ task = rw (ne-eqb (task + 1) 0 (omega arith)) (omega arith) in
+    ap (λ (x : ℕ). Event.ends x tick) e
+one-seen tasks (Event.drops task) =
+    let e : theoryTask tasks (task + 1) ≡ task = rw (ne-eqb (task + 1) 0 (omega arith)) (omega arith) in
+    ap (λ (x : ℕ). Event.drops x) e
+
+pub seen-named : (tasks : ℕ) (es : List Event) → map (theoryEvent tasks) (map named es) ≡ es
 seen-named tasks [] = refl
-seen-named tasks (r ∷ rs) =
-    let e : cond (eqb (r .task + 1) 0) tasks (r .task + 1 - 1) ≡ r .task = rw (ne-eqb (r .task + 1) 0 (omega arith)) (omega arith) in
-    λ i. record { task = e i; tick = r .tick } ∷ seen-named tasks rs i
+seen-named tasks (e ∷ es) = λ i. one-seen tasks e i ∷ seen-named tasks es i
 
 -- the accepted ones are those that the theory accepts
 pub accepted-seen :
-    (book : Book) (rs : List Report) → Good book
-    → acceptedOf book rs ≡ map named (accepted (planView book) (bookView book) (map (seen (book .tasks)) rs))
+    (book : Book) (es : List Event) → Good book
+    → acceptedOf book es ≡ map named (accepted (planView book) (bookView book) (map (theoryEvent (book .tasks)) es))
 unfolding acceptedOf accepted
 accepted-seen book [] g = refl
-accepted-seen book (r ∷ rs) g =
-    let c = reportBook book (r .task) (r .tick) in
+accepted-seen book (e ∷ es) g =
+    let c = bookTold book e in
     let later =
-    accepted-seen c rs (good-report book (r .task) (r .tick) g)
-    ∙ ap (λ (p : Plan). map named (accepted (planFor p) (bookView c) (map (seen (p .tasks)) rs))) (report-plan book (r .task) (r .tick) (g .sound))
-    ∙ ap (λ (b : theory-book.Book). map named (accepted (planView book) b (map (seen (book .tasks)) rs)))
-    (report-view book (r .task) (r .tick) (g .sound) (g .sized)) in
-    by-eq (codeOf book (r .task) (r .tick)) 0
+    accepted-seen c es (good-event book e g)
+    ∙ ap (λ (p : Plan). map named (accepted (planFor p) (bookView c) (map (theoryEvent (p .tasks)) es))) (event-plan book (g .sound) e)
+    ∙ ap (λ (b : theory-book.Book). map named (accepted (planView book) b (map (theoryEvent (book .tasks)) es)))
+    (event-view book (g .sound) e (g .sized)) in
+    by-eq (codeIn book e) 0
     (λ z.
-    let code = sym (code-seen-by book (r .task) (r .tick)) ∙ z in
-    let n : r .task ≢ 0 = omega (arith, code-zero book (r .task) (r .tick) z .0) in
-    rw (granted-seen book (r .task) (r .tick) (g .sound), eq-eqb _ 0 code)
-    (λ i. sym (named-seen (book .tasks) r n) i ∷ later i))
+    let code = sym (code-seen-by book e) ∙ z in
+    rw (granted-seen book (g .sound) e, eq-eqb _ 0 code) (λ i. sym (named-seen book (g .sound) e z) i ∷ later i))
     (λ n.
-    let code : reportCode (planView book) (bookView book) (theoryTask book (r .task)) (r .tick) ≢ 0 =
-    λ z. n (code-seen-by book (r .task) (r .tick) ∙ z) in
-    rw (granted-seen book (r .task) (r .tick) (g .sound), ne-eqb _ 0 code) later)
+    let code : eventCode (planView book) (bookView book) (theoryEvent (book .tasks) e) ≢ 0 =
+    λ z. n (code-seen-by book e ∙ z) in
+    rw (granted-seen book (g .sound) e, ne-eqb _ 0 code) later)
 
 -- a book is its plan and what is seen of it
 pub book-path :
@@ -142,6 +154,7 @@ book-path book other s t p v =
       start = starts i;
       end = ends i;
       mark = marks i;
+      dropped = drops i;
       holds = p i .holds;
       after = p i .after;
     }
@@ -155,39 +168,44 @@ book-path book other s t p v =
     marks : book .mark ≡ other .mark
     marks = ext-getD 0 (book .mark) (other .mark) (s .mark ∙ sym (t .mark)) (λ j l. ap (λ (b : theory-book.Book). b .mark j) v)
 
--- membership of named reports
-mem-named : {r : Report} {l : List Report} → List·Memᴰ r l → List·Memᴰ (named r) (map named l)
-mem-named (List·Memᴰ·head e) = List·Memᴰ·head (ap named e)
+    drops : book .dropped ≡ other .dropped
+    drops = ext-getD 0 (book .dropped) (other .dropped) (s .dropped ∙ sym (t .dropped)) (λ j l. ap (λ (b : theory-book.Book). b .dropped j) v)
+
+-- membership of named events
+mem-named : {e : Event} {l : List Event} → List·Memᴰ e l → List·Memᴰ (named e) (map named l)
+mem-named (List·Memᴰ·head q) = List·Memᴰ·head (ap named q)
 mem-named (List·Memᴰ·tail m) = List·Memᴰ·tail (mem-named m)
 
-named-back : {r s : Report} → named r ≡ named s → r ≡ s
-named-back {r} {s} e =
-    let t : r .task ≡ s .task = let q = ap (λ (x : Report). x .task) e in omega arith in
-    λ i. record { task = t i; tick = e i .tick }
+named-back : {e f : Event} → named e ≡ named f → e ≡ f
+named-back {e} {f} q = sym (one-seen 0 e) ∙ ap (theoryEvent 0) q ∙ one-seen 0 f
 
-mem-back : {r : Report} (l : List Report) → List·Memᴰ (named r) (map named l) → List·Memᴰ r l
+mem-back : {e : Event} (l : List Event) → List·Memᴰ (named e) (map named l) → List·Memᴰ e l
 mem-back [] m = absurd (List·Memᴰ·not-nil m)
 mem-back (x ∷ l) m =
-    ⊎-elim (λ e. List·Memᴰ·head (named-back e)) (λ t. List·Memᴰ·tail (mem-back l t)) (List·Memᴰ·cases-cons m)
+    ⊎-elim (λ q. List·Memᴰ·head (named-back q)) (λ t. List·Memᴰ·tail (mem-back l t)) (List·Memᴰ·cases-cons m)
 
--- the same accepted reports leave the same book
+-- the same accepted reports and drops leave the same book
 pub same-after :
-    (book : Book) (rs ss : List Report) → Good book → SameReports (acceptedOf book rs) (acceptedOf book ss)
-    → bookAfter book rs ≡ bookAfter book ss
-same-after book rs ss g same =
-    book-path (bookAfter book rs) (bookAfter book ss) (good-run book rs g .sized) (good-run book ss g .sized)
-    (plan-run book rs g ∙ sym (plan-run book ss g))
-    (view-run book rs g
-    ∙ same-book (planView book) (bookView book) (is-sound-facts book .0 (g .sound) .sound) (map (seen (book .tasks)) rs)
-    (map (seen (book .tasks)) ss) (λ r. (one rs ss (λ x. same x .0) r, one ss rs (λ x. same x .1) r))
-    ∙ sym (view-run book ss g))
+    (book : Book) (es fs : List Event) → Good book → SameEvents (acceptedOf book es) (acceptedOf book fs)
+    → bookAfter book es ≡ bookAfter book fs
+same-after book es fs g same =
+    book-path (bookAfter book es) (bookAfter book fs) (good-run book es g .sized) (good-run book fs g .sized)
+    (plan-run book es g ∙ sym (plan-run book fs g))
+    (view-run book es g
+    ∙ same-book (planView book) (bookView book) (plan-lawful (planIn book) (facts .accepted)) (facts .sound)
+    (map (theoryEvent (book .tasks)) es) (map (theoryEvent (book .tasks)) fs)
+    (λ e. (one es fs (λ x. same x .0) e, one fs es (λ x. same x .1) e))
+    ∙ sym (view-run book fs g))
   where
+    facts : SoundFacts book
+    facts = is-sound-facts book .0 (g .sound)
+
     one :
-        (xs ys : List Report) → ((x : Report) → List·Memᴰ x (acceptedOf book xs) → List·Memᴰ x (acceptedOf book ys))
-        → (r : Report) → List·Memᴰ r (accepted (planView book) (bookView book) (map (seen (book .tasks)) xs))
-        → List·Memᴰ r (accepted (planView book) (bookView book) (map (seen (book .tasks)) ys))
-    one xs ys f r m =
-        mem-back _ (rw (accepted-seen book ys g) at (f (named r) (rw (accepted-seen book xs g) (mem-named m))))
+        (xs ys : List Event) → ((x : Event) → List·Memᴰ x (acceptedOf book xs) → List·Memᴰ x (acceptedOf book ys))
+        → (e : Event) → List·Memᴰ e (accepted (planView book) (bookView book) (map (theoryEvent (book .tasks)) xs))
+        → List·Memᴰ e (accepted (planView book) (bookView book) (map (theoryEvent (book .tasks)) ys))
+    one xs ys f e m =
+        mem-back _ (rw (accepted-seen book ys g) at (f (named e) (rw (accepted-seen book xs g) (mem-named m))))
 
 -- the book opened on an accepted plan
 module _ (plan : Plan) (ok : isAccepted plan ≡ true) where

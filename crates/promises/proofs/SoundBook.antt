@@ -3,49 +3,47 @@ use Prim.Native.Nat.{ℕ, _+_, _-_, _≤_, _<_}
 use native.Mathlib.Omega.{arith}
 use mathlib.Core.Bool.{true}
 use mathlib.Core.List.{List, _++_, map}
-use mathlib.Core.Path.{_≡_, refl, sym, ap, subst, _∙_}
+use mathlib.Core.Path.{_≡_, sym, ap, subst, _∙_}
 use mathlib.Core.Logic.{_≢_, _↔_, _⊎_, inl, inr, ⊎-elim}
 use borrow.Author.Tests.{ne-eqb, le-leb, leb-true}
 use Rattle.laws.specs.Latest.{latest-over, latest-met, latest-none}
 use Rattle.theory.specs.Plan as theory-plan
 use Rattle.theory.specs.Book as theory-book
 use Rattle.theory.specs.Report as theory-report
-use Rattle.theory.specs.Report.{Report, run}
+use Rattle.theory.specs.Report.{Event, run}
 use Rattle.theory.specs.Figure.{minimumEarly}
 use Rattle.theory.proofs.Reflect.{all-ended-at, all-ended-of}
-use Rattle.theory.proofs.Task.{waiting-why, started-all, free-started, ended-within, end-by-clock}
-use Rattle.theory.proofs.Step.{AtTask, next-at, next-clock}
-use Rattle.theory.proofs.Later.{next-ends}
+use Rattle.theory.proofs.Task.{waiting-why, started-all, free-started}
 use Rattle.theory.proofs.Order as order
 use Rattle.theory.proofs.Kept as kept
 use Rattle.theory.proofs.Progress as progress
 use Rattle.theory.proofs.Past.{SamePast, past-opened}
-use Rattle.theory.proofs.Reach.{reachable}
+use Rattle.theory.proofs.Reach.{opened-none, reachable}
 use Rattle.plan.specs.Answer.{granted}
 use Rattle.plan.specs.Pairs.{clash}
 use Rattle.plan.specs.Value.{at, taskAt, isAccepted}
 use Rattle.plan.specs.declared.Plan.{Plan}
 use Rattle.book.specs.View.{planIn, planView, bookView}
 use Rattle.book.specs.Sound.{isSound}
-use Rattle.book.specs.Open.{blankBook, letGoIn, openedOn}
-use Rattle.book.specs.Report.{codeOf, nextBook, reportedOf}
+use Rattle.book.specs.Report.{codeOf, reportedOf}
 use Rattle.book.specs.Early.{figureOf}
 use Rattle.book.specs.declared.Book.{Book}
 use Rattle.book.proofs.Accepted.{planFor, plan-facts, plan-lawful, clash-waits}
-use Rattle.book.proofs.Views.{SizedPlan, SoundFacts, is-sound-facts, past-facts, view-opened, view-next, plan-next}
-use Rattle.book.proofs.ReportLaws.{code-zero, book-granted}
-use Rattle.book.proofs.Reports.{reportBook, theoryTask, code-seen-by}
-use Rattle.promises.specs.Runs.{openedBook, bookAfter, acceptedOf, Waiting, Running, Ended, Started, startOf, endOf, limitOf, WaitsFor, dueOf, AllEnded, InOrder, EarlyBy, runOf, StartsExactly, Progress, Finishes}
-use Rattle.promises.proofs.RunView.{Good, good-report, seen, named, good-run, plan-run, view-run, after-append, answer-granted, answer-code, seen-named, accepted-seen, book-path, opened-is, opened-plan, opened-good}
+use Rattle.book.proofs.Sizes.{SizedPlan, Sized}
+use Rattle.book.proofs.Views.{view-opened}
+use Rattle.book.proofs.Soundness.{SoundFacts, is-sound-facts, past-facts}
+use Rattle.book.proofs.Reports.{theoryTask, theoryEvent, code-seen-by}
+use Rattle.promises.specs.Runs.{openedBook, bookAfter, acceptedOf, Waiting, Running, Ended, Started, startOf, endOf, limitOf, WaitsFor, dueOf, AllEnded, InOrder, EarlyBy, runOf, Progress, Finishes}
+use Rattle.promises.proofs.RunView.{Good, named, good-run, plan-run, view-run, after-append, answer-granted, seen-named, accepted-seen, book-path, opened-is, opened-plan, opened-good}
 
 -- task k + 1 of a report is the theory's k
 code-named :
     (book : Book) (k tick : ℕ) → codeOf book (k + 1) tick ≡ theory-report.reportCode (planView book) (bookView book) k tick
 code-named book k tick =
-    let e : theoryTask book (k + 1) ≡ k = rw (ne-eqb (k + 1) 0 (omega arith)) (omega arith) in
-    code-seen-by book (k + 1) tick ∙ ap (λ (x : ℕ). theory-report.reportCode (planView book) (bookView book) x tick) e
+    let e : theoryTask (book .tasks) (k + 1) ≡ k = rw (ne-eqb (k + 1) 0 (omega arith)) (omega arith) in
+    code-seen-by book (Event.ends (k + 1) tick) ∙ ap (λ (x : ℕ). theory-report.reportCode (planView book) (bookView book) x tick) e
 
-module _ (book : Book) (g : Good book) (rs : List Report) where
+module _ (book : Book) (g : Good book) (rs : List Event) where
   pub view-named : bookView (bookAfter book (map named rs)) ≡ run (planView book) (bookView book) rs
   view-named = view-run book (map named rs) g ∙ ap (run (planView book) (bookView book)) (seen-named (book .tasks) rs)
 
@@ -53,8 +51,8 @@ module _ (book : Book) (g : Good book) (rs : List Report) where
       theory-report.accepted (planView book) (bookView book) rs ≡ rs → acceptedOf book (map named rs) ≡ map named rs
   accepted-named e =
       accepted-seen book (map named rs) g
-      ∙ ap (λ (l : List Report). map named (theory-report.accepted (planView book) (bookView book) l)) (seen-named (book .tasks) rs)
-      ∙ ap (λ (l : List Report). map named l) e
+      ∙ ap (λ (l : List Event). map named (theory-report.accepted (planView book) (bookView book) l)) (seen-named (book .tasks) rs)
+      ∙ ap (λ (l : List Event). map named l) e
 
 module _ (book : Book) where
   -- what due says
@@ -114,7 +112,7 @@ module _ (book : Book) (g : Good book) where
       → reportedOf book (k + 1) (limitOf book k) .answer ≡ granted
   least-accepted k l m least =
       let z = progress.limit-accepted (planView book) lawful (bookView book) (facts .sound) k l m least in
-      answer-granted book (k + 1) (limitOf book k) (g .sound) (code-named book k (limitOf book k) ∙ z)
+      answer-granted book (g .sound) (k + 1) (limitOf book k) (code-named book k (limitOf book k) ∙ z)
 
   pub progress-of : (i : ℕ) → i < book .tasks → (Ended book i → ⊥) → Progress book
   progress-of i l n =
@@ -130,103 +128,22 @@ module _ (book : Book) (g : Good book) where
   pub finishes : Finishes book
   finishes =
       let f = progress.finishing (planView book) lawful (bookView book) (facts .sound) in
-      let rs = f .way .reports in
+      let rs = f .way .events in
       let e = accepted-named book g rs (f .way .each-accepted) in
       record {
-        reports = map named rs;
+        events = map named rs;
         each-accepted = e;
         all-ended = λ i l.
             ap (λ (b : theory-book.Book). b .mark i) (view-named book g rs ∙ f .way .leads) ∙ f .all-done i l;
       }
 
--- a report answered with code 0 has code 0
-pub code-of :
-    (book : Book) (task tick : ℕ) → isSound book ≡ true → reportedOf book task tick .answer .code ≡ 0
-    → codeOf book task tick ≡ 0
-code-of book task tick h z = sym (answer-code book task tick h) ∙ z
-
--- a report taken
-module _ (book : Book) (g : Good book) (task tick : ℕ) (z : codeOf book task tick ≡ 0) where
-  ok : theory-report.Accepts (planView book) (bookView book) (task - 1) tick
-  ok = code-zero book task tick z .1
-
-  view : bookView (nextBook book (task - 1) tick) ≡ theory-report.next (planView book) (bookView book) (task - 1) tick
-  view = view-next book (task - 1) tick (g .sized) (few book g) (omega (arith, few book g, ok .task))
-
-  exact-next :
-      (i : ℕ) → i < book .tasks → Waiting book i
-      → order.StartsExactly (planView (nextBook book (task - 1) tick)) tick (bookView (nextBook book (task - 1) tick)) i
-  exact-next i l w =
-      let f = order.start-exact (planView book) (bookView book) (task - 1) tick ok (facts book g .sound) i l w in
-      let f′ : order.StartsExactly (planView book) tick (bookView (nextBook book (task - 1) tick)) i = rw view f in
-      subst (λ (p : Plan). order.StartsExactly (planFor p) tick (bookView (nextBook book (task - 1) tick)) i)
-      (sym (plan-next book (task - 1) tick)) f′
-
-  next-starts : Good (nextBook book (task - 1) tick) → (i : ℕ) → i < book .tasks → Waiting book i → StartsExactly tick (nextBook book (task - 1) tick) i
-  next-starts h i l w =
-      let f = exact-next i l w in
-      let a = all-ended (nextBook book (task - 1) tick) h i in
-      record {
-        when-free = (λ n. a .0 (f .when-free .0 n), λ n. f .when-free .1 (a .1 n));
-        at-tick = f .at-tick;
-        runs = f .then-runs;
-      }
-
-  pub report-starts : (i : ℕ) → i < book .tasks → Waiting book i → StartsExactly tick (reportBook book task tick) i
-  report-starts i l w =
-      let e = book-granted book task tick (g .sound) z in
-      rw e (next-starts (rw e at (good-report book task tick g)) i l w)
-
-  seen-after : bookView (reportBook book task tick) ≡ theory-report.next (planView book) (bookView book) (task - 1) tick
-  seen-after = ap (λ (b : Book). bookView b) (book-granted book task tick (g .sound) z) ∙ view
-
-  pub report-keeps :
-      (i : ℕ) → i < book .tasks → Started book i
-      → Started (reportBook book task tick) i × (startOf (reportBook book task tick) i ≡ startOf book i)
-  report-keeps i l n =
-      let s = order.start-kept (planView book) (bookView book) (task - 1) tick ok (facts book g .sound) i l n in (
-        λ m. s .0 (sym (ap (λ (b : theory-book.Book). b .mark i) seen-after) ∙ m),
-        ap (λ (b : theory-book.Book). b .start i) seen-after ∙ s .1,
-      )
-
-  pub report-ends :
-      Ended (reportBook book task tick) (task - 1)
-      × (endOf (reportBook book task tick) (task - 1) ≡ tick)
-      × (reportBook book task tick .clock ≡ tick)
-  report-ends =
-      let r = next-ends (planView book) (bookView book) (task - 1) tick (ok .task) in (
-        ap (λ (b : theory-book.Book). b .mark (task - 1)) seen-after ∙ r .0,
-        ap (λ (b : theory-book.Book). b .end (task - 1)) seen-after ∙ r .1,
-        ap (λ (b : theory-book.Book). b .clock) seen-after ∙ next-clock (planView book) (bookView book) (task - 1) tick,
-      )
-
-  pub others-stay :
-      (i : ℕ) → i < book .tasks → i ≢ task - 1
-      → (Ended (reportBook book task tick) i ↔ Ended book i) × (endOf (reportBook book task tick) i ≡ endOf book i)
-  others-stay i l n = go _ seen-after (next-at (planView book) (bookView book) (task - 1) tick i l)
-    where
-      go :
-          (b : theory-book.Book) → bookView (reportBook book task tick) ≡ b
-          → AtTask (planView book) (bookView book) (task - 1) tick b i
-          → (Ended (reportBook book task tick) i ↔ Ended book i) × (endOf (reportBook book task tick) i ≡ endOf book i)
-      go b e (AtTask.ends q m s v) = absurd (n q)
-      go b e (AtTask.starts q w all m s v) =
-          let c = ap (λ (x : theory-book.Book). x .mark i) e in
-          ((λ h. absurd (omega arith), λ h. absurd (omega arith)), ap (λ (x : theory-book.Book). x .end i) e ∙ v)
-      go b e (AtTask.stands q w m s v) =
-          let c = ap (λ (x : theory-book.Book). x .mark i) e in
-          ((λ h. sym m ∙ sym c ∙ h, λ h. c ∙ m ∙ h), ap (λ (x : theory-book.Book). x .end i) e ∙ v)
-      go b e (AtTask.lingers q w all m s v) =
-          let c = ap (λ (x : theory-book.Book). x .mark i) e in
-          ((λ h. sym m ∙ sym c ∙ h, λ h. c ∙ m ∙ h), ap (λ (x : theory-book.Book). x .end i) e ∙ v)
-
--- a book on an accepted plan after any reports
+-- a book on an accepted plan after any reports and drops
 pub record OnPlan (plan : Plan) (book : Book) : Type 0 where
   pub good : Good book
   pub same : planIn book ≡ plan
 
 module _ (plan : Plan) (size : SizedPlan plan) (ok : isAccepted plan ≡ true) where
-  pub on-run : (reports : List Report) → OnPlan plan (runOf plan reports)
+  pub on-run : (reports : List Event) → OnPlan plan (runOf plan reports)
   on-run reports =
       let g = opened-good plan ok size in
       record { good = good-run _ reports g; same = plan-run _ reports g ∙ opened-plan plan ok }
@@ -268,17 +185,17 @@ module _ (plan : Plan) (size : SizedPlan plan) (ok : isAccepted plan ≡ true) w
         e ∙ ap (λ (p : Plan). minimumEarly (planFor p) (bookView book)) (on .same)
 
     later-is :
-        (later : List Report)
-        → bookView (bookAfter book later) ≡ run (planFor plan) (bookView book) (map (seen (plan .tasks)) later)
+        (later : List Event)
+        → bookView (bookAfter book later) ≡ run (planFor plan) (bookView book) (map (theoryEvent (plan .tasks)) later)
     later-is later =
         view-run book later (on .good)
-        ∙ ap (λ (p : Plan). run (planFor p) (bookView book) (map (seen (p .tasks)) later)) (on .same)
+        ∙ ap (λ (p : Plan). run (planFor p) (bookView book) (map (theoryEvent (p .tasks)) later)) (on .same)
 
     pub early-kept :
-        (later : List Report) (i : ℕ) → i < plan .tasks → (Ended book i → ⊥)
+        (later : List Event) (i : ℕ) → i < plan .tasks → (Ended book i → ⊥)
         → EarlyBy plan (figureOf book .early) (bookAfter book later) i
     early-kept later i l n =
-        let f = kept.figure-kept (planFor plan) law (bookView book) sound-on (map (seen (plan .tasks)) later) i l n in
+        let f = kept.figure-kept (planFor plan) law (bookView book) sound-on (map (theoryEvent (plan .tasks)) later) i l n in
         let m = ap (λ (b : theory-book.Book). b .mark i) (later-is later) in
         let s = ap (λ (b : theory-book.Book). b .start i) (later-is later) in
         let e = ap (λ (b : theory-book.Book). b .end i) (later-is later) in
@@ -289,7 +206,7 @@ module _ (plan : Plan) (size : SizedPlan plan) (ok : isAccepted plan ≡ true) w
         }
 
 pub kept-run :
-    (plan : Plan) → SizedPlan plan → isAccepted plan ≡ true → (reports later : List Report) (i : ℕ) → i < plan .tasks
+    (plan : Plan) → SizedPlan plan → isAccepted plan ≡ true → (reports later : List Event) (i : ℕ) → i < plan .tasks
     → (Ended (runOf plan reports) i → ⊥) → EarlyBy plan (figureOf (runOf plan reports) .early) (runOf plan (reports ++ later)) i
 kept-run plan size ok reports later i l n =
     rw (after-append (openedBook plan) reports later)
@@ -297,17 +214,11 @@ kept-run plan size ok reports later i l n =
 
 -- opening
 module _ (plan : Plan) (size : SizedPlan plan) (ok : isAccepted plan ≡ true) where
-  opened-clock : openedOn plan .clock ≡ 0
-  unfolding openedOn letGoIn blankBook
-  opened-clock = refl
-
   nobody-ended : (j : ℕ) → j < openedBook plan .tasks → Ended (openedBook plan) j → ⊥
   nobody-ended j l h =
-      let t = facts (openedBook plan) (opened-good plan ok size) .sound .task j l in
-      let w = ended-within t h in
-      let c = end-by-clock t in
-      let z = ap (λ (b : Book). b .clock) (opened-is plan ok) ∙ opened-clock in
-      omega arith
+      let view = ap (λ (b : Book). bookView b) (opened-is plan ok) ∙ view-opened plan size (plan-facts plan ok .tasks-to) in
+      let t : openedBook plan .tasks ≡ plan .tasks = ap (λ (p : Plan). p .tasks) (opened-plan plan ok) in
+      opened-none (planFor plan) j (omega arith) (sym (ap (λ (b : theory-book.Book). b .mark j) view) ∙ h)
 
   pub opened-starts :
       (i : ℕ) → i < openedBook plan .tasks
@@ -328,7 +239,7 @@ module _ (plan : Plan) (size : SizedPlan plan) (ok : isAccepted plan ≡ true) w
   opened-seen : bookView (openedBook plan) ≡ theory-report.opened (planFor plan)
   opened-seen = ap (λ (b : Book). bookView b) (opened-is plan ok) ∙ view-opened plan size (plan-facts plan ok .tasks-to)
 
-  module _ (rs : List Report) where
+  module _ (rs : List Event) where
     seen-run : run (planView (openedBook plan)) (bookView (openedBook plan)) rs ≡ run (planFor plan) (theory-report.opened (planFor plan)) rs
     seen-run =
         ap (λ (p : Plan). run (planFor p) (bookView (openedBook plan)) rs) (opened-plan plan ok)
@@ -351,21 +262,22 @@ past book g =
       marks = λ i l. o .marks i l ∙ sym (p .mark i l);
       starts = λ i l. o .starts i l ∙ sym (p .start i l);
       ends = λ i l. o .ends i l ∙ sym (p .end i l);
+      drops = λ i l. o .drops i l ∙ sym (p .dropped i l);
     }
 
--- what accepted reports make of an accepted plan's opened book
+-- what accepted reports and drops make of an accepted plan's opened book
 pub record Reached (book : Book) : Type 0 where
   pub plan : Plan
   pub sized : SizedPlan plan
   pub accepted : isAccepted plan ≡ true
-  pub reports : List Report
-  pub each-accepted : acceptedOf (openedBook plan) reports ≡ reports
-  pub leads : runOf plan reports ≡ book
+  pub events : List Event
+  pub each-accepted : acceptedOf (openedBook plan) events ≡ events
+  pub leads : runOf plan events ≡ book
 
 -- the sound books are those that are reached
 module _ (book : Book) where
   pub reached-sound : Reached book → isSound book ≡ true
-  reached-sound r = rw (← r .leads) (good-run _ (r .reports) (opened-good (r .plan) (r .accepted) (r .sized)) .sound)
+  reached-sound r = rw (← r .leads) (good-run _ (r .events) (opened-good (r .plan) (r .accepted) (r .sized)) .sound)
 
   pub sound-reached : Good book → Reached book
   sound-reached g =
@@ -373,14 +285,14 @@ module _ (book : Book) where
       let ok = facts book g .accepted in
       let size = g .sized .plan in
       let o = opened-good plan ok size in
-      let way = reachable (planView book) (bookView book) .0 (facts book g .sound, past book g) in
-      let rs = way .reports in
+      let way = reachable (planView book) (lawful book g) (bookView book) .0 (facts book g .sound, past book g) in
+      let rs = way .events in
       let p = opened-plan plan ok in
       record {
         plan = plan;
         sized = size;
         accepted = ok;
-        reports = map named rs;
+        events = map named rs;
         each-accepted = accepted-named (openedBook plan) o rs (seen-accepted plan size ok rs (way .each-accepted));
         leads =
             book-path (runOf plan (map named rs)) book (good-run _ (map named rs) o .sized) (g .sized)

@@ -10,7 +10,7 @@ use Rattle.laws.specs.Digits.{valueAfter}
 use Rattle.laws.specs.Lists.{allOf, anyOf, rising, same}
 use Rattle.laws.specs.Scan.{scan}
 use Rattle.laws.specs.Each.{each, rows}
-use Rattle.laws.specs.Every.{every}
+use Rattle.laws.specs.Every.{every, any}
 use Rattle.laws.specs.Latest.{latest}
 use Rattle.laws.specs.Least.{least}
 use Rattle.laws.specs.Split.{indexOf, splitOn, consFirst}
@@ -25,11 +25,11 @@ use Rattle.plan.specs.declared.Plan.{Plan}
 use Rattle.plan.specs.declared.Reading.{Reading}
 use Rattle.theory.specs.Plan as theory-plan
 use Rattle.theory.specs.Book.{allEnded, taskTest, soundTest, running, waiting}
-use Rattle.theory.specs.Report.{Report, nonePast, reportCode, goes, opened}
+use Rattle.theory.specs.Report.{Event, nonePast, reportCode, goes, opened}
 use Rattle.theory.specs.Figure.{minimumEarly}
 use Rattle.book.specs.View.{planIn, planView, bookView}
 use Rattle.book.specs.Sound.{isSound}
-use Rattle.book.specs.Open.{blankBook, letGoIn, openedOn, openingOf}
+use Rattle.book.specs.Open.{blankBook, letGoIn, skipIn, skipTimesIn, openedOn, openingOf}
 use Rattle.book.specs.Report.{codeOf, reportAnswer, endedIn, nextBook, reportedOf}
 use Rattle.book.specs.Early.{figureOf}
 use Rattle.book.specs.declared.Book.{Book}
@@ -37,7 +37,7 @@ use Rattle.promises.specs.Runs.{bookAfter, runOf}
 use Rattle.promises.specs.PlanA.{textA, planA, end, bookA}
 
 -- plan A at clock 4
-abbrev pub atFour : List Report
+abbrev pub atFour : List Event
 atFour = end 2 3 ∷ end 1 4 ∷ []
 
 -- an M that is always 0
@@ -45,8 +45,9 @@ abbrev pub alwaysZero : Book → ℕ
 alwaysZero book = 0
 
 -- M from the last report alone: the reported task's planned finish − tick
-abbrev pub fromReport : Book → Report → ℕ
-fromReport book r = at (book .finish) (r .task - 1) - r .tick
+abbrev pub fromReport : Book → Event → ℕ
+fromReport book (Event.ends task tick) = at (book .finish) (task - 1) - tick
+fromReport book (Event.drops task) = 0
 
 -- the greatest instead of the least
 abbrev pub greatest : Book → ℕ
@@ -63,10 +64,10 @@ abbrev pub overBoards : Book → ℕ
 overBoards book = Option·getD (least (book .boards) (λ j. true) (λ j. boardShows book (suc j))) 0
 
 -- plan A at clock 6, where both boards run, and at clock 8, where board 2 is done
-abbrev pub atSix : List Report
+abbrev pub atSix : List Event
 atSix = end 2 3 ∷ end 1 4 ∷ end 3 6 ∷ []
 
-abbrev pub atEight : List Report
+abbrev pub atEight : List Event
 atEight = end 2 3 ∷ end 1 4 ∷ end 3 6 ∷ end 5 8 ∷ []
 
 -- at clock 4 M is 1, and 0 and the last report's show 0 and 2; at 6 it is 3 and the greatest 4; at 8 it is 3 and over boards 0
@@ -78,7 +79,7 @@ pub figure-impostors :
     × (greatest (bookA atSix) ≡ 4)
     × (figureOf (bookA atEight) .early ≡ 3)
     × (overBoards (bookA atEight) ≡ 0)
-unfolding textAnswer sizesOk isNumber valueAfter allOf same splitOn consFirst indexOf skip linesAnswer lineAnswer lineCode isTaskLine isList isHold listOf holdOf lineTask holdsOk afterOk rising scan firstFault rowFault pairCode clashByDrive isListed anyOf readingOf planOf each rows planA bookA bookAfter openingOf openedOn letGoIn blankBook isAccepted rangesOk keptOk every blankFrom goes allEnded reportedOf reportAnswer codeOf reportCode nonePast nextBook endedIn isSound soundTest taskTest latest figureOf minimumEarly least
+unfolding textAnswer sizesOk isNumber valueAfter allOf same splitOn consFirst indexOf skip linesAnswer lineAnswer lineCode isTaskLine isList isHold listOf holdOf lineTask holdsOk afterOk rising scan firstFault rowFault pairCode clashByDrive isListed anyOf readingOf planOf each rows planA bookA bookAfter openingOf openedOn letGoIn blankBook isAccepted rangesOk keptOk every blankFrom goes allEnded reportedOf reportAnswer codeOf reportCode nonePast nextBook endedIn skipTimesIn skipIn any isSound soundTest taskTest latest figureOf minimumEarly least
 figure-impostors = (refl, refl, refl, refl, refl, refl, refl)
 
 -- a reader that gives one fixed plan, and one that refuses all texts
@@ -94,7 +95,7 @@ pub reader-impostors :
     × (readingOf textOne .plan .tasks ≡ 1)
     × (fixedReader textOne .plan .tasks ≡ 5)
     × (readingOf textA .answer .code ≡ 0)
-unfolding textAnswer sizesOk isNumber valueAfter allOf same splitOn consFirst indexOf skip linesAnswer lineAnswer lineCode isTaskLine isList isHold listOf holdOf lineTask holdsOk afterOk rising scan firstFault rowFault pairCode clashByDrive isListed anyOf readingOf planOf each rows planA bookA bookAfter openingOf openedOn letGoIn blankBook isAccepted rangesOk keptOk every blankFrom goes allEnded reportedOf reportAnswer codeOf reportCode nonePast nextBook endedIn isSound soundTest taskTest latest figureOf minimumEarly least
+unfolding textAnswer sizesOk isNumber valueAfter allOf same splitOn consFirst indexOf skip linesAnswer lineAnswer lineCode isTaskLine isList isHold listOf holdOf lineTask holdsOk afterOk rising scan firstFault rowFault pairCode clashByDrive isListed anyOf readingOf planOf each rows planA bookA bookAfter openingOf openedOn letGoIn blankBook isAccepted rangesOk keptOk every blankFrom goes allEnded reportedOf reportAnswer codeOf reportCode nonePast nextBook endedIn skipTimesIn skipIn any isSound soundTest taskTest latest figureOf minimumEarly least
 reader-impostors = (refl, refl, refl, refl)
 
 -- a dispatcher that hands the book back unaltered: after end 2 at 3 task 3 runs from 3, and in the unaltered book it waits
@@ -102,7 +103,7 @@ pub unaltered-impostor :
     (at (reportedOf (bookA []) 2 3 .book .mark) 2 ≡ 1)
     × (at (reportedOf (bookA []) 2 3 .book .start) 2 ≡ 3)
     × (at (bookA [] .mark) 2 ≡ 0)
-unfolding textAnswer sizesOk isNumber valueAfter allOf same splitOn consFirst indexOf skip linesAnswer lineAnswer lineCode isTaskLine isList isHold listOf holdOf lineTask holdsOk afterOk rising scan firstFault rowFault pairCode clashByDrive isListed anyOf readingOf planOf each rows planA bookA bookAfter openingOf openedOn letGoIn blankBook isAccepted rangesOk keptOk every blankFrom goes allEnded reportedOf reportAnswer codeOf reportCode nonePast nextBook endedIn isSound soundTest taskTest latest figureOf minimumEarly least
+unfolding textAnswer sizesOk isNumber valueAfter allOf same splitOn consFirst indexOf skip linesAnswer lineAnswer lineCode isTaskLine isList isHold listOf holdOf lineTask holdsOk afterOk rising scan firstFault rowFault pairCode clashByDrive isListed anyOf readingOf planOf each rows planA bookA bookAfter openingOf openedOn letGoIn blankBook isAccepted rangesOk keptOk every blankFrom goes allEnded reportedOf reportAnswer codeOf reportCode nonePast nextBook endedIn skipTimesIn skipIn any isSound soundTest taskTest latest figureOf minimumEarly least
 unaltered-impostor = (refl, refl, refl)
 
 -- "Starting a task once its board and drives are free": four tasks, all taking their full length
@@ -136,6 +137,7 @@ startAt book i = record {
   start = set (book .start) i (book .clock);
   end = book .end;
   mark = set (book .mark) i 1;
+  dropped = book .dropped;
   holds = book .holds;
   after = book .after;
 }
@@ -146,9 +148,10 @@ startFree zero book = book
 startFree (suc n) book = let first = startFree n book in cond (isFree first n) (startAt first n) first
 
 -- the shortcut's book after ends of tasks
-unfoldable pub shortcut : Book → List Report → Book
+unfoldable pub shortcut : Book → List Event → Book
 shortcut book [] = startFree (book .tasks) book
-shortcut book (r ∷ rs) = shortcut (endedIn (startFree (book .tasks) book) (r .task - 1) (r .tick)) rs
+shortcut book (Event.ends task tick ∷ later) = shortcut (endedIn (startFree (book .tasks) book) (task - 1) tick) later
+shortcut book (Event.drops task ∷ later) = shortcut book later
 
 -- task 4 would start at 4 and hold drive 1 until 7, so task 3, planned for 5, starts at 7; we start task 3 at 5 and task 4 at 6
 pub board-free-shortcut :
@@ -158,7 +161,7 @@ pub board-free-shortcut :
     × (at (runOf planFour (end 1 4 ∷ end 2 5 ∷ end 3 6 ∷ end 4 9 ∷ []) .start) 2 ≡ 5)
     × (at (runOf planFour (end 1 4 ∷ end 2 5 ∷ end 3 6 ∷ end 4 9 ∷ []) .start) 3 ≡ 6)
     × (at (runOf planFour (end 1 4 ∷ end 2 5 ∷ end 3 6 ∷ end 4 9 ∷ []) .end) 3 ≡ 9)
-unfolding textAnswer sizesOk isNumber valueAfter allOf same splitOn consFirst indexOf skip linesAnswer lineAnswer lineCode isTaskLine isList isHold listOf holdOf lineTask holdsOk afterOk rising scan firstFault rowFault pairCode clashByDrive isListed anyOf readingOf planOf each rows planA bookA bookAfter openingOf openedOn letGoIn blankBook isAccepted rangesOk keptOk every blankFrom goes allEnded reportedOf reportAnswer codeOf reportCode nonePast nextBook endedIn isSound soundTest taskTest latest figureOf minimumEarly least planFour startFree shortcut
+unfolding textAnswer sizesOk isNumber valueAfter allOf same splitOn consFirst indexOf skip linesAnswer lineAnswer lineCode isTaskLine isList isHold listOf holdOf lineTask holdsOk afterOk rising scan firstFault rowFault pairCode clashByDrive isListed anyOf readingOf planOf each rows planA bookA bookAfter openingOf openedOn letGoIn blankBook isAccepted rangesOk keptOk every blankFrom goes allEnded reportedOf reportAnswer codeOf reportCode nonePast nextBook endedIn skipTimesIn skipIn any isSound soundTest taskTest latest figureOf minimumEarly least planFour startFree shortcut
 board-free-shortcut = (refl, refl, refl, refl, refl, refl)
 
 -- "Waiting only for tasks that finish strictly before"
@@ -178,5 +181,5 @@ pub strict-shortcut :
     × (at (planA .board) 1 ≡ 2)
     × (at (planA .board) 2 ≡ 2)
     × (at (bookA [] .mark) 2 ≡ 0)
-unfolding textAnswer sizesOk isNumber valueAfter allOf same splitOn consFirst indexOf skip linesAnswer lineAnswer lineCode isTaskLine isList isHold listOf holdOf lineTask holdsOk afterOk rising scan firstFault rowFault pairCode clashByDrive isListed anyOf readingOf planOf each rows planA bookA bookAfter openingOf openedOn letGoIn blankBook isAccepted rangesOk keptOk every blankFrom goes allEnded reportedOf reportAnswer codeOf reportCode nonePast nextBook endedIn isSound soundTest taskTest latest figureOf minimumEarly least opened
+unfolding textAnswer sizesOk isNumber valueAfter allOf same splitOn consFirst indexOf skip linesAnswer lineAnswer lineCode isTaskLine isList isHold listOf holdOf lineTask holdsOk afterOk rising scan firstFault rowFault pairCode clashByDrive isListed anyOf readingOf planOf each rows planA bookA bookAfter openingOf openedOn letGoIn blankBook isAccepted rangesOk keptOk every blankFrom goes allEnded reportedOf reportAnswer codeOf reportCode nonePast nextBook endedIn skipTimesIn skipIn any isSound soundTest taskTest latest figureOf minimumEarly least opened
 strict-shortcut = (refl, refl, refl, refl, refl, refl)

@@ -1,10 +1,10 @@
--- Document 01's plan A, by its text, and a book on it after some reports.
+-- Document 01's plan A, by its text, and a book on it after some reports and drops.
 use Prim.Native.Nat.{ℕ}
 use mathlib.Core.List.{List}
 use Rattle.text.specs.Bytes.{bytes}
 use Rattle.plan.specs.Read.{readingOf}
 use Rattle.plan.specs.declared.Plan.{Plan}
-use Rattle.theory.specs.Report.{Report}
+use Rattle.theory.specs.Report.{Event}
 use Rattle.book.specs.Open.{openingOf}
 use Rattle.book.specs.declared.Book.{Book}
 use Rattle.promises.specs.Runs.{bookAfter}
@@ -18,8 +18,12 @@ unfoldable pub planA : Plan
 planA = readingOf textA .plan
 
 -- `end`, task, tick
-abbrev pub end : ℕ → ℕ → Report
-end task tick = record { task = task; tick = tick }
+abbrev pub end : ℕ → ℕ → Event
+end task tick = Event.ends task tick
 
-unfoldable pub bookA : List Report → Book
-bookA reports = bookAfter (openingOf planA .book) reports
+-- `drop`, task
+abbrev pub drop : ℕ → Event
+drop task = Event.drops task
+
+unfoldable pub bookA : List Event → Book
+bookA events = bookAfter (openingOf planA .book) events

@@ -1,11 +1,11 @@
--- The words of the promises: reports on a book, and what a book says of a task.
--- Tasks are counted from 0 here, so a report names task i by i + 1.
+-- The words of the promises: reports and drops on a book, and what a book says of a task.
+-- Tasks are counted from 0 here, so a report or drop names task i by i + 1.
 use Prim.Native.Nat.{ℕ, _+_, _≤_, _<_}
 use mathlib.Core.Path.{_≡_}
 use mathlib.Core.Logic.{_≢_, _↔_}
 use mathlib.Core.Bool.{cond}
 use mathlib.Core.List.{List, [], _∷_, List·Memᴰ}
-use Rattle.theory.specs.Report.{Report}
+use Rattle.theory.specs.Report.{Event}
 use Rattle.theory.specs.Book as theory-book
 use Rattle.plan.specs.Answer.{granted, isGranted}
 use Rattle.plan.specs.Value.{at}
@@ -13,27 +13,27 @@ use Rattle.plan.specs.declared.Plan.{Plan}
 use Rattle.book.specs.View.{planView, bookView}
 use Rattle.book.specs.Open.{openingOf}
 use Rattle.book.specs.Report.{reportedOf}
+use Rattle.book.specs.Event.{answerTo, bookTold}
 use Rattle.book.specs.declared.Book.{Book}
 
 -- the book opened on a plan
 abbrev pub openedBook : Plan → Book
 openedBook plan = openingOf plan .book
 
--- the book that reports leave, refused ones among them
-unfoldable pub bookAfter : Book → List Report → Book
+-- the book that reports and drops leave, refused ones among them
+unfoldable pub bookAfter : Book → List Event → Book
 bookAfter book [] = book
-bookAfter book (r ∷ rs) = bookAfter (reportedOf book (r .task) (r .tick) .book) rs
+bookAfter book (event ∷ later) = bookAfter (bookTold book event) later
 
--- the accepted ones of a list of reports
-unfoldable pub acceptedOf : Book → List Report → List Report
+-- the accepted ones of a list of reports and drops
+unfoldable pub acceptedOf : Book → List Event → List Event
 acceptedOf book [] = []
-acceptedOf book (r ∷ rs) =
-    let later = acceptedOf (reportedOf book (r .task) (r .tick) .book) rs in
-    cond (isGranted (reportedOf book (r .task) (r .tick) .answer)) (r ∷ later) later
+acceptedOf book (event ∷ later) =
+    let rest = acceptedOf (bookTold book event) later in cond (isGranted (answerTo book event)) (event ∷ rest) rest
 
--- the same reports, in whatever order
-abbrev pub SameReports : List Report → List Report → Type 0
-SameReports these those = (report : Report) → List·Memᴰ report these ↔ List·Memᴰ report those
+-- the same reports and drops, in whatever order
+abbrev pub SameEvents : List Event → List Event → Type 0
+SameEvents these those = (event : Event) → List·Memᴰ event these ↔ List·Memᴰ event those
 
 -- what a book says of task i
 abbrev pub Waiting : Book → ℕ → Type 0
@@ -47,6 +47,9 @@ Ended book i = at (book .mark) i ≡ 2
 
 abbrev pub Started : Book → ℕ → Type 0
 Started book i = at (book .mark) i ≢ 0
+
+abbrev pub Dropped : Book → ℕ → Type 0
+Dropped book i = at (book .dropped) i ≡ 1
 
 abbrev pub startOf : Book → ℕ → ℕ
 startOf book i = at (book .start) i
@@ -80,15 +83,16 @@ pub record EarlyBy (plan : Plan) (early : ℕ) (book : Book) (i : ℕ) : Type 0 
   pub starts : Started book i → startOf book i + early ≤ at (plan .begin) i
   pub ends : Ended book i → endOf book i + early ≤ at (plan .finish) i
 
--- a plan's opened book after reports
-abbrev pub runOf : Plan → List Report → Book
-runOf plan reports = bookAfter (openedBook plan) reports
+-- a plan's opened book after reports and drops
+abbrev pub runOf : Plan → List Event → Book
+runOf plan events = bookAfter (openedBook plan) events
 
--- a task that waited starts when all it waits for have ended, and then at this tick
+-- a task that waited starts when all it waits for have ended, and then at this tick; a dropped one ends at that tick too
 pub record StartsExactly (tick : ℕ) (after : Book) (i : ℕ) : Type 0 where
   pub when-free : Started after i ↔ AllEnded after i
   pub at-tick : Started after i → startOf after i ≡ tick
-  pub runs : Started after i → Running after i
+  pub runs : Started after i → (Dropped after i → ⊥) → Running after i
+  pub skips : Started after i → Dropped after i → Ended after i × (endOf after i ≡ tick)
 
 -- a running task of least limit, accepted at its limit
 pub record Progress (book : Book) : Type 0 where
@@ -100,6 +104,6 @@ pub record Progress (book : Book) : Type 0 where
 
 -- accepted reports after which every task has ended
 pub record Finishes (book : Book) : Type 0 where
-  pub reports : List Report
-  pub each-accepted : acceptedOf book reports ≡ reports
-  pub all-ended : (i : ℕ) → i < book .tasks → Ended (bookAfter book reports) i
+  pub events : List Event
+  pub each-accepted : acceptedOf book events ≡ events
+  pub all-ended : (i : ℕ) → i < book .tasks → Ended (bookAfter book events) i

@@ -18,6 +18,7 @@ use Rattle.book.specs.Open.{openedOn, zeroBook}
 use Rattle.book.specs.declared.Book.{Book}
 use Rattle.book.specs.declared.Opening.{Opening}
 use Rattle.book.specs.declared.Reported.{Reported}
+use Rattle.book.specs.declared.Dropped.{Dropped}
 use Rattle.book.specs.declared.Figure.{Figure}
 
 -- A refused reading gives a plan of zeros
@@ -46,6 +47,13 @@ pub data ReportSays (book : Book) (task tick : ℕ) (r : Reported) : Type 0 wher
   refused :
       (code : ℕ) → isSound book ≡ true → 10 ≤ code → code ≤ 15
       → r ≡ record { answer = refuse code task tick; book = book } → ReportSays book task tick r
+
+pub data DropSays (book : Book) (task : ℕ) (r : Dropped) : Type 0 where
+  taken : isSound book ≡ true → r .answer ≡ granted → DropSays book task r
+  unsound : isSound book ≡ false → r ≡ record { answer = refuse 9 0 0; book = book } → DropSays book task r
+  refused :
+      (code : ℕ) → isSound book ≡ true → (code ≡ 10) ⊎ (code ≡ 19)
+      → r ≡ record { answer = refuse code task 0; book = book } → DropSays book task r
 
 pub data FigureSays (book : Book) (r : Figure) : Type 0 where
   shown : isSound book ≡ true → r .answer ≡ granted → FigureSays book r

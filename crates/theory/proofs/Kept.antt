@@ -9,7 +9,7 @@ use Rattle.laws.specs.Cases.{by-eq}
 use Rattle.laws.specs.Latest.{latest-under}
 use Rattle.theory.specs.Plan.{Plan, Lawful}
 use Rattle.theory.specs.Book.{Book, Sound}
-use Rattle.theory.specs.Report.{Report, run}
+use Rattle.theory.specs.Report.{Event, run}
 use Rattle.theory.specs.Figure.{minimumEarly}
 use Rattle.theory.proofs.Task.{mark-range, waiting-why, ended-within, end-by-clock}
 use Rattle.theory.proofs.Step.{sound-run}
@@ -82,8 +82,8 @@ module _ (plan : Plan) (law : Lawful plan) (book later : Book) (sound : Sound pl
 
 -- whoever has not ended yet, started or not, is early by M for good
 pub figure-kept :
-    (plan : Plan) → Lawful plan → (book : Book) → Sound plan book → (reports : List Report) (i : ℕ) → i < plan .tasks
-    → book .mark i ≢ 2 → EarlyBy plan (minimumEarly plan book) (run plan book reports) i
-figure-kept plan law book sound reports =
-    early-kept plan law book (run plan book reports) sound (sound-run plan book reports sound) (later-run plan book reports)
+    (plan : Plan) → Lawful plan → (book : Book) → Sound plan book → (events : List Event) (i : ℕ) → i < plan .tasks
+    → book .mark i ≢ 2 → EarlyBy plan (minimumEarly plan book) (run plan book events) i
+figure-kept plan law book sound events =
+    early-kept plan law book (run plan book events) sound (sound-run plan book events sound) (later-run plan book events)
     (minimumEarly plan book) (running-low plan book law sound)

@@ -1,26 +1,18 @@
 -- Letting go whoever may go makes a book sound that was sound but for those who have just become free.
 use mathlib.Core.Path.{_≡_, refl, sym, _∙_}
 use mathlib.Core.Bool.{true, false}
-use Prim.Native.Nat.{ℕ, _<_}
+use Prim.Native.Nat.{ℕ, _≤_, _<_}
 use native.Mathlib.Omega.{arith}
-use lib.Dec.{ltb}
-use borrow.Author.Tests.{eqb-true, eq-eqb, lt-ltb}
-use Rattle.laws.specs.Cases.{by-bool, true-false, and-l, and-r, and-of}
+use borrow.Author.Tests.{eq-eqb}
+use Rattle.laws.specs.Cases.{by-bool, by-eq, true-false, and-of}
 use Rattle.laws.specs.Latest.{latest, latest-same}
 use Rattle.theory.specs.Plan.{Plan}
-use Rattle.theory.specs.Book.{Book, ended, waiting, allEnded, due, lastEnd, Blocker, TaskOk, Sound}
-use Rattle.theory.specs.Report.{goes, letGo}
+use Rattle.theory.specs.Book.{Book, ended, allEnded, Blocker, TaskOk, Sound}
+use Rattle.theory.specs.Report.{goes, skips, letGo}
 use Rattle.theory.proofs.Reflect.{blocker}
 use Rattle.theory.proofs.Task.{all-ended-same, ended-same}
-
--- once free to go, it is free since now: the latest of the ends it waits for is the clock
-abbrev pub FreeNow : Plan → Book → ℕ → Type 0
-FreeNow plan book i = allEnded plan (book .mark) i ≡ true → due plan (book .end) i ≡ book .clock
-
--- a book in which whoever is free to go has not gone yet
-pub record Halfway (plan : Plan) (book : Book) : Type 0 where
-  pub task : (i : ℕ) → i < plan .tasks → TaskOk (FreeNow plan book) plan book i
-  pub clock-is : book .clock ≡ lastEnd plan book
+use Rattle.theory.proofs.Onward.{FreeNow}
+use Rattle.theory.proofs.Skip.{Halfway, goes-at, goes-of}
 
 -- what letting go does at a task
 pub data LetGoAt (plan : Plan) (book after : Book) (i : ℕ) : Type 0 where
@@ -32,23 +24,13 @@ pub data LetGoAt (plan : Plan) (book after : Book) (i : ℕ) : Type 0 where
       → after .start i ≡ book .start i → LetGoAt plan book after i
 
 module _ (plan : Plan) (book : Book) where
-  goes-at : (i : ℕ) → goes plan book i ≡ true → (book .mark i ≡ 0) × (allEnded plan (book .mark) i ≡ true)
-  unfolding goes
-  goes-at i h =
-      let q = and-r (ltb i (plan .tasks)) _ h in
-      (eqb-true (book .mark i) 0 (and-l _ _ q), and-r (waiting (book .mark) i) _ q)
-
-  goes-of : (i : ℕ) → i < plan .tasks → book .mark i ≡ 0 → allEnded plan (book .mark) i ≡ true → goes plan book i ≡ true
-  unfolding goes
-  goes-of i l m all = and-of (lt-ltb i (plan .tasks) l) (and-of (eq-eqb (book .mark i) 0 m) all)
-
   pub let-go-at : (i : ℕ) → i < plan .tasks → LetGoAt plan book (letGo plan book) i
   let-go-at i l =
       by-bool (goes plan book i)
-      (λ g. let r = goes-at i g in LetGoAt.starts (r .0) (r .1) (rw g) (rw g))
+      (λ g. let r = goes-at plan book i g in LetGoAt.starts (r .1) (r .2) (rw g) (rw g))
       (λ g.
       let held : book .mark i ≡ 0 → allEnded plan (book .mark) i ≡ false =
-      λ m. by-bool (allEnded plan (book .mark) i) (λ all. true-false (goes-of i l m all) g) (λ h. h) in
+      λ m. by-bool (allEnded plan (book .mark) i) (λ all. true-false (goes-of plan book i l m all) g) (λ h. h) in
       LetGoAt.stays held (rw g) (rw g))
 
   -- letting go ends nobody
@@ -69,25 +51,35 @@ module _ (plan : Plan) (book : Book) where
   pub let-go-all : (i : ℕ) → allEnded plan (book .mark) i ≡ allEnded plan ((letGo plan book) .mark) i
   let-go-all i = all-ended-same plan (book .mark) ((letGo plan book) .mark) i let-go-ended let-go-back
 
-  -- letting go makes a book halfway sound
-  pub sound-let-go : Halfway plan book → Sound plan (letGo plan book)
-  sound-let-go half = record { task = λ i l. task i (let-go-at i l) (half .task i l); clock-is = clock }
+  -- letting go makes a book sound that is halfway, if no dropped task may go
+  pub sound-let-go : Halfway plan book → ((i : ℕ) → skips plan book i ≡ false) → Sound plan (letGo plan book)
+  sound-let-go half none = record { task = λ i l. task i l (let-go-at i l) (half .task i l); clock-is = clock }
     where
       still : (i : ℕ) → allEnded plan (book .mark) i ≡ false → Blocker plan ((letGo plan book) .mark) i
       still i h = blocker plan ((letGo plan book) .mark) i (sym (let-go-all i) ∙ h)
 
+      -- whoever goes was not dropped
+      kept : (i : ℕ) → i < plan .tasks → book .mark i ≡ 0 → allEnded plan (book .mark) i ≡ true → book .dropped i ≤ 1 → book .dropped i ≡ 0
+      kept i l z all d =
+          by-eq (book .dropped i) 1
+          (λ e. true-false (and-of (goes-of plan book i l z all) (eq-eqb (book .dropped i) 1 e)) (none i))
+          (λ n. omega arith)
+
       task :
-          (i : ℕ) → LetGoAt plan book (letGo plan book) i → TaskOk (FreeNow plan book) plan book i
+          (i : ℕ) → i < plan .tasks → LetGoAt plan book (letGo plan book) i → TaskOk (FreeNow plan book) plan book i
           → TaskOk (Blocker plan ((letGo plan book) .mark)) plan (letGo plan book) i
-      task i (LetGoAt.starts z all m s) (TaskOk.is-waiting m′ w s′ e) =
-          TaskOk.is-running m (sym (let-go-all i) ∙ all) (s ∙ sym (w all)) e (omega arith)
-      task i (LetGoAt.starts z all m s) (TaskOk.is-running m′ all′ s′ e c) = absurd (omega arith)
-      task i (LetGoAt.starts z all m s) (TaskOk.has-ended m′ all′ s′ a f c) = absurd (omega arith)
-      task i (LetGoAt.stays z m s) (TaskOk.is-waiting m′ w s′ e) = TaskOk.is-waiting (m ∙ m′) (still i (z m′)) (s ∙ s′) e
-      task i (LetGoAt.stays z m s) (TaskOk.is-running m′ all s′ e c) =
-          TaskOk.is-running (m ∙ m′) (sym (let-go-all i) ∙ all) (s ∙ s′) e (omega arith)
-      task i (LetGoAt.stays z m s) (TaskOk.has-ended m′ all s′ a f c) =
-          TaskOk.has-ended (m ∙ m′) (sym (let-go-all i) ∙ all) (s ∙ s′) (omega arith) (omega arith) c
+      task i l (LetGoAt.starts z all m s) (TaskOk.is-waiting m′ d w s′ e) =
+          TaskOk.is-running m (kept i l z all d) (sym (let-go-all i) ∙ all) (s ∙ sym (w .since all)) e (omega arith)
+      task i l (LetGoAt.starts z all m s) (TaskOk.is-running m′ d all′ s′ e c) = absurd (omega arith)
+      task i l (LetGoAt.starts z all m s) (TaskOk.has-ended m′ d all′ s′ a f c) = absurd (omega arith)
+      task i l (LetGoAt.starts z all m s) (TaskOk.was-skipped m′ d w all′ s′ e c) = absurd (omega arith)
+      task i l (LetGoAt.stays z m s) (TaskOk.is-waiting m′ d w s′ e) = TaskOk.is-waiting (m ∙ m′) d (still i (z m′)) (s ∙ s′) e
+      task i l (LetGoAt.stays z m s) (TaskOk.is-running m′ d all s′ e c) =
+          TaskOk.is-running (m ∙ m′) d (sym (let-go-all i) ∙ all) (s ∙ s′) e (omega arith)
+      task i l (LetGoAt.stays z m s) (TaskOk.has-ended m′ d all s′ a f c) =
+          TaskOk.has-ended (m ∙ m′) d (sym (let-go-all i) ∙ all) (s ∙ s′) (omega arith) (omega arith) c
+      task i l (LetGoAt.stays z m s) (TaskOk.was-skipped m′ d w all s′ e c) =
+          TaskOk.was-skipped (m ∙ m′) d w (sym (let-go-all i) ∙ all) (s ∙ s′) (e ∙ sym s) c
 
       clock : book .clock ≡ latest (plan .tasks) (ended ((letGo plan book) .mark)) (book .end)
       clock =

@@ -1,5 +1,7 @@
 pub mod Reflect
 pub mod Task
+pub mod Onward
+pub mod Skip
 pub mod LetGo
 pub mod Step
 pub mod Run
@@ -11,4 +13,5 @@ pub mod Past
 pub mod Same
 pub mod Progress
 pub mod EarlyStart
+pub mod Feed
 pub mod Reach

@@ -1,5 +1,5 @@
 -- Tasks start in order, when and only when they are due, and never late.
-use mathlib.Core.Path.{_≡_, sym, _∙_}
+use mathlib.Core.Path.{_≡_, sym, ap, _∙_}
 use mathlib.Core.Logic.{_⊎_, inl, inr, _≢_, _↔_}
 use mathlib.Core.Bool.{true}
 use Prim.Native.Nat.{ℕ, zero, suc, _≤_, _<_}
@@ -7,11 +7,11 @@ use native.Mathlib.Omega.{arith}
 use Rattle.laws.specs.Cases.{true-false}
 use Rattle.laws.specs.Latest.{latest-over, latest-under}
 use Rattle.theory.specs.Plan.{Plan, Lawful}
-use Rattle.theory.specs.Book.{Book, allEnded, due, Sound}
+use Rattle.theory.specs.Book.{Book, allEnded, due, Blocker, TaskOk, Sound}
 use Rattle.theory.specs.Report.{Accepts, next}
 use Rattle.theory.proofs.Reflect.{all-ended-at}
-use Rattle.theory.proofs.Task.{started-all, started-at, ended-within}
-use Rattle.theory.proofs.Step.{sound-next, AtTask, next-at}
+use Rattle.theory.proofs.Task.{started-all, started-at, ended-within, runs-kept}
+use Rattle.theory.proofs.Step.{sound-next, AtTask, next-at, next-dropped}
 use Rattle.theory.proofs.Later.{later-next}
 
 module _ (plan : Plan) (book : Book) (sound : Sound plan book) where
@@ -63,10 +63,11 @@ module _ (plan : Plan) (book : Book) (sound : Sound plan book) where
         let q = never-late i l (omega arith) in
         omega arith
 
--- what an accepted report does to the start of a waiting task
+-- what an accepted report does to the start of a waiting task; a dropped one starts and ends at once
 pub record StartsExactly (plan : Plan) (tick : ℕ) (after : Book) (i : ℕ) : Type 0 where
   pub when-free : (after .mark i ≢ 0) ↔ (allEnded plan (after .mark) i ≡ true)
-  pub then-runs : after .mark i ≢ 0 → after .mark i ≡ 1
+  pub then-runs : after .mark i ≢ 0 → after .dropped i ≢ 1 → after .mark i ≡ 1
+  pub then-skips : after .mark i ≢ 0 → after .dropped i ≡ 1 → (after .mark i ≡ 2) × (after .end i ≡ tick)
   pub at-tick : after .mark i ≢ 0 → after .start i ≡ tick
   pub is-due : after .mark i ≢ 0 → tick ≡ due plan (after .end) i
 
@@ -75,22 +76,38 @@ module _ (plan : Plan) (book : Book) (k tick : ℕ) (ok : Accepts plan book k ti
   pub start-exact : (i : ℕ) → i < plan .tasks → book .mark i ≡ 0 → StartsExactly plan tick (next plan book k tick) i
   start-exact i l z = go (next-at plan book k tick i l)
     where
-      go : AtTask plan book k tick (next plan book k tick) i → StartsExactly plan tick (next plan book k tick) i
+      after : Book
+      after = next plan book k tick
+
+      task : TaskOk (Blocker plan (after .mark)) plan after i
+      task = (sound-next plan book k tick ok sound) .task i l
+
+      dropped : after .dropped i ≡ book .dropped i
+      dropped = ap (λ (f : ℕ → ℕ). f i) (next-dropped plan book k tick)
+
+      go : AtTask plan book k tick after i → StartsExactly plan tick after i
       go (AtTask.ends e m s v) = let q : book .mark i ≡ 1 = rw e (ok .runs) in absurd (omega arith)
-      go (AtTask.starts n z′ all m s v) =
-          let d = started-due plan (next plan book k tick) (sound-next plan book k tick ok sound) i l (omega arith) in
-          record {
-            when-free = (λ h. all, λ h. omega arith);
-            then-runs = λ h. m;
-            at-tick = λ h. s;
-            is-due = λ h. sym s ∙ d;
-          }
+      go (AtTask.starts n z′ all m s v) = record {
+        when-free = (λ h. all, λ h. omega arith);
+        then-runs = λ h d. m;
+        then-skips = λ h d. let r = runs-kept task m in absurd (omega arith);
+        at-tick = λ h. s;
+        is-due = λ h. sym s ∙ started-at task (omega arith);
+      }
+      go (AtTask.skipped n z′ d all m s v) = record {
+        when-free = (λ h. all, λ h. omega arith);
+        then-runs = λ h o. absurd (o (dropped ∙ d));
+        then-skips = λ h o. (m, v);
+        at-tick = λ h. s;
+        is-due = λ h. sym s ∙ started-at task (omega arith);
+      }
       go (AtTask.stands n z′ m s v) = absurd (z′ z)
       go (AtTask.lingers n z′ all m s v) =
-          let never : (next plan book k tick) .mark i ≢ 0 → ⊥ = λ h. h (m ∙ z) in
+          let never : after .mark i ≢ 0 → ⊥ = λ h. h (m ∙ z) in
           record {
             when-free = (λ h. absurd (never h), λ h. true-false h all);
-            then-runs = λ h. absurd (never h);
+            then-runs = λ h d. absurd (never h);
+            then-skips = λ h d. absurd (never h);
             at-tick = λ h. absurd (never h);
             is-due = λ h. absurd (never h);
           }

@@ -11,7 +11,7 @@ use Rattle.laws.specs.Least.{has-least}
 use Rattle.laws.specs.Count.{count, count-lt}
 use Rattle.theory.specs.Plan.{Plan, Lawful}
 use Rattle.theory.specs.Book.{Book, running, ended, limit, Sound}
-use Rattle.theory.specs.Report.{reportCode, next}
+use Rattle.theory.specs.Report.{reportCode, next, Event}
 use Rattle.theory.proofs.Reflect.{code-accepts, accepts-code}
 use Rattle.theory.proofs.Task.{mark-range, waiting-why, runs-on}
 use Rattle.theory.proofs.Step.{sound-next}
@@ -118,7 +118,7 @@ module _ (plan : Plan) (law : Lawful plan) where
       let rest = finish-by n (next plan book (p .who) tick) (sound-next plan book (p .who) tick ok sound) (omega arith) in
       record {
         last = rest .last;
-        way = way-more plan book (rest .last) (p .who) tick (p .taken) (rest .way);
+        way = way-more plan book (rest .last) (Event.ends (p .who) tick) (p .taken) (rest .way);
         all-done = rest .all-done;
       })
 

@@ -1,16 +1,17 @@
 -- Each test says what its facts say: all ended, sound, accepted; and a report is taken or refused.
 use mathlib.Core.Path.{_≡_}
 use mathlib.Core.Logic.{_≢_, _↔_}
-use mathlib.Core.Bool.{true, false, not, _&&_}
+use mathlib.Core.Bool.{true, false, not, cond, _&&_}
 use Prim.Native.Nat.{ℕ, _≤_, _<_}
 use native.Mathlib.Omega.{arith}
 use lib.Dec.{leb, ltb, eqb, lit<}
 use borrow.Author.Tests.{eqb-true, eqb-false, leb-true, leb-false, ltb-true, ltb-false, eq-eqb, ne-eqb, le-leb, lt-leb, lt-ltb, le-ltb, not-true, not-false}
-use Rattle.laws.specs.Cases.{by-bool, by-eq, and-l, and-r, and-of, implies, implies-at, implies-of, implies-fails, guard-passed}
-use Rattle.laws.specs.Every.{every, every-at, every-of, every-fails}
+use Rattle.laws.specs.Cases.{by-bool, by-eq, and-l, and-r, and-of, implies, implies-at, implies-of, implies-fails, guard-passed, or-no}
+use Rattle.laws.specs.Every.{every, every-at, every-of, every-fails, any-at, any-of}
 use Rattle.theory.specs.Plan.{Plan}
-use Rattle.theory.specs.Book.{Book, ended, running, limit, allEnded, due, lastEnd, Blocker, TaskOk, Sound, taskTest, soundTest, waitingOk, runningOk, endedOk}
-use Rattle.theory.specs.Report.{nonePast, reportCode, Accepts, next, bookAfter}
+use Rattle.theory.specs.Book.{Book, ended, running, waiting, isDropped, waitsAtAll, limit, allEnded, due, lastEnd, Blocker, Waiter, TaskOk, Sound}
+use Rattle.theory.specs.Book.{taskTest, soundTest, waitingOk, runningOk, endedOk, skippedOk}
+use Rattle.theory.specs.Report.{nonePast, reportCode, Accepts, dropCode, AcceptsDrop, Event, eventCode, stepTo, bookAfter}
 
 module _ (plan : Plan) (mark : ℕ → ℕ) (i : ℕ) where
   pub all-ended-at : allEnded plan mark i ≡ true → (j : ℕ) → j < plan .tasks → plan .waits i j ≡ true → mark j ≡ 2
@@ -36,66 +37,130 @@ module _ (plan : Plan) (mark : ℕ → ℕ) (i : ℕ) where
   blocked b =
       by-bool (allEnded plan mark i) (λ all. absurd (b .still (all-ended-at all (b .who) (b .task) (b .held)))) (λ h. h)
 
+-- it waits for somebody
+module _ (plan : Plan) (i : ℕ) where
+  waiter : waitsAtAll plan i ≡ true → Waiter plan i
+  waiter h = let r = any-at (plan .tasks) (plan .waits i) h in record { who = r .0; task = r .1; held = r .2 }
+
+  waits-of : Waiter plan i → waitsAtAll plan i ≡ true
+  waits-of w = any-of (plan .tasks) (plan .waits i) (w .who) (w .task) (w .held)
+
 -- Sound, as facts and as a test
 module _ (plan : Plan) (book : Book) where
   task-test-of : (i : ℕ) → TaskOk (Blocker plan (book .mark)) plan book i → taskTest plan book i ≡ true
   unfolding taskTest
-  task-test-of i (TaskOk.is-waiting m w s e) =
-      rw (eq-eqb (book .mark i) 0 m, blocked plan (book .mark) i w, eq-eqb (book .start i) 0 s, eq-eqb (book .end i) 0 e)
-  task-test-of i (TaskOk.is-running m all s e c) =
+  task-test-of i (TaskOk.is-waiting m d w s e) =
       rw (
+        le-leb (book .dropped i) 1 d,
+        eq-eqb (book .mark i) 0 m,
+        blocked plan (book .mark) i w,
+        eq-eqb (book .start i) 0 s,
+        eq-eqb (book .end i) 0 e,
+      )
+  task-test-of i (TaskOk.is-running m d all s e c) =
+      rw (
+        le-leb (book .dropped i) 1 (omega arith),
         ne-eqb (book .mark i) 0 (omega arith),
         eq-eqb (book .mark i) 1 m,
+        eq-eqb (book .dropped i) 0 d,
         all,
         eq-eqb (book .start i) (due plan (book .end) i) s,
         eq-eqb (book .end i) 0 e,
         le-leb (book .clock) (limit plan book i) c,
       )
-  task-test-of i (TaskOk.has-ended m all s a f c) =
+  task-test-of i (TaskOk.has-ended m d all s a f c) =
       rw (
+        le-leb (book .dropped i) 1 (omega arith),
         ne-eqb (book .mark i) 0 (omega arith),
         ne-eqb (book .mark i) 1 (omega arith),
         eq-eqb (book .mark i) 2 m,
+        ne-eqb (book .dropped i) 1 (omega arith),
+        eq-eqb (book .dropped i) 0 d,
         all,
         eq-eqb (book .start i) (due plan (book .end) i) s,
         lt-ltb (book .start i) (book .end i) a,
         le-leb (book .end i) (limit plan book i) f,
         le-leb (book .end i) (book .clock) c,
       )
+  task-test-of i (TaskOk.was-skipped m d w all s e c) =
+      rw (
+        le-leb (book .dropped i) 1 (omega arith),
+        ne-eqb (book .mark i) 0 (omega arith),
+        ne-eqb (book .mark i) 1 (omega arith),
+        eq-eqb (book .mark i) 2 m,
+        eq-eqb (book .dropped i) 1 d,
+        waits-of plan i w,
+        all,
+        eq-eqb (book .start i) (due plan (book .end) i) s,
+        eq-eqb (book .end i) (book .start i) e,
+        le-leb (book .end i) (book .clock) c,
+      )
 
-  waiting-at : (i : ℕ) → book .mark i ≡ 0 → waitingOk plan book i ≡ true → TaskOk (Blocker plan (book .mark)) plan book i
-  waiting-at i m h =
+  waiting-at :
+      (i : ℕ) → book .mark i ≡ 0 → book .dropped i ≤ 1 → waitingOk plan book i ≡ true
+      → TaskOk (Blocker plan (book .mark)) plan book i
+  waiting-at i m d h =
       let q = and-r (not (allEnded plan (book .mark) i)) _ h in
-      TaskOk.is-waiting m (blocker plan (book .mark) i (not-true _ (and-l _ _ h)))
+      TaskOk.is-waiting m d (blocker plan (book .mark) i (not-true _ (and-l _ _ h)))
       (eqb-true _ _ (and-l _ _ q)) (eqb-true _ _ (and-r (eqb (book .start i) 0) _ q))
 
   running-at : (i : ℕ) → book .mark i ≡ 1 → runningOk plan book i ≡ true → TaskOk (Blocker plan (book .mark)) plan book i
   running-at i m h =
-      let q = and-r (allEnded plan (book .mark) i) _ h in
+      let p = and-r (eqb (book .dropped i) 0) _ h in
+      let q = and-r (allEnded plan (book .mark) i) _ p in
       let r = and-r (eqb (book .start i) (due plan (book .end) i)) _ q in
-      TaskOk.is-running m (and-l _ _ h) (eqb-true _ _ (and-l _ _ q)) (eqb-true _ _ (and-l _ _ r))
+      TaskOk.is-running m (eqb-true _ _ (and-l _ _ h)) (and-l _ _ p) (eqb-true _ _ (and-l _ _ q)) (eqb-true _ _ (and-l _ _ r))
       (leb-true _ _ (and-r (eqb (book .end i) 0) _ r))
 
   ended-at : (i : ℕ) → book .mark i ≡ 2 → endedOk plan book i ≡ true → TaskOk (Blocker plan (book .mark)) plan book i
   ended-at i m h =
-      let q = and-r (allEnded plan (book .mark) i) _ h in
+      let p = and-r (eqb (book .dropped i) 0) _ h in
+      let q = and-r (allEnded plan (book .mark) i) _ p in
       let r = and-r (eqb (book .start i) (due plan (book .end) i)) _ q in
       let u = and-r (ltb (book .start i) (book .end i)) _ r in
-      TaskOk.has-ended m (and-l _ _ h) (eqb-true _ _ (and-l _ _ q)) (ltb-true _ _ (and-l _ _ r)) (leb-true _ _ (and-l _ _ u))
-      (leb-true _ _ (and-r (leb (book .end i) (limit plan book i)) _ u))
+      TaskOk.has-ended m (eqb-true _ _ (and-l _ _ h)) (and-l _ _ p) (eqb-true _ _ (and-l _ _ q)) (ltb-true _ _ (and-l _ _ r))
+      (leb-true _ _ (and-l _ _ u)) (leb-true _ _ (and-r (leb (book .end i) (limit plan book i)) _ u))
 
-  task-test-at : (i : ℕ) → taskTest plan book i ≡ true → TaskOk (Blocker plan (book .mark)) plan book i
-  unfolding taskTest
-  task-test-at i h =
+  skipped-at :
+      (i : ℕ) → book .mark i ≡ 2 → book .dropped i ≡ 1 → skippedOk plan book i ≡ true
+      → TaskOk (Blocker plan (book .mark)) plan book i
+  skipped-at i m d h =
+      let p = and-r (waitsAtAll plan i) _ h in
+      let q = and-r (allEnded plan (book .mark) i) _ p in
+      let r = and-r (eqb (book .start i) (due plan (book .end) i)) _ q in
+      TaskOk.was-skipped m d (waiter plan i (and-l _ _ h)) (and-l _ _ p) (eqb-true _ _ (and-l _ _ q))
+      (eqb-true _ _ (and-l _ _ r)) (leb-true _ _ (and-r (eqb (book .end i) (book .start i)) _ r))
+
+  over-at :
+      (i : ℕ) → book .mark i ≡ 2 → cond (isDropped (book .dropped) i) (skippedOk plan book i) (endedOk plan book i) ≡ true
+      → TaskOk (Blocker plan (book .mark)) plan book i
+  over-at i m h =
+      by-eq (book .dropped i) 1
+      (λ d. skipped-at i m d (rw (eq-eqb (book .dropped i) 1 d) at h))
+      (λ n. ended-at i m (rw (ne-eqb (book .dropped i) 1 n) at h))
+
+  -- what the test says of the mark
+  marked-at :
+      (i : ℕ) → book .dropped i ≤ 1
+      → cond (waiting (book .mark) i) (waitingOk plan book i)
+      (cond (running (book .mark) i) (runningOk plan book i)
+      (ended (book .mark) i && cond (isDropped (book .dropped) i) (skippedOk plan book i) (endedOk plan book i)))
+      ≡ true
+      → TaskOk (Blocker plan (book .mark)) plan book i
+  marked-at i d h =
       by-eq (book .mark i) 0
-      (λ m. waiting-at i m (rw (eq-eqb (book .mark i) 0 m) at h))
+      (λ m. waiting-at i m d (rw (eq-eqb (book .mark i) 0 m) at h))
       (λ n0.
       by-eq (book .mark i) 1
       (λ m. running-at i m (rw (ne-eqb (book .mark i) 0 n0, eq-eqb (book .mark i) 1 m) at h))
       (λ n1.
-      let q : (ended (book .mark) i && endedOk plan book i) ≡ true =
+      let q : (ended (book .mark) i && cond (isDropped (book .dropped) i) (skippedOk plan book i) (endedOk plan book i)) ≡ true =
       rw (ne-eqb (book .mark i) 0 n0, ne-eqb (book .mark i) 1 n1) at h in
-      ended-at i (eqb-true (book .mark i) 2 (and-l _ _ q)) (and-r (ended (book .mark) i) _ q)))
+      over-at i (eqb-true (book .mark i) 2 (and-l _ _ q)) (and-r (ended (book .mark) i) _ q)))
+
+  task-test-at : (i : ℕ) → taskTest plan book i ≡ true → TaskOk (Blocker plan (book .mark)) plan book i
+  unfolding taskTest
+  task-test-at i h = marked-at i (leb-true _ _ (and-l _ _ h)) (and-r (leb (book .dropped i) 1) _ h)
 
   pub sound-test : Sound plan book ↔ (soundTest plan book ≡ true)
   unfolding soundTest
@@ -153,20 +218,46 @@ module _ (plan : Plan) (book : Book) (k tick : ℕ) where
         none-past-of (ok .others),
       )
 
--- A refused report gives the book it was given
-pub data Said (plan : Plan) (book : Book) (k tick : ℕ) (after : Book) : Type 0 where
-  taken : reportCode plan book k tick ≡ 0 → after ≡ next plan book k tick → Said plan book k tick after
-  refused : reportCode plan book k tick ≢ 0 → after ≡ book → Said plan book k tick after
+-- a drop is accepted exactly when neither 10 nor 19 applies
+module _ (plan : Plan) (book : Book) (k : ℕ) where
+  pub code-accepts-drop : dropCode plan book k ≡ 0 → AcceptsDrop plan book k
+  unfolding dropCode
+  code-accepts-drop h =
+      let c10 = guard-passed _ 10 _ (lit< tt) h in
+      let c19 = guard-passed _ 19 _ (lit< tt) (c10 .1) in
+      record {
+        task = leb-false (plan .tasks) k (c10 .0);
+        waits = eqb-true (book .mark k) 0 (not-false _ (or-no _ _ (c19 .0) .0));
+        new = eqb-false (book .dropped k) 1 (or-no (not (waiting (book .mark) k)) _ (c19 .0) .1);
+      }
 
-module _ (plan : Plan) (book : Book) (k tick : ℕ) where
-  pub after-taken : reportCode plan book k tick ≡ 0 → bookAfter plan book k tick ≡ next plan book k tick
+  pub accepts-drop-code : AcceptsDrop plan book k → dropCode plan book k ≡ 0
+  unfolding dropCode
+  accepts-drop-code ok =
+      rw (lt-leb (plan .tasks) k (ok .task), eq-eqb (book .mark k) 0 (ok .waits), ne-eqb (book .dropped k) 1 (ok .new))
+
+-- what is accepted of an event
+abbrev pub Taken : Plan → Book → Event → Type 0
+Taken plan book (Event.ends k tick) = Accepts plan book k tick
+Taken plan book (Event.drops k) = AcceptsDrop plan book k
+
+pub code-taken : (plan : Plan) (book : Book) (event : Event) → eventCode plan book event ≡ 0 → Taken plan book event
+code-taken plan book (Event.ends k tick) z = code-accepts plan book k tick z
+code-taken plan book (Event.drops k) z = code-accepts-drop plan book k z
+
+-- a refused event gives the book it was given
+pub data Said (plan : Plan) (book : Book) (event : Event) (after : Book) : Type 0 where
+  taken : eventCode plan book event ≡ 0 → after ≡ stepTo plan book event → Said plan book event after
+  refused : eventCode plan book event ≢ 0 → after ≡ book → Said plan book event after
+
+module _ (plan : Plan) (book : Book) (event : Event) where
+  pub after-taken : eventCode plan book event ≡ 0 → bookAfter plan book event ≡ stepTo plan book event
   unfolding bookAfter
-  after-taken z = rw (eq-eqb (reportCode plan book k tick) 0 z)
+  after-taken z = rw (eq-eqb (eventCode plan book event) 0 z)
 
-  pub after-refused : reportCode plan book k tick ≢ 0 → bookAfter plan book k tick ≡ book
+  pub after-refused : eventCode plan book event ≢ 0 → bookAfter plan book event ≡ book
   unfolding bookAfter
-  after-refused n = rw (ne-eqb (reportCode plan book k tick) 0 n)
+  after-refused n = rw (ne-eqb (eventCode plan book event) 0 n)
 
-  pub said : Said plan book k tick (bookAfter plan book k tick)
-  said =
-      by-eq (reportCode plan book k tick) 0 (λ z. Said.taken z (after-taken z)) (λ n. Said.refused n (after-refused n))
+  pub said : Said plan book event (bookAfter plan book event)
+  said = by-eq (eventCode plan book event) 0 (λ z. Said.taken z (after-taken z)) (λ n. Said.refused n (after-refused n))

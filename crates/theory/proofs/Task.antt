@@ -12,50 +12,86 @@ use Rattle.theory.proofs.Reflect.{all-ended-at, all-ended-of}
 
 module _ {Waits : ℕ → Type 0} {plan : Plan} {book : Book} {i : ℕ} where
   pub mark-range : TaskOk Waits plan book i → book .mark i ≤ 2
-  mark-range (TaskOk.is-waiting m w s e) = omega arith
-  mark-range (TaskOk.is-running m all s e c) = omega arith
-  mark-range (TaskOk.has-ended m all s a f c) = omega arith
+  mark-range (TaskOk.is-waiting m d w s e) = omega arith
+  mark-range (TaskOk.is-running m d all s e c) = omega arith
+  mark-range (TaskOk.has-ended m d all s a f c) = omega arith
+  mark-range (TaskOk.was-skipped m d w all s e c) = omega arith
+
+  pub drop-range : TaskOk Waits plan book i → book .dropped i ≤ 1
+  drop-range (TaskOk.is-waiting m d w s e) = d
+  drop-range (TaskOk.is-running m d all s e c) = omega arith
+  drop-range (TaskOk.has-ended m d all s a f c) = omega arith
+  drop-range (TaskOk.was-skipped m d w all s e c) = omega arith
 
   pub waiting-why : TaskOk Waits plan book i → book .mark i ≡ 0 → Waits i
-  waiting-why (TaskOk.is-waiting m w s e) z = w
-  waiting-why (TaskOk.is-running m all s e c) z = absurd (omega arith)
-  waiting-why (TaskOk.has-ended m all s a f c) z = absurd (omega arith)
+  waiting-why (TaskOk.is-waiting m d w s e) z = w
+  waiting-why (TaskOk.is-running m d all s e c) z = absurd (omega arith)
+  waiting-why (TaskOk.has-ended m d all s a f c) z = absurd (omega arith)
+  waiting-why (TaskOk.was-skipped m d w all s e c) z = absurd (omega arith)
 
   pub started-all : TaskOk Waits plan book i → book .mark i ≢ 0 → allEnded plan (book .mark) i ≡ true
-  started-all (TaskOk.is-waiting m w s e) n = absurd (n m)
-  started-all (TaskOk.is-running m all s e c) n = all
-  started-all (TaskOk.has-ended m all s a f c) n = all
+  started-all (TaskOk.is-waiting m d w s e) n = absurd (n m)
+  started-all (TaskOk.is-running m d all s e c) n = all
+  started-all (TaskOk.has-ended m d all s a f c) n = all
+  started-all (TaskOk.was-skipped m d w all s e c) n = all
 
   pub started-at : TaskOk Waits plan book i → book .mark i ≢ 0 → book .start i ≡ due plan (book .end) i
-  started-at (TaskOk.is-waiting m w s e) n = absurd (n m)
-  started-at (TaskOk.is-running m all s e c) n = s
-  started-at (TaskOk.has-ended m all s a f c) n = s
+  started-at (TaskOk.is-waiting m d w s e) n = absurd (n m)
+  started-at (TaskOk.is-running m d all s e c) n = s
+  started-at (TaskOk.has-ended m d all s a f c) n = s
+  started-at (TaskOk.was-skipped m d w all s e c) n = s
 
   pub runs-on : TaskOk Waits plan book i → book .mark i ≡ 1 → book .clock ≤ limit plan book i
-  runs-on (TaskOk.is-waiting m w s e) z = absurd (omega arith)
-  runs-on (TaskOk.is-running m all s e c) z = c
-  runs-on (TaskOk.has-ended m all s a f c) z = absurd (omega arith)
+  runs-on (TaskOk.is-waiting m d w s e) z = absurd (omega arith)
+  runs-on (TaskOk.is-running m d all s e c) z = c
+  runs-on (TaskOk.has-ended m d all s a f c) z = absurd (omega arith)
+  runs-on (TaskOk.was-skipped m d w all s e c) z = absurd (omega arith)
+
+  -- whoever runs was not dropped
+  pub runs-kept : TaskOk Waits plan book i → book .mark i ≡ 1 → book .dropped i ≡ 0
+  runs-kept (TaskOk.is-waiting m d w s e) z = absurd (omega arith)
+  runs-kept (TaskOk.is-running m d all s e c) z = d
+  runs-kept (TaskOk.has-ended m d all s a f c) z = absurd (omega arith)
+  runs-kept (TaskOk.was-skipped m d w all s e c) z = absurd (omega arith)
 
   pub ended-within :
-      TaskOk Waits plan book i → book .mark i ≡ 2 → (book .start i < book .end i) × (book .end i ≤ limit plan book i)
-  ended-within (TaskOk.is-waiting m w s e) z = absurd (omega arith)
-  ended-within (TaskOk.is-running m all s e c) z = absurd (omega arith)
-  ended-within (TaskOk.has-ended m all s a f c) z = (a, f)
+      TaskOk Waits plan book i → book .mark i ≡ 2 → (book .start i ≤ book .end i) × (book .end i ≤ limit plan book i)
+  ended-within (TaskOk.is-waiting m d w s e) z = absurd (omega arith)
+  ended-within (TaskOk.is-running m d all s e c) z = absurd (omega arith)
+  ended-within (TaskOk.has-ended m d all s a f c) z = (omega arith, f)
+  ended-within (TaskOk.was-skipped m d w all s e c) z = (omega arith, omega arith)
+
+  -- whoever ended and was not dropped took time
+  pub ended-after : TaskOk Waits plan book i → book .mark i ≡ 2 → book .dropped i ≢ 1 → book .start i < book .end i
+  ended-after (TaskOk.is-waiting m d w s e) z n = absurd (omega arith)
+  ended-after (TaskOk.is-running m d all s e c) z n = absurd (omega arith)
+  ended-after (TaskOk.has-ended m d all s a f c) z n = a
+  ended-after (TaskOk.was-skipped m d w all s e c) z n = absurd (n d)
+
+  -- whoever was dropped took none
+  pub skipped-now : TaskOk Waits plan book i → book .mark i ≢ 0 → book .dropped i ≡ 1 → (book .mark i ≡ 2) × (book .end i ≡ book .start i)
+  skipped-now (TaskOk.is-waiting m d w s e) n o = absurd (n m)
+  skipped-now (TaskOk.is-running m d all s e c) n o = absurd (omega arith)
+  skipped-now (TaskOk.has-ended m d all s a f c) n o = absurd (omega arith)
+  skipped-now (TaskOk.was-skipped m d w all s e c) n o = (m, e)
 
   pub end-by-clock : TaskOk Waits plan book i → book .end i ≤ book .clock
-  end-by-clock (TaskOk.is-waiting m w s e) = omega arith
-  end-by-clock (TaskOk.is-running m all s e c) = omega arith
-  end-by-clock (TaskOk.has-ended m all s a f c) = c
+  end-by-clock (TaskOk.is-waiting m d w s e) = omega arith
+  end-by-clock (TaskOk.is-running m d all s e c) = omega arith
+  end-by-clock (TaskOk.has-ended m d all s a f c) = c
+  end-by-clock (TaskOk.was-skipped m d w all s e c) = c
 
   pub no-end : TaskOk Waits plan book i → book .mark i ≢ 2 → book .end i ≡ 0
-  no-end (TaskOk.is-waiting m w s e) n = e
-  no-end (TaskOk.is-running m all s e c) n = e
-  no-end (TaskOk.has-ended m all s a f c) n = absurd (n m)
+  no-end (TaskOk.is-waiting m d w s e) n = e
+  no-end (TaskOk.is-running m d all s e c) n = e
+  no-end (TaskOk.has-ended m d all s a f c) n = absurd (n m)
+  no-end (TaskOk.was-skipped m d w all s e c) n = absurd (n m)
 
   pub no-start : TaskOk Waits plan book i → book .mark i ≡ 0 → book .start i ≡ 0
-  no-start (TaskOk.is-waiting m w s e) z = s
-  no-start (TaskOk.is-running m all s e c) z = absurd (omega arith)
-  no-start (TaskOk.has-ended m all s a f c) z = absurd (omega arith)
+  no-start (TaskOk.is-waiting m d w s e) z = s
+  no-start (TaskOk.is-running m d all s e c) z = absurd (omega arith)
+  no-start (TaskOk.has-ended m d all s a f c) z = absurd (omega arith)
+  no-start (TaskOk.was-skipped m d w all s e c) z = absurd (omega arith)
 
 -- once all it waits for have ended, a task of a sound book has started
 pub free-started :

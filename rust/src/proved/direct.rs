@@ -1,7 +1,7 @@
 //! The library, linked and called over the C ABI. Plans and books cross by value.
 
 use super::{Function, Measured, Register};
-use crate::values::{Answer, Book, Figure, Opening, Plan, Reading, Reported, Written};
+use crate::values::{Answer, Book, Dropped, Figure, Opening, Plan, Reading, Reported, Written};
 use std::arch::asm;
 use std::ptr;
 
@@ -12,6 +12,7 @@ extern "C" {
     fn dispatch_open_book(plan: Plan) -> Opening;
     fn dispatch_is_sound(book: Book) -> u32;
     fn dispatch_report(book: Book, task: u32, tick: u32) -> Reported;
+    fn dispatch_drop(book: Book, task: u32) -> Dropped;
     fn dispatch_minimum_early(book: Book) -> Figure;
     fn dispatch_run_log(
         plan: *const u8,
@@ -48,6 +49,10 @@ pub fn report(book: &Book, task: u32, tick: u32) -> Reported {
     unsafe { dispatch_report(*book, task, tick) }
 }
 
+pub fn drop_task(book: &Book, task: u32) -> Dropped {
+    unsafe { dispatch_drop(*book, task) }
+}
+
 pub fn minimum_early(book: &Book) -> Figure {
     unsafe { dispatch_minimum_early(*book) }
 }
@@ -79,6 +84,7 @@ fn address_of(function: Function) -> *const () {
         Function::OpenBook => dispatch_open_book as *const (),
         Function::IsSound => dispatch_is_sound as *const (),
         Function::Report => dispatch_report as *const (),
+        Function::Drop => dispatch_drop as *const (),
         Function::MinimumEarly => dispatch_minimum_early as *const (),
         Function::RunLog => dispatch_run_log as *const (),
         Function::Nothing => nothing as *const (),

@@ -2,7 +2,7 @@
 //! toolchain's emulator runs and which says there how requests and answers look.
 
 use super::{Function, Measured, Register};
-use crate::values::{Book, Figure, Opening, Plan, Reading, Reported, Written};
+use crate::values::{Book, Dropped, Figure, Opening, Plan, Reading, Reported, Written};
 use std::cell::RefCell;
 use std::io::{BufReader, Error, Read, Write};
 use std::mem::MaybeUninit;
@@ -36,6 +36,11 @@ pub fn is_sound(book: &Book) -> u32 {
 pub fn report(book: &Book, task: u32, tick: u32) -> Reported {
     let request = Request::to(Function::Report).value(book);
     request.value(&task).value(&tick).answer()
+}
+
+pub fn drop_task(book: &Book, task: u32) -> Dropped {
+    let request = Request::to(Function::Drop).value(book);
+    request.value(&task).answer()
 }
 
 pub fn minimum_early(book: &Book) -> Figure {
@@ -76,6 +81,7 @@ unsafe impl Raw for Book {}
 unsafe impl Raw for Reading {}
 unsafe impl Raw for Opening {}
 unsafe impl Raw for Reported {}
+unsafe impl Raw for Dropped {}
 unsafe impl Raw for Figure {}
 unsafe impl Raw for Written {}
 unsafe impl Raw for Measured {}

@@ -1,7 +1,7 @@
 //! Plan and book values with some bytes changed.
 
 use super::Rng;
-use crate::values::{Book, Plan};
+use crate::values::{Book, Plan, DROPPED, ENDED, RUNNING, WAITING};
 
 const LIKELY_BYTES: [u8; 12] = [0, 1, 2, 3, 8, 9, 32, 64, 65, 66, 67, 255];
 const LIKELY_TICKS: [u32; 8] = [0, 1, 2, 3, 999_999, 1_000_000, 1_000_001, u32::MAX];
@@ -24,6 +24,47 @@ pub fn mutated_book(rng: &mut Rng, book: &Book) -> Book {
     changed
 }
 
+/// The book with one drop that no run gives; never sound.
+pub fn wrongly_dropped_book(rng: &mut Rng, book: &Book) -> Book {
+    let mut wrong = *book;
+    let count = usize::from(book.tasks);
+    let i = rng.index(count);
+    let waits = (0..count).any(|j| book.finish[j] <= book.begin[i]);
+    match (book.mark[i], book.dropped[i], waits) {
+        _ if count < 64 && rng.chance(10) => wrong.dropped[count + rng.index(64 - count)] = 1,
+        _ if rng.chance(10) => wrong.dropped[i] = rng.pick(&[2, 3, 255]),
+        (RUNNING, _, _) if waits || rng.chance(50) => wrong.dropped[i] = DROPPED,
+        (ENDED, DROPPED, _) => wrong_a_passed_task(rng, &mut wrong, i),
+        (ENDED, _, true) if rng.chance(50) => wrong.dropped[i] = DROPPED,
+        (ENDED, _, true) => wrong.end[i] = wrong.start[i],
+        (WAITING, _, _) => pass_task(&mut wrong, i, book.clock),
+        // One that waits for nobody is never dropped, though it takes no time here.
+        _ => pass_task(&mut wrong, i, 0),
+    }
+    wrong
+}
+
+/// Takes the drop or the passing back, or lets the end come later.
+fn wrong_a_passed_task(rng: &mut Rng, book: &mut Book, i: usize) {
+    match rng.within(1, 4) {
+        1 => book.dropped[i] = 0,
+        2 => book.end[i] += 1,
+        3 => make_waiting(book, i),
+        _ => {
+            book.mark[i] = RUNNING;
+            book.end[i] = 0;
+        }
+    }
+}
+
+/// Writes in that the task was dropped and passed on that tick.
+fn pass_task(book: &mut Book, i: usize, tick: u32) {
+    book.dropped[i] = DROPPED;
+    book.mark[i] = ENDED;
+    book.start[i] = tick;
+    book.end[i] = tick;
+}
+
 fn mutate_plan_once(rng: &mut Rng, plan: &mut Plan) {
     let i = likely_index(rng, plan.task_count());
     match rng.within(1, 9) {
@@ -41,7 +82,7 @@ fn mutate_plan_once(rng: &mut Rng, plan: &mut Plan) {
 
 fn mutate_book_once(rng: &mut Rng, book: &mut Book) {
     let i = likely_index(rng, book.tasks.min(64).into());
-    match rng.within(1, 8) {
+    match rng.within(1, 11) {
         1 => book.clock = nearby_tick(rng, book.clock),
         2 => book.start[i] = nearby_tick(rng, book.start[i]),
         3 => book.end[i] = nearby_tick(rng, book.end[i]),
@@ -53,6 +94,9 @@ fn mutate_book_once(rng: &mut Rng, book: &mut Book) {
         }
         6 => reopen_task(book, i),
         7 => close_task(rng, book, i),
+        8 => book.dropped[i] = rng.pick(&[0, 1, 1, 2, 255]),
+        9 => pass_task(book, i, book.clock),
+        10 => make_waiting(book, i),
         _ => mutate_plan_of(rng, book),
     }
 }
@@ -69,6 +113,13 @@ fn close_task(rng: &mut Rng, book: &mut Book, i: usize) {
     book.mark[i] = 2;
     book.end[i] = book.start[i].saturating_add(rng.within(0, 5));
     book.clock = book.clock.max(book.end[i]);
+}
+
+/// Takes all back that is known of the task but a drop.
+fn make_waiting(book: &mut Book, i: usize) {
+    book.mark[i] = WAITING;
+    book.start[i] = 0;
+    book.end[i] = 0;
 }
 
 fn mutate_plan_of(rng: &mut Rng, book: &mut Book) {

@@ -75,7 +75,7 @@ pub fn damaged_text(rng: &mut Rng, text: &[u8]) -> Vec<u8> {
 }
 
 fn damage_once(rng: &mut Rng, text: &mut Vec<u8>) {
-    const LIKELY: &[u8] = b"\t\n-,es0123456789ptlakn \r\0";
+    const LIKELY: &[u8] = b"\t\n-,es0123456789ptlakndro \r\0";
     if text.is_empty() {
         text.push(rng.pick(LIKELY));
         return;

@@ -10,6 +10,42 @@ const FILLINGS: [&[u8]; 14] = [
 /// Bytes of which plan texts are made.
 const USUAL_BYTES: &[u8] = b"\t\t\t\n\n-,es0123456789plantask";
 
+/// Lines of `ends.txt` that are not well formed or out of range, and some that
+/// are neither but look so.
+const ODD_ENDS_LINES: [&[u8]; 24] = [
+    b"drop\n",
+    b"drop\t\n",
+    b"drop\t1",
+    b"drop\t1\t2\n",
+    b"drop\t1\t\n",
+    b"drop\t01\n",
+    b"drop\t-\n",
+    b"drop\t+1\n",
+    b"drop\t1\r\n",
+    b"drop 1\n",
+    b"Drop\t1\n",
+    b"drops\t1\n",
+    b"dro\t1\n",
+    b"\tdrop\t1\n",
+    b"skip\t1\n",
+    b"end\t1\n",
+    b"1\n",
+    b"\n",
+    b"drop\t1000001\n",
+    b"drop\t4294967296\n",
+    b"drop\t18446744073709551617\n",
+    b"drop\t1000000\n",
+    b"drop\t0\n",
+    b"drop\t65\n",
+];
+
+/// The text with an odd line of `ends.txt` put between two of its lines.
+pub fn with_odd_ends_line(rng: &mut Rng, text: &[u8]) -> Vec<u8> {
+    let mut lines: Vec<&[u8]> = text.split_inclusive(|&byte| byte == b'\n').collect();
+    lines.insert(rng.index(lines.len() + 1), rng.pick(&ODD_ENDS_LINES));
+    lines.concat()
+}
+
 /// The text with lines swapped, doubled, moved, taken out or cut off.
 pub fn damaged_lines(rng: &mut Rng, text: &[u8]) -> Vec<u8> {
     let mut lines: Vec<&[u8]> = text.split_inclusive(|&byte| byte == b'\n').collect();

@@ -1,6 +1,8 @@
-//! Inputs for tests: seeded random plans, texts, damaged values and reports.
+//! Inputs for tests: seeded random plans, texts, damaged values, reports and drops.
 
 pub mod damage;
+pub mod events;
+pub mod every_book;
 pub mod faults;
 pub mod lines;
 pub mod plan_a;

@@ -1,24 +1,10 @@
 //! Reports on a sound book: ones that must be accepted, and any others.
 
-use super::plans::random_plan;
 use super::Rng;
-use crate::book::{open_book, report};
 use crate::values::{Book, RUNNING};
 
 /// A report as (task, tick).
 pub type Report = (u32, u32);
-
-/// A random book some accepted reports into its morning.
-pub fn random_book(rng: &mut Rng) -> Book {
-    let mut book = open_book(&random_plan(rng)).book;
-    let wanted = rng.within(0, u32::from(book.tasks));
-    for _ in 0..wanted {
-        if let Some((task, tick)) = accepted_report(rng, &book) {
-            book = report(&book, task, tick).book;
-        }
-    }
-    book
-}
 
 /// A report the document accepts; None once every task has ended.
 pub fn accepted_report(rng: &mut Rng, book: &Book) -> Option<Report> {

@@ -11,17 +11,17 @@ pub struct Tally {
     since: Instant,
     compared: u64,
     compared_before: u64,
-    by_code: [u64; 17],
+    by_code: [u64; 20],
 }
 
 impl Tally {
-    fn new(title: &'static str) -> Tally {
+    pub fn new(title: &'static str) -> Tally {
         Tally {
             title,
             since: Instant::now(),
             compared: 0,
             compared_before: 0,
-            by_code: [0; 17],
+            by_code: [0; 20],
         }
     }
 

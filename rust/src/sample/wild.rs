@@ -134,7 +134,7 @@ fn on_plan(plan: &Plan) -> Book {
     }
 }
 
-/// Random clock, starts, ends and marks, past the last task only sometimes.
+/// Random clock, starts, ends, marks and drops, past the last task only sometimes.
 fn with_wild_morning(rng: &mut Rng, book: &Book) -> Book {
     let mut wild = *book;
     let tame = rng.chance(80);
@@ -149,6 +149,14 @@ fn with_wild_morning(rng: &mut Rng, book: &Book) -> Book {
         wild.mark[i] = mark;
         wild.start[i] = if mark == 0 { 0 } else { wild_tick(rng) };
         wild.end[i] = if mark < 2 { 0 } else { wild_tick(rng) };
+        wild.dropped[i] = if tame {
+            u8::from(mark != 1 && rng.chance(30))
+        } else {
+            rng.byte()
+        };
+        if tame && wild.dropped[i] == 1 {
+            wild.end[i] = wild.start[i];
+        }
     }
     if rng.chance(50) {
         wild.clock = wild.end.iter().max().copied().unwrap_or(0);

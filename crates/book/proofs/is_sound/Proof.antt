@@ -16,19 +16,19 @@ past-nothing-requires : tie.Need-past-nothing-requires
 past-nothing-requires c κs = search needs
 
 returns-2 : tie.Need-returns-2
-returns-2 c = unsound-past _ (c .before .before .before .before .before .before .before .is-accepted .ensures) (c .before .before .before .before .before .before .if1 .left) (c .before .past-nothing .ensures) (c .if2 .taken)
+returns-2 c = unsound-past _ (c .before .before .before .before .before .before .before .before .is-accepted .ensures) (c .before .before .before .before .before .before .before .if1 .left) (c .before .past-nothing .ensures) (c .if2 .taken)
 
 tasks-sound-requires : tie.Need-tasks-sound-requires
-tasks-sound-requires c κs = few-tasks (c .before .before .before .before .before .before .before .before .before .before .before .before .before .before .before .before .before .before .before .before .args .t1) (c .before .before .before .before .before .before .before .before .before .before .before .before .before .is-accepted .ensures) (c .before .before .before .before .before .before .before .before .before .before .before .before .if1 .left)
+tasks-sound-requires c κs = few-tasks (c .before .before .before .before .before .before .before .before .before .before .before .before .before .before .before .before .before .before .before .before .before .before .args .t1) (c .before .before .before .before .before .before .before .before .before .before .before .before .before .before .before .is-accepted .ensures) (c .before .before .before .before .before .before .before .before .before .before .before .before .before .before .if1 .left)
 
 returns-3 : tie.Need-returns-3
-returns-3 c = unsound-task _ (c .before .before .before .before .before .before .before .before .before .before .before .before .before .before .before .is-accepted .ensures) (c .before .before .before .before .before .before .before .before .before .before .before .before .before .before .if1 .left) (c .before .before .before .before .before .before .before .before .before .past-nothing .ensures) (c .before .before .before .before .before .before .before .before .if2 .left) (c .before .tasks-sound .ensures) (c .if3 .taken)
+returns-3 c = unsound-task _ (c .before .before .before .before .before .before .before .before .before .before .before .before .before .before .before .before .before .is-accepted .ensures) (c .before .before .before .before .before .before .before .before .before .before .before .before .before .before .before .before .if1 .left) (c .before .before .before .before .before .before .before .before .before .before .past-nothing .ensures) (c .before .before .before .before .before .before .before .before .before .if2 .left) (c .before .tasks-sound .ensures) (c .if3 .taken)
 
 last-end-requires : tie.Need-last-end-requires
-last-end-requires c κs = few-tasks (c .before .before .before .before .before .before .before .before .before .before .before .before .before .before .before .before .before .before .before .before .before .before .before .before .before .args .t1) (c .before .before .before .before .before .before .before .before .before .before .before .before .before .before .before .before .before .before .is-accepted .ensures) (c .before .before .before .before .before .before .before .before .before .before .before .before .before .before .before .before .before .if1 .left)
+last-end-requires c κs = few-tasks (c .before .before .before .before .before .before .before .before .before .before .before .before .before .before .before .before .before .before .before .before .before .before .before .before .before .before .before .args .t1) (c .before .before .before .before .before .before .before .before .before .before .before .before .before .before .before .before .before .before .before .before .is-accepted .ensures) (c .before .before .before .before .before .before .before .before .before .before .before .before .before .before .before .before .before .before .before .if1 .left)
 
 returns-4 : tie.Need-returns-4
-returns-4 c = sound-clock _ (c .before .before .before .before .before .before .before .before .before .before .before .before .before .before .before .before .before .before .before .is-accepted .ensures) (c .before .before .before .before .before .before .before .before .before .before .before .before .before .before .before .before .before .before .if1 .left) (c .before .before .before .before .before .before .before .before .before .before .before .before .before .past-nothing .ensures) (c .before .before .before .before .before .before .before .before .before .before .before .before .if2 .left) (c .before .before .before .before .before .tasks-sound .ensures) (c .before .before .before .before .if3 .left) (c .last-end .ensures)
+returns-4 c = sound-clock _ (c .before .before .before .before .before .before .before .before .before .before .before .before .before .before .before .before .before .before .before .before .before .is-accepted .ensures) (c .before .before .before .before .before .before .before .before .before .before .before .before .before .before .before .before .before .before .before .before .if1 .left) (c .before .before .before .before .before .before .before .before .before .before .before .before .before .before .past-nothing .ensures) (c .before .before .before .before .before .before .before .before .before .before .before .before .before .if2 .left) (c .before .before .before .before .before .tasks-sound .ensures) (c .before .before .before .before .if3 .left) (c .last-end .ensures)
 
 pub is-sound-spec : {M : Type 1} → statement M
 is-sound-spec =

@@ -1,3 +1,4 @@
+use Rattle.book.proofs.SoundLaws.{and-four}
 use borrow.Author.Needs.{needs}
 use Rattle.book.proofs.sound.past_nothing.Statement.{statement}
 use Rattle.book.proofs.sound.past_nothing.Tie as tie
@@ -11,9 +12,18 @@ blank-ticks-requires-2 c κs = search needs
 blank-bytes-requires : tie.Need-blank-bytes-requires
 blank-bytes-requires c κs = search needs
 
+blank-bytes-requires-2 : tie.Need-blank-bytes-requires-2
+blank-bytes-requires-2 c κs = search needs
+
 returns : tie.Need-returns
-returns c = rw (c .before .before .before .before .blank-ticks .ensures, c .before .before .blank-ticks2 .ensures, c .blank-bytes .ensures)
+returns c = and-four (c .before .before .before .before .before .before .blank-ticks .ensures) (c .before .before .before .before .blank-ticks2 .ensures) (c .before .before .blank-bytes .ensures) (c .blank-bytes2 .ensures)
 
 pub past-nothing-spec : {M : Type 1} → statement M
 past-nothing-spec =
-    tie.close (tie.spec blank-ticks-requires blank-ticks-requires-2 blank-bytes-requires returns)
+    tie.close
+    (tie.spec
+    blank-ticks-requires
+    blank-ticks-requires-2
+    blank-bytes-requires
+    blank-bytes-requires-2
+    returns)

@@ -13,14 +13,14 @@ use Rattle.log.proofs.line.put_starts.Lts as lts
 use Rattle.log.proofs.line.put_start.Reads as put-start-reads
 
 abbrev Inv-loop : tie.InvT-loop
-Inv-loop out₀ at old mark board begin start tasks place₀ i₀ out place i = (length out ≡ length out₀) × (i ≤ tasks) × Wrote out₀ at (startsIn old mark board begin start i) (52 * count i (starting old mark)) out place
+Inv-loop out₀ at old mark dropped board begin start tasks place₀ i₀ out place i = (length out ≡ length out₀) × (i ≤ tasks) × Wrote out₀ at (startsIn old mark dropped board begin start i) (52 * count i (starting old mark)) out place
 
 abbrev μ-loop : tie.MeasureT-loop
-μ-loop out₀ at old mark board begin start tasks place₀ i₀ out place i = tasks - i
+μ-loop out₀ at old mark dropped board begin start tasks place₀ i₀ out place i = tasks - i
 
 -- src/line.rt:122:5
 loop-holds : tie.Need-loop-holds Inv-loop μ-loop
-loop-holds c = (search needs, search needs, starts-none _ _ _ _ _ _ _)
+loop-holds c = (search needs, search needs, starts-none _ _ _ _ _ _ _ _)
 
 -- src/line.rt:123:9
 put-start-requires : tie.Need-put-start-requires Inv-loop μ-loop
@@ -36,7 +36,7 @@ loop-less c = search needs
 
 -- src/line.rt:122:5
 loop-again : tie.Need-loop-again Inv-loop μ-loop
-loop-again c = let l = c .before .before .before .before .before .loop in let w = c .before .before .put-start .ensures in (omega (arith, wrote-length w), omega arith, starts-turn _ _ _ _ _ (l .i) (l .inv .2) w)
+loop-again c = let l = c .before .before .before .before .before .loop in let w = c .before .before .put-start .ensures in (omega (arith, wrote-length w), omega arith, starts-turn _ _ _ _ _ _ (l .i) (l .inv .2) w)
 
 -- src/line.rt:108:1
 same-length : tie.Need-same-length Inv-loop μ-loop
@@ -44,7 +44,7 @@ same-length c = search needs
 
 -- src/line.rt:108:1
 returns : tie.Need-returns Inv-loop μ-loop
-returns c = let l = c .before .loop in starts-end _ _ _ _ _ (omega arith) (omega arith) (l .inv .2)
+returns c = let l = c .before .loop in starts-end _ _ _ _ _ _ (omega arith) (omega arith) (l .inv .2)
 
 pub put-starts-spec : {M : Type 1} → statement M
 put-starts-spec =

@@ -19,7 +19,7 @@ put-starts-requires c κs = search needs
 
 -- src/report.rt:38:5
 put-early-requires : tie.Need-put-early-requires
-put-early-requires c κs = let s = c .before .before .before .before .before .before .before .before .before .before .before .args in let w = c .before .before .before .put-starts .ensures in omega (arith, w .place, w .small, wrote-length w, count-below (s .t4 .tasks) (starting (s .old .now) (s .t4 .mark)))
+put-early-requires c κs = let s = c .before .before .before .before .before .before .before .before .before .before .before .before .args in let w = c .before .before .before .put-starts .ensures in omega (arith, w .place, w .small, wrote-length w, count-below (s .t4 .tasks) (starting (s .old .now) (s .t4 .mark)))
 
 -- src/report.rt:23:1
 same-length : tie.Need-same-length
