@@ -1,10 +1,8 @@
 -- What the functions do to a book keeps the arrays' lengths and the plan.
 use Prim.Native.Nat.{ℕ, zero, suc, _-_}
 use mathlib.Core.Path.{_≡_, refl, _∙_}
-use lib.ListN.{length, set, drop, replicate, length-set, length-replicate}
-use Rattle.laws.specs.Each.{each, length-each}
-use Rattle.theory.specs.Report.{skipTimes, letGo, next, blank, opened}
-use Rattle.plan.specs.Value.{at}
+use lib.ListN.{length, replicate, length-set, length-replicate}
+use Rattle.laws.specs.Each.{length-each}
 use Rattle.plan.specs.declared.Plan.{Plan}
 use Rattle.plan.proofs.PlanTasks as plan-tasks
 use Rattle.book.specs.View.{planIn}

@@ -1,19 +1,18 @@
 -- One round of skipping by the table, and rounds until nobody was skipped.
 use Prim.Native.Nat.{ℕ, zero, suc, _+_, _-_, _<_, _≤_}
-use native.Mathlib.Numerals.{add-one}
 use native.Mathlib.Omega.{arith}
 use mathlib.Core.Bool.{Bool, true, false, not, cond, _&&_}
 use mathlib.Core.List.{List, []}
 use mathlib.Core.Path.{_≡_, refl, sym, ap, _∙_}
-use mathlib.Core.Logic.{_≢_, _⊎_, inl, inr, ⊎-elim}
+use mathlib.Core.Logic.{_⊎_, inl, inr, ⊎-elim}
 use lib.ListN.{length, getD, set, List·getD-eq-default}
-use borrow.Author.Tests.{eq-eqb, ne-eqb, not-true}
+use borrow.Author.Tests.{not-true}
 use Rattle.laws.specs.Cases.{by-bool, by-le, and-l}
 use Rattle.laws.specs.Each.{each, each-turn, each-skip, each-below, each-idle, length-each}
 use Rattle.laws.specs.Rows.{each-same}
 use Rattle.laws.specs.Every.{any, any-turn, any-same, any-not}
-use Rattle.theory.specs.Book.{waiting, isDropped, allEnded}
-use Rattle.theory.specs.Report.{goes, skips}
+use Rattle.theory.specs.Book.{isDropped}
+use Rattle.theory.specs.Report.{skips}
 use Rattle.theory.proofs.Reflect.{all-ended-at}
 use Rattle.theory.proofs.Skip.{goes-at}
 use Rattle.plan.specs.Value.{at}

@@ -6,14 +6,14 @@ use mathlib.Core.List.{List}
 use mathlib.Core.Path.{_≡_, sym, ap, subst, _∙_}
 use mathlib.Core.Logic.{_↔_}
 use lib.Dec.{eqb}
-use lib.ListN.{length, getD, set, drop, length-drop, List·getD-eq-default}
+use lib.ListN.{length, getD, drop, length-drop, List·getD-eq-default}
 use lib.Seq.{getD-set-other, getD-drop}
 use borrow.Author.Tests.{eq-eqb, eqb-true}
 use Rattle.laws.specs.Cases.{by-le, and-l, and-r, and-of}
-use Rattle.laws.specs.Each.{each, each-past}
+use Rattle.laws.specs.Each.{each-past}
 use Rattle.laws.specs.Lists.{all-at, all-of}
 use Rattle.theory.specs.Book as theory-book
-use Rattle.theory.specs.Report.{Accepts, AcceptsDrop, skipTimes, letGo, next, blank, opened}
+use Rattle.theory.specs.Report.{Accepts, AcceptsDrop, opened}
 use Rattle.theory.proofs.Reflect.{sound-test}
 use Rattle.theory.proofs.Step.{sound-next, sound-drop, sound-opened}
 use Rattle.plan.specs.Value.{at, blankFrom, isAccepted}

@@ -1,6 +1,6 @@
 -- A report names a task and a tick, and hands back the book as it stands after it.
 use Prim.Native.Nat.{ℕ, _-_}
-use mathlib.Core.Bool.{Bool, not, cond}
+use mathlib.Core.Bool.{not, cond}
 use lib.Dec.{eqb}
 use lib.ListN.{set}
 use Rattle.theory.specs.Report.{reportCode}

@@ -1,12 +1,12 @@
 -- A list with f i at every place i below n, and one with the row f i from every place width * i, the rest untouched.
 use Prim.Native.Nat.{ℕ, zero, suc, _+_, _*_, _<_, _≤_}
-use mathlib.Core.List.{List, []}
+use mathlib.Core.List.{List}
 use mathlib.Core.Path.{_≡_, refl, _∙_}
 use lib.ListN.{length, getD, set, length-set}
 use lib.Seq.{getD-set-same, getD-set-other, set-getD, sets, length-sets}
 use native.Mathlib.Omega.{arith}
 use native.Mathlib.Numerals.{add-one}
-use Rattle.laws.specs.Cases.{by-eq, by-le}
+use Rattle.laws.specs.Cases.{by-eq}
 
 module _ {A : Type 0} where
   unfoldable pub each : ℕ → (ℕ → A) → List A → List A

@@ -1,6 +1,6 @@
 -- A list parted at a separator, and joined again.
-use Prim.Native.Nat.{ℕ, zero, suc, _+_, _-_, _≤_, _<_}
-use mathlib.Core.Path.{_≡_, refl, sym, ap, _∙_}
+use Prim.Native.Nat.{ℕ, suc, _+_, _-_, _≤_, _<_}
+use mathlib.Core.Path.{_≡_, refl, ap, _∙_}
 use mathlib.Core.Bool.{Bool, true, false, not, cond}
 use mathlib.Core.List.{List, [], _∷_, _++_}
 use native.Mathlib.Omega.{arith}
@@ -9,7 +9,7 @@ use lib.ListN.{length, take, drop, getD, drop-of-length-le}
 use lib.Seq.{drop-cons}
 use lib.Dec.{eqb}
 use borrow.Author.Tests.{eqb-true, eq-eqb, not-true, ne-eqb}
-use Rattle.laws.specs.Cases.{by-bool, and-l, and-r, true-false}
+use Rattle.laws.specs.Cases.{by-bool, and-l, and-r}
 use Rattle.laws.specs.Lists.{allOf}
 
 -- the place of the first c, or the length

@@ -1,5 +1,5 @@
 -- The whole log, by the tests that lead to it.
-use Prim.Native.Nat.{ℕ, _+_, _*_, _≤_, _<_}
+use Prim.Native.Nat.{ℕ, _+_, _≤_, _<_}
 use mathlib.Core.Path.{_≡_, refl, sym, ap, _∙_}
 use mathlib.Core.Logic.{_≢_}
 use mathlib.Core.Bool.{true}
@@ -19,9 +19,9 @@ use Rattle.book.specs.declared.Book.{Book}
 use Rattle.book.specs.declared.Opening.{Opening}
 use Rattle.book.proofs.Accepted.{plan-facts}
 use Rattle.book.proofs.Sizes.{SizedPlan, sized-opened}
-use Rattle.log.specs.Lines.{refusedLine, runLine, earlyLine, startLines}
+use Rattle.log.specs.Lines.{refusedLine, runLine, earlyLine}
 use Rattle.log.specs.Log.{openLog, endsLog, logOf}
-use Rattle.log.specs.Writes.{Wrote, Whole, startsIn, goingLog, openedLog}
+use Rattle.log.specs.Writes.{Wrote, startsIn, goingLog, openedLog}
 use Rattle.log.specs.Ends.{EndsFit, endsMost, Ran}
 use Rattle.log.proofs.WriteLaws.{also, wrote-length}
 use Rattle.log.proofs.ComeLaws.{come-most}

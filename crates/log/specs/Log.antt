@@ -1,6 +1,6 @@
 -- The whole output of the program, from the two texts.
 use Prim.Native.Nat.{ℕ, zero, suc, _+_, _-_}
-use mathlib.Core.Bool.{Bool, true, false, cond}
+use mathlib.Core.Bool.{true, false, cond}
 use mathlib.Core.List.{List, [], _++_}
 use lib.Dec.{ltb, eqb}
 use lib.ListN.{length}
@@ -17,7 +17,6 @@ use Rattle.book.specs.declared.Reported.{Reported}
 use Rattle.book.specs.declared.Dropped.{Dropped}
 use Rattle.log.specs.Entries.{entryOf}
 use Rattle.log.specs.Lines.{runLine, endLine, dropLine, earlyLine, refusedLine, startLines}
-use Rattle.log.specs.declared.Entry.{Entry}
 use Rattle.log.specs.declared.Entry.the-variants.{End, Drop, Refused}
 
 -- `run`; then a `start` line for each task started at 0; an `early` line

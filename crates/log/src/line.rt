@@ -1,10 +1,8 @@
 // The lines of a log, where the caller has seen that there is room. Each answers the place after its line.
 ghost use mathlib.Core.Path.{_≡_};
-ghost use mathlib.Core.List.{[], _∷_};
 ghost use Prim.Native.Nat.{_+_, _-_, _*_, _<_, _≤_};
 ghost use lib.ListN.{length};
 ghost use Rattle.laws.specs.Count.{count};
-ghost use Rattle.text.specs.Bytes.{bytes};
 ghost use Rattle.log.specs.Lines.{numbersLine, runLine, dropLine, earlyLine, refusedLine};
 ghost use Rattle.log.specs.Writes.{Wrote, taskLine, starting, startIn, startsIn};
 use book::Book;

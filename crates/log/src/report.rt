@@ -1,7 +1,5 @@
 // Opening a run, reporting to it and dropping a task, with what each prints.
-ghost use mathlib.Core.Path.{_≡_};
-ghost use mathlib.Core.Bool.{true};
-ghost use Prim.Native.Nat.{_+_, _*_, _<_, _≤_};
+ghost use Prim.Native.Nat.{_+_, _*_, _≤_};
 ghost use lib.ListN.{length};
 ghost use Rattle.laws.specs.Count.{count};
 ghost use Rattle.book.specs.Report.{reportedOf};

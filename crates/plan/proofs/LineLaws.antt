@@ -1,6 +1,6 @@
 -- The answers of the readers of whole lines, by the tests that lead to them.
-use Prim.Native.Nat.{ℕ, suc, _≤_, _<_, min}
-use mathlib.Core.Path.{_≡_, refl, sym, ap, _∙_}
+use Prim.Native.Nat.{ℕ, suc, _≤_, min}
+use mathlib.Core.Path.{_≡_, refl, sym, _∙_}
 use mathlib.Core.Logic.{_≢_}
 use mathlib.Core.Bool.{Bool, true, false, not, cond, _&&_, _||_}
 use mathlib.Core.List.{List}
@@ -8,15 +8,14 @@ use native.Mathlib.Omega.{arith}
 use lib.Dec.{ltb, leb, eqb}
 use lib.ListN.{length, drop}
 use borrow.Author.Tests.{not-true, not-false, le-leb, leb-true, eqb-true, eq-eqb, ne-eqb}
-use Rattle.laws.specs.Cases.{by-bool, and-l, and-r, and-of, same-test}
+use Rattle.laws.specs.Cases.{and-l, and-r, and-of, same-test}
 use Rattle.laws.specs.Lists.{same}
 use Rattle.laws.specs.Split.{before}
 use Rattle.text.specs.Number.{isNumber, valueOf, most}
 use Rattle.text.specs.Line.{TAB, fields, field}
-use Rattle.text.specs.Items.{between, isHolds, holdsOf, isAfter, afterOf, holdsOk, afterOk, noItems, someItems, itemsOf, holdsRead, afterRead}
+use Rattle.text.specs.Items.{between, isHolds, holdsOf, isAfter, afterOf, holdsOk, afterOk, someItems, itemsOf, holdsRead, afterRead}
 use Rattle.text.specs.declared.Items.{Items}
 use Rattle.text.proofs.Parts.{From, from-start, from-field, from-next}
-use Rattle.plan.specs.Task.{taskOk}
 use Rattle.plan.specs.Read.{PLAN, TASK, EDITION, ranged, sizesOk, isTaskLine, lineTask, lineCode}
 use Rattle.plan.specs.Fields.{codeFor, worse, rangedRead, timesRead, noTimes, noSizes, sizesRead, noLine, lineRead}
 use Rattle.plan.specs.declared.Ranged.{Ranged}

@@ -1,16 +1,16 @@
 -- Two lists of holds with rising drives, walked side by side: the lower drive is passed.
-use Prim.Native.Nat.{ℕ, zero, suc, _+_, _-_, _≤_, _<_}
+use Prim.Native.Nat.{ℕ, _+_, _-_, _≤_, _<_}
 use mathlib.Core.Path.{_≡_, refl, sym, ap, _∙_}
-use mathlib.Core.Bool.{Bool, true, false, not, _&&_, _||_}
+use mathlib.Core.Bool.{Bool, true, false, not, _||_}
 use mathlib.Core.List.{List, [], _∷_}
 use native.Mathlib.Omega.{arith}
-use lib.Dec.{leb, ltb, eqb}
+use lib.Dec.{leb, ltb}
 use lib.ListN.{length, getD, drop}
 use borrow.Author.Tests.{ltb-true, leb-true, leb-false, ne-eqb}
 use Rattle.laws.specs.Cases.{by-bool, and-l, and-r}
 use Rattle.laws.specs.Lists.{anyOf, rising}
 use Rattle.laws.specs.Split.{before, before-here, before-next, before-end}
-use Rattle.text.specs.Items.{driveOf, isShared}
+use Rattle.text.specs.Items.{driveOf}
 use Rattle.plan.specs.Pairs.{holdsClash, clashByDrive}
 use Rattle.plan.specs.Value.{items}
 use Rattle.plan.specs.Arrays.{oneIf}

@@ -1,11 +1,11 @@
 -- The code of a pair by the tests that lead to it, and the search for the first faulty pair.
 use Prim.Native.Nat.{ℕ, _+_, _≤_, _<_}
-use mathlib.Core.Path.{_≡_, refl, sym, ap, _∙_}
+use mathlib.Core.Path.{_≡_, sym, ap, _∙_}
 use mathlib.Core.Logic.{_≢_}
 use borrow.Author.Tests.{eq-eqb, ne-eqb}
 use Rattle.laws.specs.Scan.{scanTo, scan-turn, scan-hit, scan-end}
 use Rattle.plan.specs.Answer.{refuse, granted, isRefused}
-use mathlib.Core.Bool.{Bool, true, false, not, _&&_, _||_}
+use mathlib.Core.Bool.{Bool, true, false, not, _&&_}
 use lib.Dec.{eqb}
 use Rattle.plan.specs.Task.{Task}
 use Rattle.plan.specs.Pairs.{overlap, sameBoard, clashByDrive, breaksAfter, pairCode, pairAnswer, rowFault, firstFault}

@@ -2,30 +2,29 @@
 use Prim.Native.Nat.{ℕ, suc, _+_, _-_, _*_, _≤_, _<_}
 use mathlib.Core.Path.{_≡_, refl, sym, ap, _∙_}
 use mathlib.Core.Logic.{_≢_}
-use mathlib.Core.Bool.{Bool, true, false, not, cond, _&&_}
+use mathlib.Core.Bool.{true, not, cond}
 use mathlib.Core.List.{List}
 use native.Mathlib.Omega.{arith}
-use lib.Dec.{ltb, eqb}
+use lib.Dec.{eqb}
 use lib.ListN.{length, take, drop, set, replicate, length-replicate}
 use lib.Seq.{sets, take-at, length-take-le}
-use borrow.Author.Tests.{le-ltb, lt-ltb, le-leb, eq-eqb, ne-eqb, eqb-true, not-true, not-false}
+use borrow.Author.Tests.{le-ltb, lt-ltb, le-leb, eq-eqb, ne-eqb, eqb-true}
 use Rattle.laws.specs.Cases.{by-bool, guard-passed}
 use Rattle.laws.specs.Each.{each, rows, each-turn, rows-turn, length-each, length-rows}
 use Rattle.laws.specs.Scan.{scanTo, scan-turn, scan-hit, scan-end}
 use Rattle.laws.specs.Split
 use Rattle.laws.specs.Split.{indexOf, before}
-use Rattle.text.specs.Line.{LF, hasLine, skip, lineAt, field}
+use Rattle.text.specs.Line.{LF, hasLine, skip, lineAt}
 use Rattle.text.specs.Place.{Place}
 use Rattle.text.specs.Put.{placed}
-use Rattle.text.specs.Items.{someItems, holdsOf, afterOf}
+use Rattle.text.specs.Items.{someItems}
 use Rattle.text.specs.declared.Items.{Items}
 use Rattle.text.proofs.Answers.{items-kept}
-use Rattle.plan.specs.Answer.{refuse, granted, isGranted, isRefused}
-use Rattle.plan.specs.Task.{Task, taskOk}
-use Rattle.plan.specs.Value.{planOf, zeroPlan}
-use Rattle.plan.specs.Read.{boardsOf, tasksOf, isTaskLine, lineTask, lineCode, lineAnswer, linesAnswer, textTask}
+use Rattle.plan.specs.Answer.{refuse, granted, isRefused}
+use Rattle.plan.specs.Task.{Task}
+use Rattle.plan.specs.Value.{planOf}
+use Rattle.plan.specs.Read.{boardsOf, tasksOf, lineTask, lineCode, lineAnswer, linesAnswer, textTask}
 use Rattle.plan.specs.Fields.{noLine, lineRead, nextLine, noLines, linesRead, FirstRead, ListFits}
-use Rattle.plan.specs.declared.Plan.{Plan}
 use Rattle.plan.specs.declared.Line.{Line}
 use Rattle.plan.specs.declared.Lines.{Lines}
 use Rattle.plan.proofs.PlanTasks.{TaskFits, task-fits}

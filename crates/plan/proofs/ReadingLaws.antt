@@ -2,12 +2,12 @@
 use Prim.Native.Nat.{ℕ, _+_, _≤_, _<_}
 use mathlib.Core.Path.{_≡_, refl, sym, ap, _∙_}
 use mathlib.Core.Logic.{_≢_}
-use mathlib.Core.Bool.{Bool, true, false, not, cond, _&&_}
+use mathlib.Core.Bool.{true, false, not, cond, _&&_}
 use mathlib.Core.List.{List}
 use native.Mathlib.Omega.{arith}
-use lib.Dec.{ltb, leb, eqb}
+use lib.Dec.{ltb}
 use lib.ListN.{length}
-use borrow.Author.Tests.{le-ltb, lt-ltb, eq-eqb, ne-eqb, not-true, not-false, eqb-true, leb-true}
+use borrow.Author.Tests.{le-ltb, lt-ltb, eq-eqb, ne-eqb, not-true, not-false}
 use Rattle.laws.specs.Cases.{by-bool}
 use Rattle.plan.specs.Task.{Task}
 use Rattle.plan.specs.Arrays.{RowsRise}
@@ -15,13 +15,12 @@ use Rattle.laws.specs.Split.{indexOf, before}
 use Rattle.text.specs.Line.{LF, hasLine, skip, lineAt, field}
 use Rattle.text.specs.Number.{valueOf}
 use Rattle.text.specs.Place.{Place}
-use Rattle.plan.specs.Answer.{refuse, granted, isGranted, isRefused}
+use Rattle.plan.specs.Answer.{refuse, isGranted, isRefused}
 use Rattle.plan.specs.Pairs.{firstFault}
-use Rattle.plan.specs.Value.{planOf, zeroPlan, taskAt}
+use Rattle.plan.specs.Value.{planOf, taskAt}
 use Rattle.plan.specs.Read.{sizesOk, boardsOf, tasksOf, linesAnswer, textTask, textAnswer, readingOf}
-use Rattle.plan.specs.Fields.{noSizes, sizesRead, linesRead, FirstRead, refusedReading}
+use Rattle.plan.specs.Fields.{sizesRead, linesRead, FirstRead, refusedReading}
 use Rattle.plan.specs.declared.Answer.{Answer}
-use Rattle.plan.specs.declared.Plan.{Plan}
 use Rattle.plan.specs.declared.Lines.{Lines}
 use Rattle.plan.specs.declared.Reading.{Reading}
 use Rattle.plan.specs.declared.Sizes.{Sizes}
@@ -29,7 +28,7 @@ use Rattle.plan.proofs.FirstFault.{fault-same}
 use Rattle.plan.proofs.PlanTasks.{made-task}
 use Rattle.plan.proofs.RangeLaws.{task-rises}
 use Rattle.plan.proofs.RoundLines.{sizes-test, number-range}
-use Rattle.plan.proofs.RoundText.{LineOk, lines-ok}
+use Rattle.plan.proofs.RoundText.{lines-ok}
 
 sizes-ok : (line : List ℕ) → sizesRead line .ok ≡ sizesOk line
 unfolding sizesRead

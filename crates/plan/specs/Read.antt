@@ -1,8 +1,8 @@
 -- Reading a plan text.
-use Prim.Native.Nat.{ℕ, suc, _+_}
+use Prim.Native.Nat.{ℕ, _+_}
 use mathlib.Core.Bool.{Bool, not, cond, _&&_}
 use mathlib.Core.List.{List}
-use lib.Dec.{ltb, leb, eqb}
+use lib.Dec.{ltb, eqb}
 use lib.ListN.{length}
 use Rattle.laws.specs.Lists.{same}
 use Rattle.laws.specs.Scan.{scanTo}
@@ -15,7 +15,6 @@ use Rattle.plan.specs.Task.{Task, taskOk}
 use Rattle.plan.specs.Pairs.{firstFault}
 use Rattle.plan.specs.Value.{planOf, zeroPlan}
 use Rattle.plan.specs.declared.Answer.{Answer}
-use Rattle.plan.specs.declared.Plan.{Plan}
 use Rattle.plan.specs.declared.Reading.{Reading}
 
 -- the words `plan`, `task` and the edition `1`

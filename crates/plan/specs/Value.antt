@@ -1,5 +1,5 @@
 -- A plan as a value: its tasks, and when it is accepted, whatever its arrays hold.
-use Prim.Native.Nat.{ℕ, _+_, _*_}
+use Prim.Native.Nat.{ℕ, _*_}
 use mathlib.Core.Bool.{Bool, _&&_}
 use mathlib.Core.List.{List, []}
 use lib.Dec.{eqb}

@@ -2,13 +2,10 @@
 use crate::Answer;
 ghost use mathlib.Core.Path.{_≡_};
 ghost use mathlib.Core.Bool.{true, _&&_};
-ghost use mathlib.Core.List.{List};
-ghost use Prim.Native.Nat.{ℕ, _+_, _*_, _<_, _≤_};
-ghost use lib.ListN.{length};
-ghost use lib.Dec.{eqb};
+ghost use Prim.Native.Nat.{_+_, _*_, _<_};
 ghost use Rattle.laws.specs.Lists.{rising};
 ghost use Rattle.text.specs.Items.{driveOf};
-ghost use Rattle.plan.specs.Pairs.{overlap, holdsClash, clashByDrive, isListed, breaksAfter, pairCode, firstFault};
+ghost use Rattle.plan.specs.Pairs.{overlap, holdsClash, clashByDrive, isListed, pairCode, firstFault};
 ghost use Rattle.plan.specs.Value.{row, items, tasksIn};
 ghost use Rattle.plan.specs.Arrays.{meetIn, breaksIn, oneIf, PairRises, RowsRise};
 

@@ -29,7 +29,7 @@ use Rattle.book.specs.Report.{codeOf, reportedOf}
 use Rattle.book.specs.Early.{figureOf}
 use Rattle.book.specs.declared.Book.{Book}
 use Rattle.book.proofs.Accepted.{planFor, plan-facts, plan-lawful, clash-waits}
-use Rattle.book.proofs.Sizes.{SizedPlan, Sized}
+use Rattle.book.proofs.Sizes.{SizedPlan}
 use Rattle.book.proofs.Views.{view-opened}
 use Rattle.book.proofs.Soundness.{SoundFacts, is-sound-facts, past-facts}
 use Rattle.book.proofs.Reports.{theoryTask, theoryEvent, code-seen-by}

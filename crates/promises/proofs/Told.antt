@@ -8,13 +8,12 @@ use lib.Seq.{getD-set-same, getD-set-other}
 use borrow.Author.Tests.{leb-true}
 use Rattle.theory.specs.Book as theory-book
 use Rattle.theory.specs.Report as theory-report
-use Rattle.theory.specs.Report.{Event, run}
+use Rattle.theory.specs.Report.{Event}
 use Rattle.theory.proofs.Task.{skipped-now}
 use Rattle.theory.proofs.Step.{AtTask, next-at, next-clock}
 use Rattle.theory.proofs.Later.{next-ends}
 use Rattle.theory.proofs.Order as order
 use Rattle.theory.proofs.Reach.{drop-waits}
-use Rattle.plan.specs.Answer.{granted}
 use Rattle.plan.specs.Value.{at}
 use Rattle.plan.specs.declared.Plan.{Plan}
 use Rattle.book.specs.View.{planIn, planView, bookView}

@@ -27,7 +27,7 @@ use Rattle.theory.specs.Plan as theory-plan
 use Rattle.theory.specs.Book.{allEnded, taskTest, soundTest, running, waiting}
 use Rattle.theory.specs.Report.{Event, nonePast, reportCode, goes, opened}
 use Rattle.theory.specs.Figure.{minimumEarly}
-use Rattle.book.specs.View.{planIn, planView, bookView}
+use Rattle.book.specs.View.{planIn}
 use Rattle.book.specs.Sound.{isSound}
 use Rattle.book.specs.Open.{blankBook, letGoIn, skipIn, skipTimesIn, openedOn, openingOf}
 use Rattle.book.specs.Report.{codeOf, reportAnswer, endedIn, nextBook, reportedOf}

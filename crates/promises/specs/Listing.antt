@@ -1,7 +1,6 @@
 -- Document 01's listing, its last line as request P1 has it: the whole output on plan A and its ends.
 use Prim.Native.Nat.{ℕ}
 use mathlib.Core.Path.{_≡_, refl}
-use mathlib.Core.Bool.{Bool, true}
 use mathlib.Core.List.{List}
 use Rattle.text.specs.Bytes.{bytes}
 use Rattle.laws.specs.Digits.{digitsFrom, digitsOf}

@@ -1,7 +1,7 @@
 -- The first end that a book lacks of a later one with the same drops is accepted, and leads on towards it.
 use mathlib.Core.Path.{_≡_, sym, _∙_, ap}
 use mathlib.Core.Logic.{_≢_, ⊎-elim}
-use mathlib.Core.Bool.{Bool, true, false, not, _&&_}
+use mathlib.Core.Bool.{Bool, true, not, _&&_}
 use Prim.Native.Nat.{ℕ, zero, suc, _≤_, _<_}
 use native.Mathlib.Omega.{arith}
 use borrow.Author.Tests.{eqb-true, eqb-false, eq-eqb, ne-eqb, not-true}
@@ -9,7 +9,7 @@ use Rattle.laws.specs.Cases.{by-bool, by-eq, by-le, and-l, and-r}
 use Rattle.laws.specs.Count.{count, count-lt}
 use Rattle.theory.specs.Plan.{Plan, Lawful}
 use Rattle.theory.specs.Book.{Book, ended, isDropped, limit, Sound}
-use Rattle.theory.specs.Report.{Accepts, next, run}
+use Rattle.theory.specs.Report.{Accepts, next}
 use Rattle.theory.proofs.Reflect.{all-ended-of}
 use Rattle.theory.proofs.Task.{mark-range, skipped-now, free-started, ended-within, ended-after, runs-kept, end-by-clock, runs-on}
 use Rattle.theory.proofs.Step.{sound-next, next-clock, next-dropped}

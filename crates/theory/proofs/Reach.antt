@@ -11,8 +11,8 @@ use Rattle.laws.specs.Every.{any, any-of, any-at}
 use Rattle.laws.specs.Least.{has-least}
 use Rattle.laws.specs.Count.{count, count-lt}
 use Rattle.theory.specs.Plan.{Plan, Lawful}
-use Rattle.theory.specs.Book.{Book, ended, isDropped, Waiter, Blocker, TaskOk, Sound}
-use Rattle.theory.specs.Report.{Accepts, AcceptsDrop, next, dropIt, blank, letGo, opened, Event, run}
+use Rattle.theory.specs.Book.{Book, isDropped, Waiter, Blocker, TaskOk, Sound}
+use Rattle.theory.specs.Report.{AcceptsDrop, next, dropIt, blank, letGo, opened, Event, run}
 use Rattle.theory.proofs.Reflect.{all-ended-at, accepts-code, accepts-drop-code}
 use Rattle.theory.proofs.Task.{drop-range}
 use Rattle.theory.proofs.LetGo.{LetGoAt, let-go-at}

@@ -1,17 +1,17 @@
 -- Skipping dropped tasks that may go, until none may: a book that was sound but for those who have just become free stays so.
-use mathlib.Core.Path.{_≡_, refl, sym, ap, _∙_, fun-ext}
-use mathlib.Core.Logic.{_≢_, _⊎_, inl, inr, ⊎-elim}
+use mathlib.Core.Path.{_≡_, refl, sym, _∙_, fun-ext}
+use mathlib.Core.Logic.{_≢_}
 use mathlib.Core.Bool.{Bool, true, false, _&&_}
 use Prim.Native.Nat.{ℕ, zero, suc, _≤_, _<_}
 use native.Mathlib.Omega.{arith}
 use lib.Dec.{ltb}
-use borrow.Author.Tests.{eqb-true, eq-eqb, ne-eqb, lt-ltb, le-ltb, ltb-true}
-use Rattle.laws.specs.Cases.{by-bool, by-eq, true-false, and-l, and-r, and-of}
+use borrow.Author.Tests.{eqb-true, eq-eqb, ne-eqb, lt-ltb, ltb-true}
+use Rattle.laws.specs.Cases.{by-bool, true-false, and-l, and-r, and-of}
 use Rattle.laws.specs.Every.{any, any-at, any-of}
 use Rattle.laws.specs.Count.{count, count-lt, count-all, count-some}
 use Rattle.laws.specs.Latest.{latest, latest-more}
 use Rattle.theory.specs.Plan.{Plan}
-use Rattle.theory.specs.Book.{Book, ended, waiting, isDropped, allEnded, due, lastEnd, TaskOk}
+use Rattle.theory.specs.Book.{Book, ended, waiting, isDropped, allEnded, lastEnd, TaskOk}
 use Rattle.theory.specs.Report.{goes, skips, skipOnce, skipTimes}
 use Rattle.theory.proofs.Task.{end-by-clock, all-ended-more}
 use Rattle.theory.proofs.Onward.{FreeNow, Onward, onward-all, onward-due, onward-free}

@@ -1,18 +1,14 @@
 -- `runlog::put_log` meets its contract: the array is always long enough for `run_log`.
-use mathlib.Core.Path.{_≡_}
 use native.Mathlib.Omega.{arith}
-use lib.ListN.{length}
 use borrow.Author.Needs.{needs}
 use Rattle.io.proofs.Counting.{counts}
 use Rattle.runlog.proofs.LogLaws.{ran-front}
 use Rattle.runlog.proofs.put_log.Statement.{statement}
 use Rattle.runlog.proofs.put_log.Tie as tie
 
--- src/main.rt:21:5
 run-log-requires : tie.Need-run-log-requires
 run-log-requires c κs = search needs
 
--- src/main.rt:17:1
 returns : tie.Need-returns
 returns c =
     let ran = c .run-log .ensures in

@@ -1,5 +1,4 @@
 use borrow.Author.Tests.{eq-eqb, ne-eqb}
-use borrow.Author.Needs.{needs}
 use Rattle.book.proofs.skip.may_skip.Statement.{statement}
 use Rattle.book.proofs.skip.may_skip.Tie as tie
 

@@ -4,13 +4,6 @@ use Rattle.log.proofs.EndsLaws.{Walk, walk-start, walk-end, walk-stop, 
 use borrow.Author.Needs.{needs}
 use Rattle.log.proofs.ends.put_ends.Statement.{statement}
 use Rattle.log.proofs.ends.put_ends.Tie as tie
-use Rattle.log.proofs.ends.put_ends.Reads as reads
-use Rattle.log.proofs.ends.put_ends.Lts as lts
-use Rattle.log.proofs.ends.next_entry.Reads as next-entry-reads
-use Rattle.log.proofs.ends.put_entry.Reads as put-entry-reads
-use Rattle.log.proofs.ends.refuse.Reads as refuse-reads
-use Rattle.log.proofs.line.put_refused.Reads as put-refused-reads
-use Rattle.text.proofs.part.part_after.Reads as part-after-reads
 
 abbrev Inv-loop : tie.InvT-loop
 Inv-loop out₀ at ends book₀ place₀ line₀ rest₀ out book place line rest = Walk out₀ at book₀ ends out book place line rest
@@ -18,59 +11,45 @@ Inv-loop out₀ at ends book₀ place₀ line₀ rest₀ out book place line res
 abbrev μ-loop : tie.MeasureT-loop
 μ-loop out₀ at ends book₀ place₀ line₀ rest₀ out book place line rest = length rest
 
--- src/ends.rt:63:5
 loop-holds : tie.Need-loop-holds Inv-loop μ-loop
 loop-holds c = walk-start (c .before .before .pre .whole)
 
--- src/ends.rt:64:13
 next-entry-requires : tie.Need-next-entry-requires Inv-loop μ-loop
 next-entry-requires c κs = search needs
 
--- src/ends.rt:65:31
 enum-known-entry : tie.Need-enum-known-entry Inv-loop μ-loop
 enum-known-entry c = search needs
 
--- src/ends.rt:66:44
 refuse-requires : tie.Need-refuse-requires Inv-loop μ-loop
 refuse-requires c κs = search needs
 
--- src/ends.rt:66:13
 put-refused-requires : tie.Need-put-refused-requires Inv-loop μ-loop
 put-refused-requires c κs = search needs
 
--- src/ends.rt:66:13
 same-length : tie.Need-same-length Inv-loop μ-loop
 same-length c = search needs
 
--- src/ends.rt:66:13
 returns : tie.Need-returns Inv-loop μ-loop
 returns c = walk-stop (c .before .before .before .before .before .before .before .before .before .before .loop .inv) (c .before .before .before .before .before .before .before .before .before .loop-test .taken) (c .before .before .before .before .before .before .before .before .next-entry .ensures) (c .before .before .before .before .before .before .entry .given .1) (rw (c .before .before .before .refuse .ensures) at (c .before .before .put-refused .ensures))
 
--- src/ends.rt:68:13
 put-entry-requires : tie.Need-put-entry-requires Inv-loop μ-loop
 put-entry-requires c κs = let w = c .before .before .before .before .loop .inv in let p = c .before .before .before .before .before .before .before .pre in (omega (arith, w .kept, w .room, p .room), w .whole)
 
--- src/ends.rt:72:13
 part-after-requires : tie.Need-part-after-requires Inv-loop μ-loop
 part-after-requires c κs = search needs
 
--- src/ends.rt:74:9
 add-line : tie.Need-add-line Inv-loop μ-loop
 add-line c = search needs
 
--- src/ends.rt:63:5
 loop-less : tie.Need-loop-less Inv-loop μ-loop
 loop-less c = walk-used (c .before .before .before .before .before .before .before .before .before .loop .inv) (c .before .before .before .before .before .before .before .before .loop-test .taken) (c .before .before .before .before .before .before .before .next-entry .ensures) (c .before .before .before .before .before .before .match .keys2) (c .part-after .ensures)
 
--- src/ends.rt:63:5
 loop-again : tie.Need-loop-again Inv-loop μ-loop
 loop-again c = walk-turn (c .before .before .before .before .before .before .before .before .before .loop .inv) (c .before .before .before .before .before .before .before .before .loop-test .taken) (c .before .before .before .before .before .before .before .next-entry .ensures) (c .before .before .before .before .before .before .match .keys2) (c .before .before .before .before .put-entry .ensures) (c .part-after .ensures)
 
--- src/ends.rt:55:1
 same-length-2 : tie.Need-same-length-2 Inv-loop μ-loop
 same-length-2 c = search needs
 
--- src/ends.rt:55:1
 returns-2 : tie.Need-returns-2 Inv-loop μ-loop
 returns-2 c = walk-end (c .before .loop .inv) (c .loop-test .left)
 

@@ -2,48 +2,34 @@ use Rattle.log.proofs.EndsLaws.{told-nothing}
 use borrow.Author.Needs.{needs}
 use Rattle.log.proofs.ends.put_entry.Statement.{statement}
 use Rattle.log.proofs.ends.put_entry.Tie as tie
-use Rattle.log.proofs.ends.put_entry.Reads as reads
-use Rattle.log.proofs.ends.put_entry.Lts as lts
-use Rattle.log.proofs.report.put_drop.Reads as put-drop-reads
-use Rattle.log.proofs.report.put_report.Reads as put-report-reads
 
--- src/ends.rt:48:20
 enum-known-entry : tie.Need-enum-known-entry
 enum-known-entry c = search needs
 
--- src/ends.rt:48:35
 put-report-requires : tie.Need-put-report-requires
 put-report-requires c κs = search needs
 
--- src/ends.rt:49:21
 enum-known-entry-2 : tie.Need-enum-known-entry-2
 enum-known-entry-2 c = search needs
 
--- src/ends.rt:49:30
 put-drop-requires : tie.Need-put-drop-requires
 put-drop-requires c κs = search needs
 
--- src/ends.rt:50:30
 enum-told : tie.Need-enum-told
 enum-told c = search needs
 
--- src/ends.rt:43:1
 same-length : tie.Need-same-length
 same-length c = search needs
 
--- src/ends.rt:43:1
 returns : tie.Need-returns
 returns c = rw (c .before .before .before .before .before .entry .given .1) (c .before .before .put-report .ensures)
 
--- src/ends.rt:43:1
 same-length-2 : tie.Need-same-length-2
 same-length-2 c = search needs
 
--- src/ends.rt:43:1
 returns-2 : tie.Need-returns-2
 returns-2 c = rw (c .before .before .before .before .before .entry2 .given .1) (c .before .before .put-drop .ensures)
 
--- src/ends.rt:43:1
 returns-3 : tie.Need-returns-3
 returns-3 c = told-nothing _ _ _ (c .before .before .before .args .entry) (c .before .match .keys3)
 

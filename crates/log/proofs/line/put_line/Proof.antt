@@ -6,11 +6,6 @@ use Rattle.log.proofs.WriteLaws.{Left, tabbed, whole, wrote-length, lef
 use borrow.Author.Needs.{needs}
 use Rattle.log.proofs.line.put_line.Statement.{statement}
 use Rattle.log.proofs.line.put_line.Tie as tie
-use Rattle.log.proofs.line.put_line.Reads as reads
-use Rattle.log.proofs.line.put_line.Lts as lts
-use Rattle.text.proofs.put.put_byte.Reads as put-byte-reads
-use Rattle.text.proofs.put.put_number.Reads as put-number-reads
-use Rattle.text.proofs.put.put_text.Reads as put-text-reads
 
 abbrev Inv-loop : tie.InvT-loop
 Inv-loop out₀ at word numbers place₀ i₀ i-end out place i = (at + 52 ≤ length out) × (i ≤ length numbers) × (i-end ≡ length numbers) × (place₀ ≤ at + 7) × (place ≤ place₀ + 11 * i) × Left out₀ place₀ (tabbed numbers) out place (tabbed (drop i numbers))
@@ -18,39 +13,30 @@ Inv-loop out₀ at word numbers place₀ i₀ i-end out place i = (at + 52 ≤ l
 abbrev μ-loop : tie.MeasureT-loop
 μ-loop out₀ at word numbers place₀ i₀ i-end out place i = length numbers - i
 
--- src/line.rt:29:9
 put-text-requires : tie.Need-put-text-requires Inv-loop μ-loop
 put-text-requires c κs = search needs
 
--- src/line.rt:30:5
 loop-holds : tie.Need-loop-holds Inv-loop μ-loop
 loop-holds c = let s = c .before .before .before .before .before .before .before in let f : s .args .at + length (s .args .word .now) ≤ length (s .args .out .now) = omega arith in let w = whole f (c .before .before .put-text .ensures) in (omega (arith, wrote-length w), search needs, search needs, omega (arith, w .place, w .small), omega arith, left-all)
 
--- src/line.rt:31:13
 put-byte-requires : tie.Need-put-byte-requires Inv-loop μ-loop
 put-byte-requires c κs = search needs
 
--- src/line.rt:32:44
 mul-put-number : tie.Need-mul-put-number Inv-loop μ-loop
 mul-put-number c = search needs
 
--- src/line.rt:32:44
 shared-slice-read-put-number : tie.Need-shared-slice-read-put-number Inv-loop μ-loop
 shared-slice-read-put-number c = search needs
 
--- src/line.rt:32:9
 put-number-requires : tie.Need-put-number-requires Inv-loop μ-loop
 put-number-requires c κs = search needs
 
--- src/line.rt:30:9
 add-i : tie.Need-add-i Inv-loop μ-loop
 add-i c = search needs
 
--- src/line.rt:30:5
 loop-less : tie.Need-loop-less Inv-loop μ-loop
 loop-less c = search needs
 
--- src/line.rt:30:5
 loop-again : tie.Need-loop-again Inv-loop μ-loop
 loop-again c =
     let l = c .before .before .before .before .before .before .before .before .before .before .loop in
@@ -61,11 +47,9 @@ loop-again c =
     let place = number-place _ _ (l .inv .5) h fits small (c .before .before .before .before .before .before .before .put-byte .ensures) (c .before .before .put-number .ensures) in
     (search needs, omega arith, search needs, search needs, omega arith, turn)
 
--- src/line.rt:34:5
 put-byte-requires-2 : tie.Need-put-byte-requires-2 Inv-loop μ-loop
 put-byte-requires-2 c κs = search needs
 
--- src/line.rt:25:1
 returns : tie.Need-returns Inv-loop μ-loop
 returns c =
     let s = c .before .before .before .before .before .before .before .before .before .before .before .before .before in
@@ -73,7 +57,6 @@ returns c =
     let f : s .args .at + length (s .args .word .now) ≤ length (s .args .out .now) = omega arith in
     line-whole (s .args .numbers .now) (omega arith) (whole f (c .before .before .before .before .before .before .before .before .put-text .ensures)) (line-end (s .args .numbers .now) (l .i) (l .inv .5) (omega arith) (omega arith) (omega arith) (c .before .before .put-byte2 .ensures))
 
--- src/line.rt:25:1
 same-length : tie.Need-same-length Inv-loop μ-loop
 same-length c = wrote-length (returns c)
 

@@ -2,55 +2,40 @@ use Rattle.log.proofs.WriteLaws.{start-none, start-skips, start-goes}
 use borrow.Author.Needs.{needs}
 use Rattle.log.proofs.line.put_start.Statement.{statement}
 use Rattle.log.proofs.line.put_start.Tie as tie
-use Rattle.log.proofs.line.put_start.Reads as reads
-use Rattle.log.proofs.line.put_start.Lts as lts
-use Rattle.log.proofs.line.put_task_line.Reads as put-task-line-reads
 
--- src/line.rt:116:9
 element-copy-out-if1 : tie.Need-element-copy-out-if1
 element-copy-out-if1 c = search needs
 
--- src/line.rt:116:25
 element-copy-out-if1-2 : tie.Need-element-copy-out-if1-2
 element-copy-out-if1-2 c = search needs
 
--- src/line.rt:117:9
 returns : tie.Need-returns
 returns c = let s = c .before .before .before .before .args in start-none (s .old .now) (s .mark .now) (s .dropped .now) (s .board .now) (s .begin .now) (s .start .now) (s .i) (s .out .now) (s .at) (c .if1 .taken)
 
--- src/line.rt:119:8
 element-copy-out-if2 : tie.Need-element-copy-out-if2
 element-copy-out-if2 c = search needs
 
--- src/line.rt:120:39
 slice-aggregate-put-task-line : tie.Need-slice-aggregate-put-task-line
 slice-aggregate-put-task-line c = search needs
 
--- src/line.rt:120:9
 put-task-line-requires : tie.Need-put-task-line-requires
 put-task-line-requires c κs = search needs
 
--- src/line.rt:120:9
 same-length : tie.Need-same-length
 same-length c = search needs
 
--- src/line.rt:120:9
 returns-2 : tie.Need-returns-2
 returns-2 c = let s = c .before .before .before .before .before .before .before .before .before .before .before .args in start-skips (s .old .now) (s .mark .now) (s .dropped .now) (s .board .now) (s .begin .now) (s .start .now) (s .i) (c .before .before .before .before .before .before .before .if1 .left) (c .before .before .before .before .before .if2 .taken) (c .before .before .put-task-line .ensures)
 
--- src/line.rt:122:28
 slice-aggregate-put-task-line-2 : tie.Need-slice-aggregate-put-task-line-2
 slice-aggregate-put-task-line-2 c = search needs
 
--- src/line.rt:122:5
 put-task-line-requires-2 : tie.Need-put-task-line-requires-2
 put-task-line-requires-2 c κs = search needs
 
--- src/line.rt:102:1
 same-length-2 : tie.Need-same-length-2
 same-length-2 c = search needs
 
--- src/line.rt:102:1
 returns-3 : tie.Need-returns-3
 returns-3 c = let s = c .before .before .before .before .before .before .before .before .before .before .before .args in start-goes (s .old .now) (s .mark .now) (s .dropped .now) (s .board .now) (s .begin .now) (s .start .now) (s .i) (c .before .before .before .before .before .before .before .if1 .left) (c .before .before .before .before .before .if2 .left) (c .before .before .put-task-line2 .ensures)
 

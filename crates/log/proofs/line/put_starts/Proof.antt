@@ -1,4 +1,4 @@
-use Prim.Native.Nat.{_+_, _-_, _*_, _≤_}
+use Prim.Native.Nat.{_-_, _*_, _≤_}
 use mathlib.Core.Path.{_≡_}
 use native.Mathlib.Omega.{arith}
 use lib.ListN.{length}
@@ -8,9 +8,6 @@ use Rattle.log.proofs.WriteLaws.{count-below, wrote-length, starts-none
 use borrow.Author.Needs.{needs}
 use Rattle.log.proofs.line.put_starts.Statement.{statement}
 use Rattle.log.proofs.line.put_starts.Tie as tie
-use Rattle.log.proofs.line.put_starts.Reads as reads
-use Rattle.log.proofs.line.put_starts.Lts as lts
-use Rattle.log.proofs.line.put_start.Reads as put-start-reads
 
 abbrev Inv-loop : tie.InvT-loop
 Inv-loop out₀ at old mark dropped board begin start tasks place₀ i₀ out place i = (length out ≡ length out₀) × (i ≤ tasks) × Wrote out₀ at (startsIn old mark dropped board begin start i) (52 * count i (starting old mark)) out place
@@ -18,31 +15,24 @@ Inv-loop out₀ at old mark dropped board begin start tasks place₀ i₀ out pl
 abbrev μ-loop : tie.MeasureT-loop
 μ-loop out₀ at old mark dropped board begin start tasks place₀ i₀ out place i = tasks - i
 
--- src/line.rt:122:5
 loop-holds : tie.Need-loop-holds Inv-loop μ-loop
 loop-holds c = (search needs, search needs, starts-none _ _ _ _ _ _ _ _)
 
--- src/line.rt:123:9
 put-start-requires : tie.Need-put-start-requires Inv-loop μ-loop
 put-start-requires c κs = let l = c .before .before .loop in let s = c .before .before .before .before .args in (omega arith, omega (arith, l .inv .2 .place, l .inv .2 .small, count-below (l .i) (starting (s .old .now) (s .mark .now))))
 
--- src/line.rt:122:9
 add-i : tie.Need-add-i Inv-loop μ-loop
 add-i c = search needs
 
--- src/line.rt:122:5
 loop-less : tie.Need-loop-less Inv-loop μ-loop
 loop-less c = search needs
 
--- src/line.rt:122:5
 loop-again : tie.Need-loop-again Inv-loop μ-loop
 loop-again c = let l = c .before .before .before .before .before .loop in let w = c .before .before .put-start .ensures in (omega (arith, wrote-length w), omega arith, starts-turn _ _ _ _ _ _ (l .i) (l .inv .2) w)
 
--- src/line.rt:108:1
 same-length : tie.Need-same-length Inv-loop μ-loop
 same-length c = search needs
 
--- src/line.rt:108:1
 returns : tie.Need-returns Inv-loop μ-loop
 returns c = let l = c .before .loop in starts-end _ _ _ _ _ _ (omega arith) (omega arith) (l .inv .2)
 

@@ -2,44 +2,31 @@ use Rattle.log.proofs.EntryLaws.{end-4-task, end-4-tick, end-says}
 use borrow.Author.Needs.{needs}
 use Rattle.log.proofs.read.read_end.Statement.{statement}
 use Rattle.log.proofs.read.read_end.Tie as tie
-use Rattle.log.proofs.read.read_end.Reads as reads
-use Rattle.log.proofs.read.read_end.Lts as lts
-use Rattle.text.proofs.decimal.read_number.Reads as read-number-reads
-use Rattle.text.proofs.part.field.Reads as field-reads
 
--- src/read.rt:35:43
 field-requires : tie.Need-field-requires
 field-requires c κs = search needs
 
--- src/read.rt:35:31
 read-number-requires : tie.Need-read-number-requires
 read-number-requires c κs = search needs
 
--- src/read.rt:35:23
 enum-known-task : tie.Need-enum-known-task
 enum-known-task c = search needs
 
--- src/read.rt:36:9
 returns : tie.Need-returns
 returns c = end-4-task _ (rw (c .before .before .field .ensures) at (c .before .read-number .ensures)) (c .before .before .before .before .pre) (c .match .keys2)
 
--- src/read.rt:38:43
 field-requires-2 : tie.Need-field-requires-2
 field-requires-2 c κs = search needs
 
--- src/read.rt:38:31
 read-number-requires-2 : tie.Need-read-number-requires-2
 read-number-requires-2 c κs = search needs
 
--- src/read.rt:38:23
 enum-known-tick : tie.Need-enum-known-tick
 enum-known-tick c = search needs
 
--- src/read.rt:39:9
 returns-2 : tie.Need-returns-2
 returns-2 c = end-4-tick _ (rw (c .before .before .before .before .before .before .before .field .ensures) at (c .before .before .before .before .before .before .read-number .ensures)) (c .before .before .before .before .before .before .before .before .before .pre) (rw (c .before .before .field2 .ensures) at (c .before .read-number2 .ensures)) (c .match2 .keys2)
 
--- src/read.rt:31:1
 returns-3 : tie.Need-returns-3
 returns-3 c = end-says _ (rw (c .before .before .before .before .before .before .before .before .before .field .ensures) at (c .before .before .before .before .before .before .before .before .read-number .ensures)) (c .before .before .before .before .before .before .before .before .before .before .before .pre) (rw (c .before .before .before .before .field2 .ensures) at (c .before .before .before .read-number2 .ensures)) (c .before .before .before .before .before .before .task .given .1) (c .before .tick .given .1)
 

@@ -4,38 +4,25 @@ use Rattle.log.proofs.EntryLaws.{entry-end, entry-3, entry-drop}
 use borrow.Author.Needs.{needs}
 use Rattle.log.proofs.read.read_entry.Statement.{statement}
 use Rattle.log.proofs.read.read_entry.Tie as tie
-use Rattle.log.proofs.read.read_entry.Reads as reads
-use Rattle.log.proofs.read.read_entry.Lts as lts
-use Rattle.log.proofs.read.is_drop_line.Reads as is-drop-line-reads
-use Rattle.log.proofs.read.is_end_line.Reads as is-end-line-reads
-use Rattle.log.proofs.read.read_drop.Reads as read-drop-reads
-use Rattle.log.proofs.read.read_end.Reads as read-end-reads
 
--- src/read.rt:58:8
 is-end-line-requires : tie.Need-is-end-line-requires
 is-end-line-requires c κs = search needs
 
--- src/read.rt:59:9
 read-end-requires : tie.Need-read-end-requires
 read-end-requires c κs = sym (c .before .is-end-line .ensures) ∙ c .if1 .taken
 
--- src/read.rt:59:9
 returns : tie.Need-returns
 returns c = entry-end _ (c .before .before .is-end-line .ensures) (c .before .if1 .taken) (c .read-end .ensures)
 
--- src/read.rt:61:9
 is-drop-line-requires : tie.Need-is-drop-line-requires
 is-drop-line-requires c κs = search needs
 
--- src/read.rt:62:9
 returns-2 : tie.Need-returns-2
 returns-2 c = entry-3 _ (c .before .before .before .is-end-line .ensures) (c .before .before .if1 .left) (c .before .is-drop-line .ensures) (c .if2 .taken)
 
--- src/read.rt:64:5
 read-drop-requires : tie.Need-read-drop-requires
 read-drop-requires c κs = sym (c .before .is-drop-line .ensures) ∙ not-false _ (c .if2 .left)
 
--- src/read.rt:55:1
 returns-3 : tie.Need-returns-3
 returns-3 c = entry-drop _ (c .before .before .before .before .is-end-line .ensures) (c .before .before .before .if1 .left) (c .before .before .is-drop-line .ensures) (c .before .if2 .left) (c .read-drop .ensures)
 

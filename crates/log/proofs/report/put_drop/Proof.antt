@@ -4,50 +4,34 @@ use Rattle.log.proofs.ReportLaws.{told-kept, drop-task, drop-place, tol
 use borrow.Author.Needs.{needs}
 use Rattle.log.proofs.report.put_drop.Statement.{statement}
 use Rattle.log.proofs.report.put_drop.Tie as tie
-use Rattle.log.proofs.report.put_drop.Reads as reads
-use Rattle.log.proofs.report.put_drop.Lts as lts
-use Rattle.book.proofs.Book.drop.Reads as drop-reads
-use Rattle.log.proofs.line.put_drop_line.Reads as put-drop-line-reads
-use Rattle.log.proofs.line.put_early.Reads as put-early-reads
-use Rattle.log.proofs.line.put_refused.Reads as put-refused-reads
 
--- src/report.rt:74:9
 drop-requires : tie.Need-drop-requires
 drop-requires c κs = search needs
 
--- src/report.rt:78:13
 put-refused-requires : tie.Need-put-refused-requires
 put-refused-requires c κs = search needs
 
--- src/report.rt:79:9
 same-length : tie.Need-same-length
 same-length c = search needs
 
--- src/report.rt:79:9
 returns : tie.Need-returns
 returns c = told-kept _ _ (c .before .before .before .before .before .before .before .before .drop .ensures) (c .before .before .before .before .if1 .taken) (c .before .before .put-refused .ensures)
 
--- src/report.rt:81:14
 sub-k : tie.Need-sub-k
 sub-k c = let h = drop-task _ _ (c .before .before .before .before .drop .ensures) (c .if1 .left) in omega arith
 
--- src/report.rt:81:13
 cast-k : tie.Need-cast-k
 cast-k c = search needs
 
--- src/report.rt:82:9
 put-drop-line-requires : tie.Need-put-drop-line-requires
 put-drop-line-requires c κs = (drop-place _ _ (c .before .before .before .before .before .drop .ensures) (c .before .if1 .left), omega arith)
 
--- src/report.rt:83:9
 put-early-requires : tie.Need-put-early-requires
 put-early-requires c κs = let w = c .before .before .before .put-drop-line .ensures in omega (arith, w .place, w .small, wrote-length w)
 
--- src/report.rt:70:1
 same-length-2 : tie.Need-same-length-2
 same-length-2 c = search needs
 
--- src/report.rt:70:1
 returns-2 : tie.Need-returns-2
 returns-2 c = told-dropped _ _ (c .before .before .before .before .before .before .before .before .before .before .before .before .drop .ensures) (c .before .before .before .before .before .before .before .before .if1 .left) (c .before .before .before .before .before .before .before .before .before .before .before .before .before .before .pre .1) (c .before .before .before .before .before .before .put-drop-line .ensures) (c .before .before .put-early .ensures)
 

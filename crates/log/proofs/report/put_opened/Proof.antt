@@ -7,24 +7,16 @@ use Rattle.log.proofs.WriteLaws.{also, looser, count-below}
 use borrow.Author.Needs.{needs}
 use Rattle.log.proofs.report.put_opened.Statement.{statement}
 use Rattle.log.proofs.report.put_opened.Tie as tie
-use Rattle.log.proofs.report.put_opened.Reads as reads
-use Rattle.log.proofs.report.put_opened.Lts as lts
-use Rattle.log.proofs.line.put_run.Reads as put-run-reads
-use Rattle.log.proofs.report.put_going.Reads as put-going-reads
 
--- src/report.rt:45:9
 put-run-requires : tie.Need-put-run-requires
 put-run-requires c κs = search needs
 
--- src/report.rt:46:5
 put-going-requires : tie.Need-put-going-requires
 put-going-requires c κs = search needs
 
--- src/report.rt:41:1
 same-length : tie.Need-same-length
 same-length c = search needs
 
--- src/report.rt:41:1
 returns : tie.Need-returns
 unfolding openedLog
 returns c = let s = c .before .before .before .before .before .before .before .before .before .before .args in looser {a = 41 + (52 * count (s .book .tasks) (starting (replicate 64 0) (s .book .mark)) + 30)} (omega (arith, count-below (s .book .tasks) (starting (replicate 64 0) (s .book .mark)))) (also (c .before .before .before .before .before .before .before .put-run .ensures) (c .before .before .put-going .ensures))

@@ -4,54 +4,37 @@ use Rattle.log.proofs.ReportLaws.{told-refused, granted-task, granted-p
 use borrow.Author.Needs.{needs}
 use Rattle.log.proofs.report.put_report.Statement.{statement}
 use Rattle.log.proofs.report.put_report.Tie as tie
-use Rattle.log.proofs.report.put_report.Reads as reads
-use Rattle.log.proofs.report.put_report.Lts as lts
-use Rattle.book.proofs.Book.report.Reads as report-reads
-use Rattle.log.proofs.line.put_refused.Reads as put-refused-reads
-use Rattle.log.proofs.line.put_task_line.Reads as put-task-line-reads
-use Rattle.log.proofs.report.put_going.Reads as put-going-reads
 
--- src/report.rt:53:9
 report-requires : tie.Need-report-requires
 report-requires c κs = search needs
 
--- src/report.rt:57:13
 put-refused-requires : tie.Need-put-refused-requires
 put-refused-requires c κs = search needs
 
--- src/report.rt:58:9
 same-length : tie.Need-same-length
 same-length c = search needs
 
--- src/report.rt:58:9
 returns : tie.Need-returns
 returns c = told-refused _ _ _ (c .before .before .before .before .before .before .before .before .report .ensures) (c .before .before .before .before .if1 .taken) (c .before .before .put-refused .ensures)
 
--- src/report.rt:60:14
 sub-k : tie.Need-sub-k
 sub-k c = let h = granted-task _ _ _ (c .before .before .before .before .report .ensures) (c .if1 .left) in omega arith
 
--- src/report.rt:60:13
 cast-k : tie.Need-cast-k
 cast-k c = search needs
 
--- src/report.rt:61:39
 slice-aggregate-put-task-line : tie.Need-slice-aggregate-put-task-line
 slice-aggregate-put-task-line c = search needs
 
--- src/report.rt:61:9
 put-task-line-requires : tie.Need-put-task-line-requires
 put-task-line-requires c κs = (search needs, granted-place _ _ _ (c .before .before .before .before .before .before .before .before .before .before .report .ensures) (c .before .before .before .before .before .before .if1 .left), omega arith)
 
--- src/report.rt:62:9
 put-going-requires : tie.Need-put-going-requires
 put-going-requires c κs = let w = c .before .before .before .before .before .put-task-line .ensures in (granted-tasks _ _ _ (c .before .before .before .before .before .before .before .before .before .before .before .before .before .before .before .before .report .ensures) (c .before .before .before .before .before .before .before .before .before .before .before .before .if1 .left), omega (arith, w .place, w .small, wrote-length w))
 
--- src/report.rt:49:1
 same-length-2 : tie.Need-same-length-2
 same-length-2 c = search needs
 
--- src/report.rt:49:1
 returns-2 : tie.Need-returns-2
 returns-2 c = told-granted _ _ _ (c .before .before .before .before .before .before .before .before .before .before .before .before .before .before .before .before .before .before .before .report .ensures) (c .before .before .before .before .before .before .before .before .before .before .before .before .before .before .before .if1 .left) (c .before .before .before .before .before .before .before .before .before .before .before .before .before .before .before .before .before .before .before .before .before .pre .1) (c .before .before .before .before .before .before .before .before .put-task-line .ensures) (c .before .before .put-going .ensures)
 

@@ -3,27 +3,19 @@ use borrow.Author.Needs.{needs}
 use mathlib.Core.Path.{_∙_}
 use Rattle.plan.proofs.fields.line_code.Statement.{statement}
 use Rattle.plan.proofs.fields.line_code.Tie as tie
-use Rattle.plan.proofs.fields.line_code.Reads as reads
-use Rattle.plan.proofs.fields.line_code.Lts as lts
-use Rattle.plan.proofs.fields.worse_of.Reads as worse-of-reads
 
--- src/fields.rt:153:28
 worse-of-requires : tie.Need-worse-of-requires
 worse-of-requires c κs = search needs
 
--- src/fields.rt:153:9
 worse-of-requires-2 : tie.Need-worse-of-requires-2
 worse-of-requires-2 c κs = search needs
 
--- src/fields.rt:154:23
 worse-of-requires-3 : tie.Need-worse-of-requires-3
 worse-of-requires-3 c κs = search needs
 
--- src/fields.rt:154:5
 worse-of-requires-4 : tie.Need-worse-of-requires-4
 worse-of-requires-4 c κs = search needs
 
--- src/fields.rt:150:1
 returns : tie.Need-returns
 returns c =
     c .worse-of4 .ensures

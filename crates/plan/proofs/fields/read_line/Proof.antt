@@ -6,49 +6,29 @@ use Rattle.text.proofs.Parts.{field-first}
 use Rattle.plan.proofs.LineLaws.{line-cut, line-count, line-word, line-refused, line-in}
 use Rattle.plan.proofs.fields.read_line.Statement.{statement}
 use Rattle.plan.proofs.fields.read_line.Tie as tie
-use Rattle.plan.proofs.fields.read_line.Reads as reads
-use Rattle.plan.proofs.fields.read_line.Lts as lts
-use Rattle.plan.proofs.fields.line_code.Reads as line-code-reads
-use Rattle.plan.proofs.fields.no_line.Reads as no-line-reads
-use Rattle.plan.proofs.fields.read_ranged.Reads as read-ranged-reads
-use Rattle.plan.proofs.fields.read_times.Reads as read-times-reads
-use Rattle.text.proofs.list.read_after.Reads as read-after-reads
-use Rattle.text.proofs.list.read_holds.Reads as read-holds-reads
-use Rattle.text.proofs.part.count_fields.Reads as count-fields-reads
-use Rattle.text.proofs.part.part_before.Reads as part-before-reads
-use Rattle.text.proofs.part.past.Reads as past-reads
-use Rattle.text.proofs.part.same.Reads as same-reads
 
--- src/fields.rt:162:8
 count-fields-requires : tie.Need-count-fields-requires
 count-fields-requires c κs = search needs
 
--- src/fields.rt:163:9
 no-line-requires : tie.Need-no-line-requires
 no-line-requires c κs = search needs
 
--- src/fields.rt:163:9
 returns : tie.Need-returns
 returns c =
     c .no-line .ensures ∙ line-count _ _ _ _ (λ e. c .before .if1 .taken (c .before .before .count-fields .ensures ∙ e))
 
--- src/fields.rt:165:9
 part-before-requires : tie.Need-part-before-requires
 part-before-requires c κs = search needs
 
--- src/fields.rt:166:20
 slice-aggregate-same : tie.Need-slice-aggregate-same
 slice-aggregate-same c = search needs
 
--- src/fields.rt:166:9
 same-requires : tie.Need-same-requires
 same-requires c κs = search needs
 
--- src/fields.rt:167:9
 no-line-requires-2 : tie.Need-no-line-requires-2
 no-line-requires-2 c κs = search needs
 
--- src/fields.rt:167:9
 returns-2 : tie.Need-returns-2
 returns-2 c =
     c .no-line2 .ensures
@@ -56,83 +36,63 @@ returns-2 c =
     (rw ((c .before .before .before .before .part-before .ensures) ∙ sym (field-first 9 _)) at (c .before .before .same .ensures))
     (c .before .if2 .taken)
 
--- src/fields.rt:169:9
 past-requires : tie.Need-past-requires
 past-requires c κs = search needs
 
--- src/fields.rt:170:9
 part-before-requires-2 : tie.Need-part-before-requires-2
 part-before-requires-2 c κs = search needs
 
--- src/fields.rt:171:9
 past-requires-2 : tie.Need-past-requires-2
 past-requires-2 c κs = search needs
 
--- src/fields.rt:172:9
 part-before-requires-3 : tie.Need-part-before-requires-3
 part-before-requires-3 c κs = search needs
 
--- src/fields.rt:173:9
 past-requires-3 : tie.Need-past-requires-3
 past-requires-3 c κs = search needs
 
--- src/fields.rt:174:9
 part-before-requires-4 : tie.Need-part-before-requires-4
 part-before-requires-4 c κs = search needs
 
--- src/fields.rt:175:9
 past-requires-4 : tie.Need-past-requires-4
 past-requires-4 c κs = search needs
 
--- src/fields.rt:176:9
 part-before-requires-5 : tie.Need-part-before-requires-5
 part-before-requires-5 c κs = search needs
 
--- src/fields.rt:177:9
 past-requires-5 : tie.Need-past-requires-5
 past-requires-5 c κs = search needs
 
--- src/fields.rt:178:9
 part-before-requires-6 : tie.Need-part-before-requires-6
 part-before-requires-6 c κs = search needs
 
--- src/fields.rt:179:9
 past-requires-6 : tie.Need-past-requires-6
 past-requires-6 c κs = search needs
 
--- src/fields.rt:180:9
 read-ranged-requires : tie.Need-read-ranged-requires
 read-ranged-requires c κs = omega (arith, (c .before .before .before .before .before .before .before .before .before .before .before .before .before .before .before .before .before .before .pre .2))
 
--- src/fields.rt:181:9
 read-ranged-requires-2 : tie.Need-read-ranged-requires-2
 read-ranged-requires-2 c κs = omega (arith, (c .before .before .before .before .before .before .before .before .before .before .before .before .before .before .before .before .before .before .before .pre .0))
 
--- src/fields.rt:182:9
 read-times-requires : tie.Need-read-times-requires
 read-times-requires c κs = search needs
 
--- src/fields.rt:183:9
 read-holds-requires : tie.Need-read-holds-requires
 read-holds-requires c κs = search needs
 
--- src/fields.rt:184:28
 part-before-requires-7 : tie.Need-part-before-requires-7
 part-before-requires-7 c κs = search needs
 
--- src/fields.rt:184:9
 read-after-requires : tie.Need-read-after-requires
 read-after-requires c κs = search needs
 
--- src/fields.rt:185:9
 line-code-requires : tie.Need-line-code-requires
 line-code-requires c κs = search needs
 
--- src/fields.rt:187:9
 no-line-requires-3 : tie.Need-no-line-requires-3
 no-line-requires-3 c κs = search needs
 
--- src/fields.rt:187:9
 returns-3 : tie.Need-returns-3
 returns-3 c =
     let cut =
@@ -164,7 +124,6 @@ returns-3 c =
     (c .before .before .line-code .ensures)
     (c .before .if3 .taken)
 
--- src/fields.rt:158:1
 returns-4 : tie.Need-returns-4
 returns-4 c =
     let cut =

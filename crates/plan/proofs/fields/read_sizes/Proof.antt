@@ -3,56 +3,38 @@ use Rattle.plan.proofs.LineLaws.{sizes-count, sizes-words, sizes-off, s
 use borrow.Author.Needs.{needs}
 use Rattle.plan.proofs.fields.read_sizes.Statement.{statement}
 use Rattle.plan.proofs.fields.read_sizes.Tie as tie
-use Rattle.plan.proofs.fields.read_sizes.Reads as reads
-use Rattle.plan.proofs.fields.read_sizes.Lts as lts
-use Rattle.plan.proofs.fields.no_sizes.Reads as no-sizes-reads
-use Rattle.plan.proofs.fields.read_ranged.Reads as read-ranged-reads
-use Rattle.text.proofs.part.count_fields.Reads as count-fields-reads
-use Rattle.text.proofs.part.field.Reads as field-reads
-use Rattle.text.proofs.part.same.Reads as same-reads
 
--- src/fields.rt:107:8
 count-fields-requires : tie.Need-count-fields-requires
 count-fields-requires c κs = search needs
 
--- src/fields.rt:108:9
 no-sizes-requires : tie.Need-no-sizes-requires
 no-sizes-requires c κs = search needs
 
--- src/fields.rt:108:9
 returns : tie.Need-returns
 returns c =
     c .no-sizes .ensures ∙ sizes-count _ (λ e. c .before .if1 .taken (c .before .before .count-fields .ensures ∙ e))
 
--- src/fields.rt:110:15
 field-requires : tie.Need-field-requires
 field-requires c κs = search needs
 
--- src/fields.rt:110:31
 slice-aggregate-same : tie.Need-slice-aggregate-same
 slice-aggregate-same c = search needs
 
--- src/fields.rt:110:10
 same-requires : tie.Need-same-requires
 same-requires c κs = search needs
 
--- src/fields.rt:110:47
 field-requires-2 : tie.Need-field-requires-2
 field-requires-2 c κs = search needs
 
--- src/fields.rt:110:63
 slice-aggregate-same-2 : tie.Need-slice-aggregate-same-2
 slice-aggregate-same-2 c = search needs
 
--- src/fields.rt:110:42
 same-requires-2 : tie.Need-same-requires-2
 same-requires-2 c κs = search needs
 
--- src/fields.rt:111:9
 no-sizes-requires-2 : tie.Need-no-sizes-requires-2
 no-sizes-requires-2 c κs = search needs
 
--- src/fields.rt:111:9
 returns-2 : tie.Need-returns-2
 returns-2 c =
     c .no-sizes2 .ensures
@@ -60,27 +42,21 @@ returns-2 c =
     (rw (c .before .before .before .before .before .before .before .field .ensures) at (c .before .before .before .before .before .same .ensures))
     (rw (c .before .before .before .before .field2 .ensures) at (c .before .before .same2 .ensures)) (c .before .if2 .taken)
 
--- src/fields.rt:113:30
 field-requires-3 : tie.Need-field-requires-3
 field-requires-3 c κs = search needs
 
--- src/fields.rt:113:9
 read-ranged-requires : tie.Need-read-ranged-requires
 read-ranged-requires c κs = search needs
 
--- src/fields.rt:114:29
 field-requires-4 : tie.Need-field-requires-4
 field-requires-4 c κs = search needs
 
--- src/fields.rt:114:9
 read-ranged-requires-2 : tie.Need-read-ranged-requires-2
 read-ranged-requires-2 c κs = search needs
 
--- src/fields.rt:116:9
 no-sizes-requires-3 : tie.Need-no-sizes-requires-3
 no-sizes-requires-3 c κs = search needs
 
--- src/fields.rt:116:9
 returns-3 : tie.Need-returns-3
 returns-3 c =
     c .no-sizes3 .ensures
@@ -90,7 +66,6 @@ returns-3 c =
     (rw (c .before .before .before .before .before .before .before .field3 .ensures) at (c .before .before .before .before .before .before .read-ranged .ensures))
     (rw (c .before .before .before .before .before .field4 .ensures) at (c .before .before .before .before .read-ranged2 .ensures)) (c .before .if3 .taken)
 
--- src/fields.rt:104:1
 returns-4 : tie.Need-returns-4
 returns-4 c =
     sizes-in _ (sym (c .before .before .before .before .before .before .before .before .before .before .before .before .before .before .before .count-fields .ensures) ∙ c .before .before .before .before .before .before .before .before .before .before .before .before .before .before .if1 .left)

@@ -3,45 +3,32 @@ use Rattle.plan.proofs.FieldLaws.{times-refused, times-off, times-in}
 use borrow.Author.Needs.{needs}
 use Rattle.plan.proofs.fields.read_times.Statement.{statement}
 use Rattle.plan.proofs.fields.read_times.Tie as tie
-use Rattle.plan.proofs.fields.read_times.Reads as reads
-use Rattle.plan.proofs.fields.read_times.Lts as lts
-use Rattle.plan.proofs.fields.no_times.Reads as no-times-reads
-use Rattle.plan.proofs.fields.read_ranged.Reads as read-ranged-reads
-use Rattle.plan.proofs.fields.worse_of.Reads as worse-of-reads
 
--- src/fields.rt:77:9
 read-ranged-requires : tie.Need-read-ranged-requires
 read-ranged-requires c κs = search needs
 
--- src/fields.rt:78:9
 read-ranged-requires-2 : tie.Need-read-ranged-requires-2
 read-ranged-requires-2 c κs = search needs
 
--- src/fields.rt:79:9
 worse-of-requires : tie.Need-worse-of-requires
 worse-of-requires c κs = search needs
 
--- src/fields.rt:81:9
 no-times-requires : tie.Need-no-times-requires
 no-times-requires c κs = search needs
 
--- src/fields.rt:81:9
 returns : tie.Need-returns
 returns c =
     c .no-times .ensures
     ∙ times-refused _ _ (c .before .before .before .before .read-ranged .ensures) (c .before .before .before .read-ranged2 .ensures) (c .before .before .worse-of .ensures) (c .before .if1 .taken)
 
--- src/fields.rt:84:9
 no-times-requires-2 : tie.Need-no-times-requires-2
 no-times-requires-2 c κs = search needs
 
--- src/fields.rt:84:9
 returns-2 : tie.Need-returns-2
 returns-2 c =
     c .no-times2 .ensures
     ∙ times-off _ _ (c .before .before .before .before .before .before .before .read-ranged .ensures) (c .before .before .before .before .before .before .read-ranged2 .ensures) (c .before .before .before .before .before .worse-of .ensures) (c .before .before .before .before .if1 .left) (c .before .if2 .taken)
 
--- src/fields.rt:74:1
 returns-3 : tie.Need-returns-3
 returns-3 c =
     times-in _ _ (c .before .before .before .before .before .before .read-ranged .ensures) (c .before .before .before .before .before .read-ranged2 .ensures) (c .before .before .before .before .worse-of .ensures) (c .before .before .before .if1 .left) (c .if2 .left)

@@ -7,9 +7,6 @@ use Rattle.plan.proofs.PairLaws.{RowsFrom, PairsFrom, pair-passed, row-
 use borrow.Author.Needs.{needs}
 use Rattle.plan.proofs.pairs.first_fault.Statement.{statement}
 use Rattle.plan.proofs.pairs.first_fault.Tie as tie
-use Rattle.plan.proofs.pairs.first_fault.Reads as reads
-use Rattle.plan.proofs.pairs.first_fault.Lts as lts
-use Rattle.plan.proofs.pairs.pair_code.Reads as pair-code-reads
 
 abbrev Inv-loop : tie.InvT-loop
 Inv-loop board begin finish holds after tasks a b₀ b =
@@ -25,17 +22,14 @@ Inv-search board begin finish holds after tasks a₀ a =
 abbrev μ-search : tie.MeasureT-search
 μ-search board begin finish holds after tasks a₀ a = tasks - a
 
--- src/pairs.rt:173:5
 search-holds : tie.Need-search-holds Inv-loop μ-loop Inv-search μ-search
 unfolding firstFault
 search-holds c = refl
 
--- src/pairs.rt:182:9
 loop-holds : tie.Need-loop-holds Inv-loop μ-loop Inv-search μ-search
 unfolding rowFault
 loop-holds c = refl
 
--- src/pairs.rt:183:17
 pair-code-requires : tie.Need-pair-code-requires Inv-loop μ-loop Inv-search μ-search
 pair-code-requires c κs =
     let low = c .before .before .if1 .left in
@@ -47,54 +41,42 @@ pair-code-requires c κs =
       rise-b = c .before .before .before .before .pre .rise _ (c .loop-test .taken);
     }
 
--- src/pairs.rt:187:29
 add-t13 : tie.Need-add-t13 Inv-loop μ-loop Inv-search μ-search
 add-t13 c = search needs
 
--- src/pairs.rt:187:28
 cast-t14 : tie.Need-cast-t14 Inv-loop μ-loop Inv-search μ-search
 cast-t14 c = search needs
 
--- src/pairs.rt:188:30
 add-t15 : tie.Need-add-t15 Inv-loop μ-loop Inv-search μ-search
 add-t15 c = search needs
 
--- src/pairs.rt:188:29
 cast-t16 : tie.Need-cast-t16 Inv-loop μ-loop Inv-search μ-search
 cast-t16 c = search needs
 
--- src/pairs.rt:191:13
 add-b : tie.Need-add-b Inv-loop μ-loop Inv-search μ-search
 add-b c = search needs
 
--- src/pairs.rt:182:9
 loop-less : tie.Need-loop-less Inv-loop μ-loop Inv-search μ-search
 loop-less c = search needs
 
--- src/pairs.rt:182:9
 loop-again : tie.Need-loop-again Inv-loop μ-loop Inv-search μ-search
 loop-again c =
     pair-passed _ _ _ _ (c .before .before .before .loop .inv) (c .before .before .loop-test .taken)
     (c .before .pair-code .ensures) (c .if2 .left)
 
--- src/pairs.rt:193:9
 add-a : tie.Need-add-a Inv-loop μ-loop Inv-search μ-search
 add-a c = search needs
 
--- src/pairs.rt:173:5
 search-less : tie.Need-search-less Inv-loop μ-loop Inv-search μ-search
 search-less c = search needs
 
--- src/pairs.rt:173:5
 search-again : tie.Need-search-again Inv-loop μ-loop Inv-search μ-search
 search-again c =
     row-passed _ _ _ _ (c .before .before .before .search .inv) (c .before .before .if1 .left) (c .before .loop .inv) (c .loop-test .left)
 
--- src/pairs.rt:161:1
 returns : tie.Need-returns Inv-loop μ-loop Inv-search μ-search
 returns c = none-found _ _ _ (c .before .search .inv) (c .if1 .taken)
 
--- src/pairs.rt:161:1
 returns-2 : tie.Need-returns-2 Inv-loop μ-loop Inv-search μ-search
 returns-2 c =
     pair-found _ _ _ _ (c .before .before .before .before .before .search .inv) (c .before .before .before .before .if1 .left)

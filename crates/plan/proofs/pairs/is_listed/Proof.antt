@@ -11,8 +11,6 @@ use Rattle.plan.specs.Pairs.{isListed}
 use borrow.Author.Needs.{needs}
 use Rattle.plan.proofs.pairs.is_listed.Statement.{statement}
 use Rattle.plan.proofs.pairs.is_listed.Tie as tie
-use Rattle.plan.proofs.pairs.is_listed.Reads as reads
-use Rattle.plan.proofs.pairs.is_listed.Lts as lts
 
 abbrev Inv-loop : tie.InvT-loop
 Inv-loop list number i₀ i =
@@ -21,40 +19,32 @@ Inv-loop list number i₀ i =
 abbrev μ-loop : tie.MeasureT-loop
 μ-loop list number i₀ i = length list - i
 
--- src/pairs.rt:73:5
 loop-holds : tie.Need-loop-holds Inv-loop μ-loop
 unfolding isListed
 loop-holds c = (search needs, refl)
 
--- src/pairs.rt:74:17
 shared-slice-read-n : tie.Need-shared-slice-read-n Inv-loop μ-loop
 shared-slice-read-n c = search needs
 
--- src/pairs.rt:76:13
 returns : tie.Need-returns Inv-loop μ-loop
 returns c = search-stop _ _ _ (c .before .before .before .loop .inv .1) (c .before .before .loop-test .taken) (c .if1 .taken)
 
--- src/pairs.rt:79:13
 returns-2 : tie.Need-returns-2 Inv-loop μ-loop
 returns-2 c =
     search-hit _ _ _ (c .before .before .before .before .loop .inv .1) (c .before .before .before .loop-test .taken) (c .before .if1 .left) (eq-eqb _ _ (c .if2 .taken))
 
--- src/pairs.rt:81:9
 add-i : tie.Need-add-i Inv-loop μ-loop
 add-i c = search needs
 
--- src/pairs.rt:73:5
 loop-less : tie.Need-loop-less Inv-loop μ-loop
 loop-less c = search needs
 
--- src/pairs.rt:73:5
 loop-again : tie.Need-loop-again Inv-loop μ-loop
 loop-again c = (
   search needs,
   search-pass _ _ _ (c .before .before .before .before .loop .inv .1) (c .before .before .before .loop-test .taken) (c .before .if1 .left) (ne-eqb _ _ (c .if2 .left)),
 )
 
--- src/pairs.rt:69:1
 returns-3 : tie.Need-returns-3 Inv-loop μ-loop
 returns-3 c = search-out _ _ _ (c .before .loop .inv .1) (c .loop-test .left)
 

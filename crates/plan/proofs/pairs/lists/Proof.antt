@@ -2,43 +2,31 @@ use Rattle.plan.proofs.ItemLaws.{part-row}
 use borrow.Author.Needs.{needs}
 use Rattle.plan.proofs.pairs.lists.Statement.{statement}
 use Rattle.plan.proofs.pairs.lists.Tie as tie
-use Rattle.plan.proofs.pairs.lists.Reads as reads
-use Rattle.plan.proofs.pairs.lists.Lts as lts
-use Rattle.plan.proofs.pairs.is_listed.Reads as is-listed-reads
 
--- src/pairs.rt:91:13
 mul-s : tie.Need-mul-s
 mul-s c = search needs
 
--- src/pairs.rt:92:23
 add-is-listed : tie.Need-add-is-listed
 add-is-listed c = search needs
 
--- src/pairs.rt:92:15
 sub-is-listed : tie.Need-sub-is-listed
 sub-is-listed c = search needs
 
--- src/pairs.rt:92:15
 part-is-listed-start : tie.Need-part-is-listed-start
 part-is-listed-start c = search needs
 
--- src/pairs.rt:92:15
 part-is-listed-end : tie.Need-part-is-listed-end
 part-is-listed-end c = search needs
 
--- src/pairs.rt:92:33
 add-is-listed-2 : tie.Need-add-is-listed-2
 add-is-listed-2 c = search needs
 
--- src/pairs.rt:92:32
 cast-is-listed : tie.Need-cast-is-listed
 cast-is-listed c = search needs
 
--- src/pairs.rt:92:5
 is-listed-requires : tie.Need-is-listed-requires
 is-listed-requires c κs = search needs
 
--- src/pairs.rt:86:1
 returns : tie.Need-returns
 returns c = rw part-row at (c .is-listed .ensures)
 

@@ -6,10 +6,6 @@ use Rattle.plan.proofs.MergeLaws.{Walk, walk-start, this-stop, this-out
 use borrow.Author.Needs.{needs}
 use Rattle.plan.proofs.pairs.lists_clash.Statement.{statement}
 use Rattle.plan.proofs.pairs.lists_clash.Tie as tie
-use Rattle.plan.proofs.pairs.lists_clash.Reads as reads
-use Rattle.plan.proofs.pairs.lists_clash.Lts as lts
-use Rattle.plan.proofs.pairs.holds_clash.Reads as holds-clash-reads
-use Rattle.plan.proofs.pairs.one_if.Reads as one-if-reads
 
 abbrev Inv-loop : tie.InvT-loop
 Inv-loop these those i₀ j₀ i j =
@@ -18,63 +14,49 @@ Inv-loop these those i₀ j₀ i j =
 abbrev μ-loop : tie.MeasureT-loop
 μ-loop these those i₀ j₀ i j = (length these - i) + (length those - j)
 
--- src/pairs.rt:37:5
 loop-holds : tie.Need-loop-holds Inv-loop μ-loop
 loop-holds c = (search needs, search needs, walk-start _ _ (c .before .before .pre .0) (c .before .before .pre .1))
 
--- src/pairs.rt:38:17
 shared-slice-read-g : tie.Need-shared-slice-read-g Inv-loop μ-loop
 shared-slice-read-g c = search needs
 
--- src/pairs.rt:40:13
 returns : tie.Need-returns Inv-loop μ-loop
 returns c = this-stop _ _ _ _ (c .before .before .before .loop .inv .2) (c .before .before .loop-test .taken) (c .if1 .taken)
 
--- src/pairs.rt:43:13
 returns-2 : tie.Need-returns-2 Inv-loop μ-loop
 returns-2 c = that-out _ _ _ _ (c .before .before .before .before .loop .inv .2) (c .if2 .taken)
 
--- src/pairs.rt:45:17
 shared-slice-read-h : tie.Need-shared-slice-read-h Inv-loop μ-loop
 shared-slice-read-h c = search needs
 
--- src/pairs.rt:47:13
 returns-3 : tie.Need-returns-3 Inv-loop μ-loop
 returns-3 c =
     that-stop _ _ _ _ (c .before .before .before .before .before .before .loop .inv .2) (c .before .before .before .before .before .loop-test .taken) (c .before .before .before .if1 .left) (c .before .before .if2 .left) (c .if3 .taken)
 
--- src/pairs.rt:49:12
 holds-clash-requires : tie.Need-holds-clash-requires Inv-loop μ-loop
 holds-clash-requires c κs = search needs
 
--- src/pairs.rt:50:13
 returns-4 : tie.Need-returns-4 Inv-loop μ-loop
 returns-4 c =
     walk-hit _ _ _ _ (c .before .before .before .before .before .before .before .before .loop .inv .2) (c .before .before .before .before .before .before .before .loop-test .taken) (c .before .before .before .before .before .if1 .left) (c .before .before .before .before .if2 .left) (c .before .before .if3 .left)
     (c .before .holds-clash .ensures) (c .if4 .taken)
 
--- src/pairs.rt:53:14
 one-if-requires : tie.Need-one-if-requires Inv-loop μ-loop
 one-if-requires c κs = search needs
 
--- src/pairs.rt:53:9
 add-i : tie.Need-add-i Inv-loop μ-loop
 add-i c = let small = one-small _ (c .one-if .ensures) in omega arith
 
--- src/pairs.rt:54:14
 one-if-requires-2 : tie.Need-one-if-requires-2 Inv-loop μ-loop
 one-if-requires-2 c κs = search needs
 
--- src/pairs.rt:54:9
 add-j : tie.Need-add-j Inv-loop μ-loop
 add-j c = let small = one-small _ (c .one-if2 .ensures) in omega (arith, c .before .before .before .before .before .before .if2 .left)
 
--- src/pairs.rt:37:5
 loop-less : tie.Need-loop-less Inv-loop μ-loop
 loop-less c =
     let one = one-goes _ (c .before .one-if .ensures) (c .one-if2 .ensures) in omega (arith, c .before .before .before .before .before .before .before .before .before .loop-test .taken, c .before .before .before .before .before .before .if2 .left)
 
--- src/pairs.rt:37:5
 loop-again : tie.Need-loop-again Inv-loop μ-loop
 loop-again c =
     let one = one-goes _ (c .before .one-if .ensures) (c .one-if2 .ensures) in (
@@ -84,7 +66,6 @@ loop-again c =
           (c .before .before .before .holds-clash .ensures) (c .before .before .if4 .left) refl (c .before .one-if .ensures) (c .one-if2 .ensures),
     )
 
--- src/pairs.rt:31:1
 returns-5 : tie.Need-returns-5 Inv-loop μ-loop
 returns-5 c = this-out _ _ _ _ (c .before .loop .inv .2) (c .loop-test .left)
 

@@ -1,19 +1,13 @@
 use borrow.Author.Needs.{needs}
 use Rattle.plan.proofs.pairs.meet_on_drive.Statement.{statement}
 use Rattle.plan.proofs.pairs.meet_on_drive.Tie as tie
-use Rattle.plan.proofs.pairs.meet_on_drive.Reads as reads
-use Rattle.plan.proofs.pairs.meet_on_drive.Lts as lts
-use Rattle.plan.proofs.pairs.clash_by_drive.Reads as clash-by-drive-reads
 
--- src/pairs.rt:109:9
 clash-by-drive-requires : tie.Need-clash-by-drive-requires
 clash-by-drive-requires c κs = search needs
 
--- src/pairs.rt:109:9
 returns : tie.Need-returns
 returns c = rw (c .before .if1 .taken) (c .clash-by-drive .ensures)
 
--- src/pairs.rt:104:1
 returns-2 : tie.Need-returns-2
 returns-2 c = rw (c .if1 .left)
 

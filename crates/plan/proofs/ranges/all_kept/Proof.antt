@@ -8,9 +8,6 @@ use Rattle.plan.specs.Arrays.{planWith}
 use borrow.Author.Needs.{needs}
 use Rattle.plan.proofs.ranges.all_kept.Statement.{statement}
 use Rattle.plan.proofs.ranges.all_kept.Tie as tie
-use Rattle.plan.proofs.ranges.all_kept.Reads as reads
-use Rattle.plan.proofs.ranges.all_kept.Lts as lts
-use Rattle.plan.proofs.ranges.task_ok.Reads as task-ok-reads
 
 abbrev Inv-loop : tie.InvT-loop
 Inv-loop boards tasks board begin finish holds after n k₀ k =
@@ -19,34 +16,27 @@ Inv-loop boards tasks board begin finish holds after n k₀ k =
 abbrev μ-loop : tie.MeasureT-loop
 μ-loop boards tasks board begin finish holds after n k₀ k = n - k
 
--- src/ranges.rt:143:5
 loop-holds : tie.Need-loop-holds Inv-loop μ-loop
 unfolding every
 loop-holds c = refl
 
--- src/ranges.rt:144:13
 task-ok-requires : tie.Need-task-ok-requires Inv-loop μ-loop
 task-ok-requires c κs = search needs
 
--- src/ranges.rt:145:13
 returns : tie.Need-returns Inv-loop μ-loop
 returns c =
     sym (every-not _ _ _ (c .before .before .loop-test .taken) (sym (c .before .task-ok .ensures) ∙ not-true _ (c .if1 .taken)))
 
--- src/ranges.rt:143:9
 add-k : tie.Need-add-k Inv-loop μ-loop
 add-k c = search needs
 
--- src/ranges.rt:143:5
 loop-less : tie.Need-loop-less Inv-loop μ-loop
 loop-less c = search needs
 
--- src/ranges.rt:143:5
 loop-again : tie.Need-loop-again Inv-loop μ-loop
 loop-again c =
     every-pass _ _ (c .before .before .before .loop .inv) (sym (c .before .task-ok .ensures) ∙ not-false _ (c .if1 .left))
 
--- src/ranges.rt:130:1
 returns-2 : tie.Need-returns-2 Inv-loop μ-loop
 returns-2 c = every-out _ _ _ (c .before .loop .inv) (c .loop-test .left)
 

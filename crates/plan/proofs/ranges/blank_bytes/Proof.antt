@@ -4,8 +4,6 @@ use Rattle.plan.proofs.ItemLaws.{BlankRest, blank-start, blank-hit, bla
 use borrow.Author.Needs.{needs}
 use Rattle.plan.proofs.ranges.blank_bytes.Statement.{statement}
 use Rattle.plan.proofs.ranges.blank_bytes.Tie as tie
-use Rattle.plan.proofs.ranges.blank_bytes.Reads as reads
-use Rattle.plan.proofs.ranges.blank_bytes.Lts as lts
 
 abbrev Inv-loop : tie.InvT-loop
 Inv-loop list n i₀ i = BlankRest list n i
@@ -13,31 +11,24 @@ Inv-loop list n i₀ i = BlankRest list n i
 abbrev μ-loop : tie.MeasureT-loop
 μ-loop list n i₀ i = length list - i
 
--- src/ranges.rt:17:5
 loop-holds : tie.Need-loop-holds Inv-loop μ-loop
 loop-holds c = blank-start _ _
 
--- src/ranges.rt:18:12
 shared-slice-read-if1 : tie.Need-shared-slice-read-if1 Inv-loop μ-loop
 shared-slice-read-if1 c = search needs
 
--- src/ranges.rt:19:13
 returns : tie.Need-returns Inv-loop μ-loop
 returns c = blank-hit _ _ _ (c .before .before .before .loop .inv) (c .before .before .loop-test .taken) (c .if1 .taken)
 
--- src/ranges.rt:21:9
 add-i : tie.Need-add-i Inv-loop μ-loop
 add-i c = search needs
 
--- src/ranges.rt:17:5
 loop-less : tie.Need-loop-less Inv-loop μ-loop
 loop-less c = search needs
 
--- src/ranges.rt:17:5
 loop-again : tie.Need-loop-again Inv-loop μ-loop
 loop-again c = blank-pass _ _ _ (c .before .before .before .loop .inv) (c .before .before .loop-test .taken) (c .if1 .left)
 
--- src/ranges.rt:13:1
 returns-2 : tie.Need-returns-2 Inv-loop μ-loop
 returns-2 c = blank-out _ _ _ (c .before .loop .inv) (c .loop-test .left)
 

@@ -4,8 +4,6 @@ use Rattle.plan.proofs.ItemLaws.{BlankRest, blank-start, blank-hit, bla
 use borrow.Author.Needs.{needs}
 use Rattle.plan.proofs.ranges.blank_ticks.Statement.{statement}
 use Rattle.plan.proofs.ranges.blank_ticks.Tie as tie
-use Rattle.plan.proofs.ranges.blank_ticks.Reads as reads
-use Rattle.plan.proofs.ranges.blank_ticks.Lts as lts
 
 abbrev Inv-loop : tie.InvT-loop
 Inv-loop list n i₀ i = BlankRest list n i
@@ -13,35 +11,27 @@ Inv-loop list n i₀ i = BlankRest list n i
 abbrev μ-loop : tie.MeasureT-loop
 μ-loop list n i₀ i = length list - i
 
--- src/ranges.rt:30:5
 loop-holds : tie.Need-loop-holds Inv-loop μ-loop
 loop-holds c = blank-start _ _
 
--- src/ranges.rt:31:12
 mul-if1 : tie.Need-mul-if1 Inv-loop μ-loop
 mul-if1 c = search needs
 
--- src/ranges.rt:31:12
 shared-slice-read-if1 : tie.Need-shared-slice-read-if1 Inv-loop μ-loop
 shared-slice-read-if1 c = search needs
 
--- src/ranges.rt:32:13
 returns : tie.Need-returns Inv-loop μ-loop
 returns c = blank-hit _ _ _ (c .before .before .before .loop .inv) (c .before .before .loop-test .taken) (c .if1 .taken)
 
--- src/ranges.rt:34:9
 add-i : tie.Need-add-i Inv-loop μ-loop
 add-i c = search needs
 
--- src/ranges.rt:30:5
 loop-less : tie.Need-loop-less Inv-loop μ-loop
 loop-less c = search needs
 
--- src/ranges.rt:30:5
 loop-again : tie.Need-loop-again Inv-loop μ-loop
 loop-again c = blank-pass _ _ _ (c .before .before .before .loop .inv) (c .before .before .loop-test .taken) (c .if1 .left)
 
--- src/ranges.rt:26:1
 returns-2 : tie.Need-returns-2 Inv-loop μ-loop
 returns-2 c = blank-out _ _ _ (c .before .loop .inv) (c .loop-test .left)
 

@@ -4,40 +4,28 @@ use mathlib.Core.Path.{ap, _∙_}
 use Rattle.plan.specs.Answer.{isGranted}
 use Rattle.plan.specs.declared.Answer.{Answer}
 use Rattle.plan.proofs.RangeLaws.{few-tasks, refused-sizes, refused-ranges, judged-by-pairs, kept-rises}
-use borrow.Author.Needs.{needs}
 use Rattle.plan.proofs.ranges.is_accepted.Statement.{statement}
 use Rattle.plan.proofs.ranges.is_accepted.Tie as tie
-use Rattle.plan.proofs.ranges.is_accepted.Reads as reads
-use Rattle.plan.proofs.ranges.is_accepted.Lts as lts
-use Rattle.plan.proofs.pairs.first_fault.Reads as first-fault-reads
-use Rattle.plan.proofs.ranges.all_kept.Reads as all-kept-reads
-use Rattle.plan.proofs.ranges.past_blank.Reads as past-blank-reads
 
--- src/ranges.rt:180:9
 returns : tie.Need-returns
 returns c = refused-sizes _ (c .if1 .taken)
 
--- src/ranges.rt:182:10
 all-kept-requires : tie.Need-all-kept-requires
 all-kept-requires c κs = few-tasks (c .before .args .boards) (c .before .args .tasks) (c .if1 .left)
 
--- src/ranges.rt:183:11
 past-blank-requires : tie.Need-past-blank-requires
 past-blank-requires c κs = few-tasks (c .before .before .args .boards) (c .before .before .args .tasks) (c .before .if1 .left)
 
--- src/ranges.rt:185:9
 returns-2 : tie.Need-returns-2
 returns-2 c =
     refused-ranges _ (c .before .before .before .if1 .left) (c .before .before .all-kept .ensures) (c .before .past-blank .ensures)
     (c .if2 .taken)
 
--- src/ranges.rt:187:9
 first-fault-requires : tie.Need-first-fault-requires
 first-fault-requires c κs =
     kept-rises (planWith (c .before .before .before .before .args .boards) (c .before .before .before .before .args .tasks) (now (c .before .before .before .before .args .board)) (now (c .before .before .before .before .args .begin)) (now (c .before .before .before .before .args .finish)) (now (c .before .before .before .before .args .holds)) (now (c .before .before .before .before .args .after))) (c .before .before .before .if1 .left) (c .before .before .all-kept .ensures) (c .before .past-blank .ensures) (c .if2 .left)
     (few-tasks (c .before .before .before .before .args .boards) (c .before .before .before .before .args .tasks) (c .before .before .before .if1 .left))
 
--- src/ranges.rt:168:1
 returns-3 : tie.Need-returns-3
 returns-3 c =
     ap (λ (x : Answer). isGranted x) (c .before .first-fault .ensures)

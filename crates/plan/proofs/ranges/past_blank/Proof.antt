@@ -1,40 +1,28 @@
 use borrow.Author.Needs.{needs}
 use Rattle.plan.proofs.ranges.past_blank.Statement.{statement}
 use Rattle.plan.proofs.ranges.past_blank.Tie as tie
-use Rattle.plan.proofs.ranges.past_blank.Reads as reads
-use Rattle.plan.proofs.ranges.past_blank.Lts as lts
-use Rattle.plan.proofs.ranges.blank_bytes.Reads as blank-bytes-reads
-use Rattle.plan.proofs.ranges.blank_ticks.Reads as blank-ticks-reads
 
--- src/ranges.rt:149:5
 blank-bytes-requires : tie.Need-blank-bytes-requires
 blank-bytes-requires c κs = search needs
 
--- src/ranges.rt:150:12
 blank-ticks-requires : tie.Need-blank-ticks-requires
 blank-ticks-requires c κs = search needs
 
--- src/ranges.rt:150:37
 blank-ticks-requires-2 : tie.Need-blank-ticks-requires-2
 blank-ticks-requires-2 c κs = search needs
 
--- src/ranges.rt:150:82
 mul-blank-bytes : tie.Need-mul-blank-bytes
 mul-blank-bytes c = search needs
 
--- src/ranges.rt:150:63
 blank-bytes-requires-2 : tie.Need-blank-bytes-requires-2
 blank-bytes-requires-2 c κs = search needs
 
--- src/ranges.rt:150:111
 mul-blank-bytes-2 : tie.Need-mul-blank-bytes-2
 mul-blank-bytes-2 c = search needs
 
--- src/ranges.rt:150:92
 blank-bytes-requires-3 : tie.Need-blank-bytes-requires-3
 blank-bytes-requires-3 c κs = search needs
 
--- src/ranges.rt:137:1
 returns : tie.Need-returns
 returns c =
     rw (

@@ -9,9 +9,6 @@ use Rattle.plan.proofs.ItemLaws.{rise-stop, rise-out, rise-fail, rise-p
 use borrow.Author.Needs.{needs}
 use Rattle.plan.proofs.ranges.rises.Statement.{statement}
 use Rattle.plan.proofs.ranges.rises.Tie as tie
-use Rattle.plan.proofs.ranges.rises.Reads as reads
-use Rattle.plan.proofs.ranges.rises.Lts as lts
-use Rattle.plan.proofs.ranges.key.Reads as key-reads
 
 abbrev Inv-loop : tie.InvT-loop
 Inv-loop list drives high last₀ i₀ last i =
@@ -20,41 +17,32 @@ Inv-loop list drives high last₀ i₀ last i =
 abbrev μ-loop : tie.MeasureT-loop
 μ-loop list drives high last₀ i₀ last i = length list - i
 
--- src/ranges.rt:56:5
 loop-holds : tie.Need-loop-holds Inv-loop μ-loop
 loop-holds c = refl
 
--- src/ranges.rt:57:17
 shared-slice-read-x : tie.Need-shared-slice-read-x Inv-loop μ-loop
 shared-slice-read-x c = search needs
 
--- src/ranges.rt:59:13
 returns : tie.Need-returns Inv-loop μ-loop
 returns c = rise-stop _ _ _ _ _ (c .before .before .before .loop .inv) (c .before .before .loop-test .taken) (c .if1 .taken)
 
--- src/ranges.rt:61:13
 key-requires : tie.Need-key-requires Inv-loop μ-loop
 key-requires c κs = search needs
 
--- src/ranges.rt:63:13
 returns-2 : tie.Need-returns-2 Inv-loop μ-loop
 returns-2 c =
     rise-fail _ _ _ _ _ (c .before .before .before .before .before .loop .inv) (c .before .before .before .before .loop-test .taken) (c .before .before .if1 .left) (c .before .key .ensures) (c .if2 .taken)
 
--- src/ranges.rt:66:9
 add-i : tie.Need-add-i Inv-loop μ-loop
 add-i c = search needs
 
--- src/ranges.rt:56:5
 loop-less : tie.Need-loop-less Inv-loop μ-loop
 loop-less c = search needs
 
--- src/ranges.rt:56:5
 loop-again : tie.Need-loop-again Inv-loop μ-loop
 loop-again c =
     rise-pass _ _ _ _ _ (c .before .before .before .before .before .loop .inv) (c .before .before .before .before .loop-test .taken) (c .before .before .if1 .left) (c .before .key .ensures) (c .if2 .left)
 
--- src/ranges.rt:51:1
 returns-3 : tie.Need-returns-3 Inv-loop μ-loop
 returns-3 c = rise-out _ _ _ _ _ (c .before .loop .inv) (c .loop-test .left)
 

@@ -4,15 +4,10 @@ use Rattle.plan.specs.declared.Plan.{Plan}
 use borrow.Author.Needs.{needs}
 use Rattle.plan.proofs.read.no_lines.Statement.{statement}
 use Rattle.plan.proofs.read.no_lines.Tie as tie
-use Rattle.plan.proofs.read.no_lines.Reads as reads
-use Rattle.plan.proofs.read.no_lines.Lts as lts
-use Rattle.plan.proofs.read.zero_plan.Reads as zero-plan-reads
 
--- src/read.rt:61:15
 zero-plan-requires : tie.Need-zero-plan-requires
 zero-plan-requires c κs = search needs
 
--- src/read.rt:51:1
 returns : tie.Need-returns
 returns c = ap (λ (p : Plan). record { answer = refuse (c .before .args .code) (c .before .args .line) 0; left = 0; plan = p }) (c .zero-plan .ensures)
 

@@ -6,30 +6,22 @@ use mathlib.Core.Path.{_≡_, sym}
 use borrow.Author.Needs.{needs}
 use Rattle.plan.proofs.read.put_items.Statement.{statement}
 use Rattle.plan.proofs.read.put_items.Tie as tie
-use Rattle.plan.proofs.read.put_items.Reads as reads
-use Rattle.plan.proofs.read.put_items.Lts as lts
-use Rattle.text.proofs.put.put_text.Reads as put-text-reads
 
--- src/read.rt:66:23
 array-share-prefix-items : tie.Need-array-share-prefix-items
 array-share-prefix-items c =
     let l : length (c .before .before .before .args .list .items) ≡ 64 = search needs in omega (arith, c .before .before .before .pre .few)
 
--- src/read.rt:66:23
 slice-aggregate-put-text : tie.Need-slice-aggregate-put-text
 slice-aggregate-put-text c =
     let l : length (c .before .before .before .before .args .list .items) ≡ 64 = search needs in
     sym (length-take-le (c .before .before .before .before .args .list .count) (c .before .before .before .before .args .list .items) (omega (arith, c .before .before .before .before .pre .few)))
 
--- src/read.rt:66:5
 put-text-requires : tie.Need-put-text-requires
 put-text-requires c κs = search needs
 
--- src/read.rt:60:1
 same-length : tie.Need-same-length
 same-length c = search needs
 
--- src/read.rt:60:1
 returns : tie.Need-returns
 returns c =
     let l : length (c .before .before .before .before .before .before .before .args .list .items) ≡ 64 = search needs in

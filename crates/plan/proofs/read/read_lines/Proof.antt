@@ -1,19 +1,11 @@
 -- `plan::read::read_lines` meets its contract: what the lines so far made, and what the rest gives.
 use Prim.Native.Nat.{_-_, _≤_}
-use mathlib.Core.Path.{_∙_, sym}
+use mathlib.Core.Path.{_∙_}
 use Rattle.plan.proofs.ReadLaws.{Going, going-start, past-line, going-refused, going-turn, going-end, board-small, holds-room, after-room, holds-whole, after-whole}
 use native.Mathlib.Omega.{arith}
 use borrow.Author.Needs.{needs}
 use Rattle.plan.proofs.read.read_lines.Statement.{statement}
 use Rattle.plan.proofs.read.read_lines.Tie as tie
-use Rattle.plan.proofs.read.read_lines.Reads as reads
-use Rattle.plan.proofs.read.read_lines.Lts as lts
-use Rattle.plan.proofs.read.next_line.Reads as next-line-reads
-use Rattle.plan.proofs.read.no_lines.Reads as no-lines-reads
-use Rattle.plan.proofs.read.put_items.Reads as put-items-reads
-use Rattle.text.proofs.part.find.Reads as find-reads
-use Rattle.text.proofs.part.part_after.Reads as part-after-reads
-use Rattle.text.proofs.part.past.Reads as past-reads
 
 abbrev Inv-loop : tie.InvT-loop
 Inv-loop text boards tasks board₀ begin₀ finish₀ holds₀ after₀ rest₀ k₀ board begin finish holds after rest k =
@@ -23,106 +15,81 @@ abbrev μ-loop : tie.MeasureT-loop
 μ-loop text boards tasks board₀ begin₀ finish₀ holds₀ after₀ rest₀ k₀ board begin finish holds after rest k =
     tasks - k
 
--- src/read.rt:88:9
 part-after-requires : tie.Need-part-after-requires Inv-loop μ-loop
 part-after-requires c κs = search needs
 
--- src/read.rt:90:5
 loop-holds : tie.Need-loop-holds Inv-loop μ-loop
 loop-holds c = (search needs, going-start _ (c .part-after .ensures))
 
--- src/read.rt:91:13
 find-requires : tie.Need-find-requires Inv-loop μ-loop
 find-requires c κs = search needs
 
--- src/read.rt:92:56
 add-next-line : tie.Need-add-next-line Inv-loop μ-loop
 add-next-line c = search needs
 
--- src/read.rt:92:13
 next-line-requires : tie.Need-next-line-requires Inv-loop μ-loop
 next-line-requires c κs =
     let f = c .before .before .before .before .before .pre in (f .few-boards, f .few-tasks, omega (arith, f .few-tasks), c .find .ensures)
 
--- src/read.rt:94:40
 add-no-lines : tie.Need-add-no-lines Inv-loop μ-loop
 add-no-lines c = search needs
 
--- src/read.rt:94:13
 no-lines-requires : tie.Need-no-lines-requires Inv-loop μ-loop
 no-lines-requires c κs = search needs
 
--- src/read.rt:94:13
 returns : tie.Need-returns Inv-loop μ-loop
 returns c =
     c .no-lines .ensures
     ∙ going-refused _ _ (c .before .before .before .before .before .before .loop .inv .1) (c .before .before .before .before .before .before .before .before .before .pre) (c .before .before .before .before .before .loop-test .taken) (c .before .before .before .next-line .ensures) (c .before .if1 .taken)
 
--- src/read.rt:96:17
 cast-i : tie.Need-cast-i Inv-loop μ-loop
 cast-i c = search needs
 
--- src/read.rt:97:20
 cast-board : tie.Need-cast-board Inv-loop μ-loop
 cast-board c = record { fits = board-small _ _ (c .before .before .before .before .before .before .loop .inv .1) (c .before .before .before .before .before .before .before .before .before .pre) (c .before .before .before .before .before .loop-test .taken) (c .before .before .before .next-line .ensures) (c .before .if1 .left) }
 
--- src/read.rt:97:9
 array-write-board : tie.Need-array-write-board Inv-loop μ-loop
 array-write-board c = search needs
 
--- src/read.rt:98:9
 mul-begin : tie.Need-mul-begin Inv-loop μ-loop
 mul-begin c = search needs
 
--- src/read.rt:98:9
 array-write-begin : tie.Need-array-write-begin Inv-loop μ-loop
 array-write-begin c = search needs
 
--- src/read.rt:99:9
 mul-finish : tie.Need-mul-finish Inv-loop μ-loop
 mul-finish c = search needs
 
--- src/read.rt:99:9
 array-write-finish : tie.Need-array-write-finish Inv-loop μ-loop
 array-write-finish c = search needs
 
--- src/read.rt:100:19
 slice-aggregate-put-items : tie.Need-slice-aggregate-put-items Inv-loop μ-loop
 slice-aggregate-put-items c = holds-whole _ _ (c .before .before .before .before .before .before .before .loop .inv .1)
 
--- src/read.rt:100:31
 mul-put-items : tie.Need-mul-put-items Inv-loop μ-loop
 mul-put-items c = search needs
 
--- src/read.rt:100:9
 put-items-requires : tie.Need-put-items-requires Inv-loop μ-loop
 put-items-requires c κs = holds-room _ _ (c .before .before .before .before .before .before .before .loop .inv .1) (c .before .before .before .before .before .before .before .before .before .before .pre) (c .before .before .before .before .before .before .loop-test .taken) (c .before .before .before .before .next-line .ensures) (c .before .before .if1 .left)
 
--- src/read.rt:101:19
 slice-aggregate-put-items-2 : tie.Need-slice-aggregate-put-items-2 Inv-loop μ-loop
 slice-aggregate-put-items-2 c = after-whole _ _ (c .before .before .before .before .before .before .before .before .before .before .loop .inv .1)
 
--- src/read.rt:101:31
 mul-put-items-2 : tie.Need-mul-put-items-2 Inv-loop μ-loop
 mul-put-items-2 c = search needs
 
--- src/read.rt:101:9
 put-items-requires-2 : tie.Need-put-items-requires-2 Inv-loop μ-loop
 put-items-requires-2 c κs = after-room _ _ (c .before .before .before .before .before .before .before .before .before .before .loop .inv .1) (c .before .before .before .before .before .before .before .before .before .before .before .before .before .pre) (c .before .before .before .before .before .before .before .before .before .loop-test .taken) (c .before .before .before .before .before .before .before .next-line .ensures) (c .before .before .before .before .before .if1 .left)
 
--- src/read.rt:102:13
 past-requires : tie.Need-past-requires Inv-loop μ-loop
 past-requires c κs = search needs
 
--- src/read.rt:104:9
 add-k : tie.Need-add-k Inv-loop μ-loop
 add-k c = record { fits = omega (arith, c .before .before .before .before .before .before .before .before .before .before .before .before .before .before .before .before .pre .few-tasks, c .before .before .before .before .before .before .before .before .before .before .before .before .loop-test .taken) }
 
--- src/read.rt:90:5
 loop-less : tie.Need-loop-less Inv-loop μ-loop
 loop-less c = search needs
 
--- src/read.rt:90:5
 loop-again : tie.Need-loop-again Inv-loop μ-loop
 loop-again c = (
   search needs,
@@ -130,15 +97,12 @@ loop-again c = (
       (c .before .before .before .before .before .put-items .ensures) (c .before .before .put-items2 .ensures) (past-line _ (c .before .before .before .before .before .before .before .before .before .before .before .find .ensures) (c .past .ensures)),
 )
 
--- src/read.rt:114:21
 cast-t33 : tie.Need-cast-t33 Inv-loop μ-loop
 cast-t33 c = search needs
 
--- src/read.rt:115:20
 cast-t34 : tie.Need-cast-t34 Inv-loop μ-loop
 cast-t34 c = search needs
 
--- src/read.rt:79:1
 returns-2 : tie.Need-returns-2 Inv-loop μ-loop
 returns-2 c = going-end _ _ (c .before .loop .inv .1) (c .before .before .before .before .pre) (omega arith)
 

@@ -5,81 +5,57 @@ use Rattle.plan.proofs.ReadingLaws.{reading-long, reading-no-line, read
 use borrow.Author.Needs.{needs}
 use Rattle.plan.proofs.read.read_plan.Statement.{statement}
 use Rattle.plan.proofs.read.read_plan.Tie as tie
-use Rattle.plan.proofs.read.read_plan.Reads as reads
-use Rattle.plan.proofs.read.read_plan.Lts as lts
-use Rattle.plan.proofs.fields.read_sizes.Reads as read-sizes-reads
-use Rattle.plan.proofs.pairs.first_fault.Reads as first-fault-reads
-use Rattle.plan.proofs.read.answer_of.Reads as answer-of-reads
-use Rattle.plan.proofs.read.read_lines.Reads as read-lines-reads
-use Rattle.plan.proofs.read.refused.Reads as refused-reads
-use Rattle.text.proofs.part.find.Reads as find-reads
-use Rattle.text.proofs.part.part_before.Reads as part-before-reads
 
--- src/read.rt:146:24
 answer-of-requires : tie.Need-answer-of-requires
 answer-of-requires c κs = search needs
 
--- src/read.rt:146:9
 refused-requires : tie.Need-refused-requires
 refused-requires c κs = search needs
 
--- src/read.rt:146:9
 returns : tie.Need-returns
 returns c =
     c .refused .ensures ∙ ap refusedReading (c .before .answer-of .ensures) ∙ reading-long _ (c .before .before .if1 .taken)
 
--- src/read.rt:148:8
 find-requires : tie.Need-find-requires
 find-requires c κs = search needs
 
--- src/read.rt:149:24
 answer-of-requires-2 : tie.Need-answer-of-requires-2
 answer-of-requires-2 c κs = search needs
 
--- src/read.rt:149:9
 refused-requires-2 : tie.Need-refused-requires-2
 refused-requires-2 c κs = search needs
 
--- src/read.rt:149:9
 returns-2 : tie.Need-returns-2
 returns-2 c =
     c .refused2 .ensures ∙ ap refusedReading (c .before .answer-of2 .ensures)
     ∙ reading-no-line _ (c .before .before .before .before .if1 .left) (c .before .before .before .find .ensures) (c .before .before .if2 .taken)
 
--- src/read.rt:151:28
 part-before-requires : tie.Need-part-before-requires
 part-before-requires c κs = search needs
 
--- src/read.rt:151:9
 read-sizes-requires : tie.Need-read-sizes-requires
 read-sizes-requires c κs = search needs
 
--- src/read.rt:153:24
 answer-of-requires-3 : tie.Need-answer-of-requires-3
 answer-of-requires-3 c κs = search needs
 
--- src/read.rt:153:9
 refused-requires-3 : tie.Need-refused-requires-3
 refused-requires-3 c κs = search needs
 
--- src/read.rt:153:9
 returns-3 : tie.Need-returns-3
 returns-3 c =
     c .refused3 .ensures ∙ ap refusedReading (c .before .answer-of3 .ensures)
     ∙ reading-no-sizes _ (c .before .before .before .before .before .before .before .before .if1 .left) (c .before .before .before .before .before .before .before .find .ensures) (c .before .before .before .before .before .before .if2 .left)
     (rw (c .before .before .before .before .before .part-before .ensures) at (c .before .before .before .before .read-sizes .ensures)) (c .before .before .if3 .taken)
 
--- src/read.rt:155:9
 read-lines-requires : tie.Need-read-lines-requires
 read-lines-requires c κs =
     first-read _ (c .before .before .before .before .before .before .if1 .left) (c .before .before .before .before .before .find .ensures) (c .before .before .before .before .if2 .left)
     (rw (c .before .before .before .part-before .ensures) at (c .before .before .read-sizes .ensures)) (c .if3 .left)
 
--- src/read.rt:158:9
 refused-requires-4 : tie.Need-refused-requires-4
 refused-requires-4 c κs = search needs
 
--- src/read.rt:158:9
 returns-4 : tie.Need-returns-4
 returns-4 c =
     c .refused4 .ensures
@@ -87,21 +63,17 @@ returns-4 c =
     (rw (c .before .before .before .before .before .before .before .before .part-before .ensures) at (c .before .before .before .before .before .before .before .read-sizes .ensures))
     (c .before .before .before .before .before .if3 .left) (c .before .before .before .before .read-lines .ensures) (c .before .if4 .taken)
 
--- src/read.rt:161:37
 add-answer-of : tie.Need-add-answer-of
 add-answer-of c =
     let few = first-read _ (c .before .before .before .before .before .before .before .before .before .before .before .before .before .if1 .left) (c .before .before .before .before .before .before .before .before .before .before .before .before .find .ensures) (c .before .before .before .before .before .before .before .before .before .before .before .if2 .left)
     (rw (c .before .before .before .before .before .before .before .before .before .before .part-before .ensures) at (c .before .before .before .before .before .before .before .before .before .read-sizes .ensures)) (c .before .before .before .before .before .before .before .if3 .left) .few-tasks in omega arith
 
--- src/read.rt:161:24
 answer-of-requires-4 : tie.Need-answer-of-requires-4
 answer-of-requires-4 c κs = search needs
 
--- src/read.rt:161:9
 refused-requires-5 : tie.Need-refused-requires-5
 refused-requires-5 c κs = search needs
 
--- src/read.rt:161:9
 returns-5 : tie.Need-returns-5
 returns-5 c =
     c .refused5 .ensures ∙ ap refusedReading (c .before .answer-of4 .ensures)
@@ -109,22 +81,18 @@ returns-5 c =
     (rw (c .before .before .before .before .before .before .before .before .before .before .before .before .part-before .ensures) at (c .before .before .before .before .before .before .before .before .before .before .before .read-sizes .ensures))
     (c .before .before .before .before .before .before .before .before .before .if3 .left) (c .before .before .before .before .before .before .before .before .read-lines .ensures) (c .before .before .before .before .before .if4 .left) (c .before .before .before .if5 .taken)
 
--- src/read.rt:164:95
 cast-first-fault : tie.Need-cast-first-fault
 cast-first-fault c = search needs
 
--- src/read.rt:164:9
 first-fault-requires : tie.Need-first-fault-requires
 first-fault-requires c κs =
     read-rises _ (c .before .before .before .before .before .before .before .before .before .before .before .before .before .before .before .before .before .before .before .before .if1 .left) (c .before .before .before .before .before .before .before .before .before .before .before .before .before .before .before .before .before .before .before .find .ensures) (c .before .before .before .before .before .before .before .before .before .before .before .before .before .before .before .before .before .before .if2 .left)
     (rw (c .before .before .before .before .before .before .before .before .before .before .before .before .before .before .before .before .before .part-before .ensures) at (c .before .before .before .before .before .before .before .before .before .before .before .before .before .before .before .before .read-sizes .ensures)) (c .before .before .before .before .before .before .before .before .before .before .before .before .before .before .if3 .left)
     (c .before .before .before .before .before .before .before .before .before .before .before .before .before .read-lines .ensures) (c .before .before .before .before .before .before .before .before .before .before .if4 .left)
 
--- src/read.rt:166:9
 refused-requires-6 : tie.Need-refused-requires-6
 refused-requires-6 c κs = search needs
 
--- src/read.rt:166:9
 returns-6 : tie.Need-returns-6
 returns-6 c =
     c .refused6 .ensures
@@ -133,7 +101,6 @@ returns-6 c =
     (c .before .before .before .before .before .before .before .before .before .before .before .before .before .before .before .before .before .before .if3 .left) (c .before .before .before .before .before .before .before .before .before .before .before .before .before .before .before .before .before .read-lines .ensures) (c .before .before .before .before .before .before .before .before .before .before .before .before .before .before .if4 .left) (c .before .before .before .before .before .before .before .before .before .before .before .before .if5 .left)
     (c .before .before .before .first-fault .ensures) (c .before .if6 .taken)
 
--- src/read.rt:142:1
 returns-7 : tie.Need-returns-7
 returns-7 c =
     reading-in _ (c .before .before .before .before .before .before .before .before .before .before .before .before .before .before .before .before .before .before .before .before .before .before .before .if1 .left) (c .before .before .before .before .before .before .before .before .before .before .before .before .before .before .before .before .before .before .before .before .before .before .find .ensures) (c .before .before .before .before .before .before .before .before .before .before .before .before .before .before .before .before .before .before .before .before .before .if2 .left)

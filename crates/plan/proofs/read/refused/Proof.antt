@@ -3,15 +3,10 @@ use Rattle.plan.specs.declared.Plan.{Plan}
 use borrow.Author.Needs.{needs}
 use Rattle.plan.proofs.read.refused.Statement.{statement}
 use Rattle.plan.proofs.read.refused.Tie as tie
-use Rattle.plan.proofs.read.refused.Reads as reads
-use Rattle.plan.proofs.read.refused.Lts as lts
-use Rattle.plan.proofs.read.zero_plan.Reads as zero-plan-reads
 
--- src/read.rt:127:15
 zero-plan-requires : tie.Need-zero-plan-requires
 zero-plan-requires c κs = search needs
 
--- src/read.rt:122:1
 returns : tie.Need-returns
 returns c = ap (λ (p : Plan). record { answer = c .before .args .answer; plan = p }) (c .zero-plan .ensures)
 

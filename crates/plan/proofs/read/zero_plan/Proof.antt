@@ -1,13 +1,9 @@
 use mathlib.Core.Path.{refl}
 use Rattle.laws.specs.Each.{each, rows}
 use Rattle.plan.specs.Value.{planOf}
-use borrow.Author.Needs.{needs}
 use Rattle.plan.proofs.read.zero_plan.Statement.{statement}
 use Rattle.plan.proofs.read.zero_plan.Tie as tie
-use Rattle.plan.proofs.read.zero_plan.Reads as reads
-use Rattle.plan.proofs.read.zero_plan.Lts as lts
 
--- src/read.rt:37:1
 returns : tie.Need-returns
 unfolding planOf each rows
 returns c = refl

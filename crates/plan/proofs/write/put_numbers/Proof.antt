@@ -1,6 +1,5 @@
 use Rattle.plan.proofs.RunLaws.{all-left, next-room, turn, done, wrote-length}
 use Rattle.plan.proofs.WriteLaws.{numbers-text}
-use borrow.Author.Needs.{needs}
 use Rattle.plan.proofs.write.put_numbers.Statement.{statement}
 use Rattle.plan.proofs.write.put_numbers.Tie as tie
 

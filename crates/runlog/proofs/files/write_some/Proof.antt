@@ -9,35 +9,27 @@ Inv-loop fd part turns₀ turns = Unit {0}
 abbrev μ-loop : tie.MeasureT-loop
 μ-loop fd part turns₀ turns = turns
 
--- src/files.rt:93:5
 loop-holds : tie.Need-loop-holds Inv-loop μ-loop
 loop-holds c = search needs
 
--- src/files.rt:94:13
 write-requires : tie.Need-write-requires Inv-loop μ-loop
 write-requires c κs = search needs
 
--- src/files.rt:95:26
 errno-requires : tie.Need-errno-requires Inv-loop μ-loop
 errno-requires c κs = search needs
 
--- src/files.rt:96:13
 returns : tie.Need-returns Inv-loop μ-loop
 returns c = search needs
 
--- src/files.rt:98:9
 sub-turns : tie.Need-sub-turns Inv-loop μ-loop
 sub-turns c = search needs
 
--- src/files.rt:93:5
 loop-less : tie.Need-loop-less Inv-loop μ-loop
 loop-less c = search needs
 
--- src/files.rt:93:5
 loop-again : tie.Need-loop-again Inv-loop μ-loop
 loop-again c = search needs
 
--- src/files.rt:91:1
 returns-2 : tie.Need-returns-2 Inv-loop μ-loop
 returns-2 c = search needs
 

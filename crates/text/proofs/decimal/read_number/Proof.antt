@@ -11,11 +11,6 @@ use Rattle.text.specs.Number.{isDigit, valueOf}
 use Rattle.text.proofs.Spell.{all-stop, all-next, all-done, number-no, number-rest, digit-range, held, held-turn, held-end, read-misspelt, read-value, read-over}
 use Rattle.text.proofs.decimal.read_number.Statement.{statement}
 use Rattle.text.proofs.decimal.read_number.Tie as tie
-use Rattle.text.proofs.decimal.read_number.Reads as reads
-use Rattle.text.proofs.decimal.read_number.Lts as lts
-use Rattle.text.proofs.decimal.grown.Reads as grown-reads
-use Rattle.text.proofs.decimal.is_digit.Reads as is-digit-reads
-use Rattle.text.proofs.decimal.starts_well.Reads as starts-well-reads
 
 abbrev Inv-loop : tie.InvT-loop
 Inv-loop field v₀ i₀ v i =
@@ -27,27 +22,21 @@ Inv-loop field v₀ i₀ v i =
 abbrev μ-loop : tie.MeasureT-loop
 μ-loop field v₀ i₀ v i = length field - i
 
--- src/decimal.rt:67:9
 starts-well-requires : tie.Need-starts-well-requires Inv-loop μ-loop
 starts-well-requires c κs = search needs
 
--- src/decimal.rt:68:9
 returns : tie.Need-returns Inv-loop μ-loop
 returns c = read-misspelt _ false (number-no _ _ (c .before .starts-well .ensures) (c .if1 .taken)) refl
 
--- src/decimal.rt:72:5
 loop-holds : tie.Need-loop-holds Inv-loop μ-loop
 loop-holds c = search needs
 
--- src/decimal.rt:73:17
 shared-slice-read-b : tie.Need-shared-slice-read-b Inv-loop μ-loop
 shared-slice-read-b c = search needs
 
--- src/decimal.rt:74:13
 is-digit-requires : tie.Need-is-digit-requires Inv-loop μ-loop
 is-digit-requires c κs = search needs
 
--- src/decimal.rt:75:13
 returns-2 : tie.Need-returns-2 Inv-loop μ-loop
 returns-2 c =
     let r = c .before .before .before .before in
@@ -56,19 +45,15 @@ returns-2 c =
     ∙ number-rest _ _ (r .before .before .starts-well .ensures) (r .before .if1 .left))
     refl
 
--- src/decimal.rt:77:9
 grown-requires : tie.Need-grown-requires Inv-loop μ-loop
 grown-requires c κs = let d = digit-range _ _ (c .before .is-digit .ensures) (c .if2 .left) in (omega arith, d .0, d .1)
 
--- src/decimal.rt:78:9
 add-i : tie.Need-add-i Inv-loop μ-loop
 add-i c = search needs
 
--- src/decimal.rt:72:5
 loop-less : tie.Need-loop-less Inv-loop μ-loop
 loop-less c = search needs
 
--- src/decimal.rt:72:5
 loop-again : tie.Need-loop-again Inv-loop μ-loop
 loop-again c =
     let r = c .before .before .before .before .before in (
@@ -78,7 +63,6 @@ loop-again c =
       held-turn _ _ _ _ _ (c .before .before .before .before .loop-test .taken) (c .grown .ensures) (r .loop .inv .3),
     )
 
--- src/decimal.rt:64:1
 returns-3 : tie.Need-returns-3 Inv-loop μ-loop
 returns-3 c =
     let r = c .before .before in
@@ -87,7 +71,6 @@ returns-3 c =
     ∙ number-rest _ _ (r .before .before .starts-well .ensures) (r .before .if1 .left))
     _ refl (held-end _ _ _ _ (c .before .loop-test .left) (r .loop .inv .1) (r .loop .inv .3)) (c .if3 .taken)
 
--- src/decimal.rt:64:1
 returns-4 : tie.Need-returns-4 Inv-loop μ-loop
 returns-4 c =
     let r = c .before .before in

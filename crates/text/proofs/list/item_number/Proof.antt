@@ -3,47 +3,34 @@ use borrow.Author.Needs.{needs}
 use Rattle.text.proofs.Rise.{plain-number, none-number, other-number, letter-number}
 use Rattle.text.proofs.list.item_number.Statement.{statement}
 use Rattle.text.proofs.list.item_number.Tie as tie
-use Rattle.text.proofs.list.item_number.Reads as reads
-use Rattle.text.proofs.list.item_number.Lts as lts
-use Rattle.text.proofs.decimal.read_number.Reads as read-number-reads
 
--- src/list.rt:80:9
 read-number-requires : tie.Need-read-number-requires
 read-number-requires c κs = search needs
 
--- src/list.rt:80:9
 returns : tie.Need-returns
 returns c = plain-number _ _ _ (c .before .if1 .taken) (c .read-number .ensures)
 
--- src/list.rt:83:9
 returns-2 : tie.Need-returns-2
 returns-2 c = none-number _ _ (c .before .if1 .left) (c .if2 .taken)
 
--- src/list.rt:85:18
 shared-slice-read-letter : tie.Need-shared-slice-read-letter
 shared-slice-read-letter c = search needs
 
--- src/list.rt:87:9
 returns-3 : tie.Need-returns-3
 returns-3 c = other-number _ _ (c .before .before .before .if1 .left) (c .before .before .if2 .left) (c .if3 .taken)
 
--- src/list.rt:89:17
 sub-read-number : tie.Need-sub-read-number
 sub-read-number c = search needs
 
--- src/list.rt:89:17
 part-read-number-start : tie.Need-part-read-number-start
 part-read-number-start c = search needs
 
--- src/list.rt:89:17
 part-read-number-end : tie.Need-part-read-number-end
 part-read-number-end c = search needs
 
--- src/list.rt:89:5
 read-number-requires-2 : tie.Need-read-number-requires-2
 read-number-requires-2 c κs = search needs
 
--- src/list.rt:76:1
 returns-4 : tie.Need-returns-4
 returns-4 c =
     letter-number _ _ _ (c .before .before .before .before .before .if1 .left) (c .before .before .before .before .if2 .left) (c .before .before .if3 .left) (c .read-number2 .ensures)

@@ -13,13 +13,6 @@ use Rattle.text.proofs.Parts.{after-less, past-part}
 use Rattle.text.proofs.Rise.{itemsLeft, speltRead, items-start, all-spelt, refused-is, refuse, keep-last, keep-more, number-spelt, value-item, value-is, over-is, refuse-over, passed, item-digits, first-passes, parts-next, parts-end}
 use Rattle.text.proofs.list.read_items.Statement.{statement}
 use Rattle.text.proofs.list.read_items.Tie as tie
-use Rattle.text.proofs.list.read_items.Reads as reads
-use Rattle.text.proofs.list.read_items.Lts as lts
-use Rattle.text.proofs.list.item_number.Reads as item-number-reads
-use Rattle.text.proofs.list.item_of.Reads as item-of-reads
-use Rattle.text.proofs.list.refused_items.Reads as refused-items-reads
-use Rattle.text.proofs.part.part_before.Reads as part-before-reads
-use Rattle.text.proofs.part.past.Reads as past-reads
 
 abbrev Inv-loop : tie.InvT-loop
 Inv-loop s lettered high items₀ count₀ last₀ rest₀ items count last rest =
@@ -32,27 +25,21 @@ Inv-loop s lettered high items₀ count₀ last₀ rest₀ items count last rest
 abbrev μ-loop : tie.MeasureT-loop
 μ-loop s lettered high items₀ count₀ last₀ rest₀ items count last rest = length rest
 
--- src/list.rt:115:5
 loop-holds : tie.Need-loop-holds Inv-loop μ-loop
 loop-holds c = (omega arith, omega arith, search needs, refl, items-start _ _ _)
 
--- src/list.rt:116:13
 part-before-requires : tie.Need-part-before-requires Inv-loop μ-loop
 part-before-requires c κs = search needs
 
--- src/list.rt:117:32
 item-number-requires : tie.Need-item-number-requires Inv-loop μ-loop
 item-number-requires c κs = search needs
 
--- src/list.rt:117:27
 enum-known-n : tie.Need-enum-known-n Inv-loop μ-loop
 enum-known-n c = search needs
 
--- src/list.rt:118:13
 refused-items-requires : tie.Need-refused-items-requires Inv-loop μ-loop
 refused-items-requires c κs = search needs
 
--- src/list.rt:118:13
 returns : tie.Need-returns Inv-loop μ-loop
 returns c =
     let r = c .before .before in
@@ -64,11 +51,9 @@ returns c =
     let over = over-is _ _ (item-digits _ _ spelt) (number-spelt _ _ _ spelt (r .item-number .ensures)) (c .before .match .keys2) in
     refuse _ _ _ _ _ _ _ _ _ part refl (r .before .before .loop .inv .4) (refuse-over _ _ _ (r .before .before .before .before .pre) over))
 
--- src/list.rt:121:13
 refused-items-requires-2 : tie.Need-refused-items-requires-2 Inv-loop μ-loop
 refused-items-requires-2 c κs = search needs
 
--- src/list.rt:121:13
 returns-2 : tie.Need-returns-2 Inv-loop μ-loop
 returns-2 c =
     let r = c .before .before .before in
@@ -79,7 +64,6 @@ returns-2 c =
     ∙ refused-is _ _ _ _ (r .before .before .before .before .loop .inv .3)
     (λ t. refuse _ _ _ _ _ _ _ _ _ part (value-is _ _ _ (number-spelt _ _ _ spelt number) (r .n .given .1)) (r .before .before .before .before .loop .inv .4) (c .before .if1 .taken))
 
--- src/list.rt:123:24
 item-of-requires : tie.Need-item-of-requires Inv-loop μ-loop
 item-of-requires c κs =
     let r = c .before .before in
@@ -91,16 +75,13 @@ item-of-requires c κs =
       spelt,
     )
 
--- src/list.rt:123:9
 array-write-items : tie.Need-array-write-items Inv-loop μ-loop
 array-write-items c =
     let r = c .before .before .before in let p = passed (r .before .before .before .before .loop .last) (r .before .before .before .before .before .before .args .high) _ (c .before .if1 .left) in omega arith
 
--- src/list.rt:124:9
 add-count : tie.Need-add-count Inv-loop μ-loop
 add-count c = search needs
 
--- src/list.rt:127:13
 returns-3 : tie.Need-returns-3 Inv-loop μ-loop
 returns-3 c =
     let r = c .before .before .before .before in
@@ -116,18 +97,15 @@ returns-3 c =
     (c .if2 .taken)
     ∙ all-spelt _ _ _ (sym (parts-end (isItem _) _ _ _ part (r .before .before .before .before .loop .inv .3) true (sym spelt) refl (c .if2 .taken)))
 
--- src/list.rt:133:13
 past-requires : tie.Need-past-requires Inv-loop μ-loop
 past-requires c κs = search needs
 
--- src/list.rt:115:5
 loop-less : tie.Need-loop-less Inv-loop μ-loop
 loop-less c =
     let r = c .before .before .before .before .before in
     let part = r .before .before .before .part-before .ensures in
     after-less COMMA _ _ part _ (c .before .if2 .left) (past-part COMMA _ _ part _ (c .past .ensures))
 
--- src/list.rt:115:5
 loop-again : tie.Need-loop-again Inv-loop μ-loop
 loop-again c =
     let r = c .before .before .before .before .before in

@@ -3,42 +3,31 @@ use borrow.Author.Needs.{needs}
 use Rattle.text.proofs.Parts.{past-some, past-none}
 use Rattle.text.proofs.part.past.Statement.{statement}
 use Rattle.text.proofs.part.past.Tie as tie
-use Rattle.text.proofs.part.past.Reads as reads
-use Rattle.text.proofs.part.past.Lts as lts
 
--- src/part.rt:41:19
 add-result : tie.Need-add-result
 add-result c = search needs
 
--- src/part.rt:41:16
 sub-result : tie.Need-sub-result
 sub-result c = search needs
 
--- src/part.rt:41:16
 part-result-start : tie.Need-part-result-start
 part-result-start c = search needs
 
--- src/part.rt:41:16
 part-result-end : tie.Need-part-result-end
 part-result-end c = search needs
 
--- src/part.rt:41:9
 returns : tie.Need-returns
 returns c = past-some (c .before .before .args .s .now) (c .before .before .args .k)
 
--- src/part.rt:43:5
 sub-result-2 : tie.Need-sub-result-2
 sub-result-2 c = search needs
 
--- src/part.rt:43:5
 part-result-start-2 : tie.Need-part-result-start-2
 part-result-start-2 c = search needs
 
--- src/part.rt:43:5
 part-result-end-2 : tie.Need-part-result-end-2
 part-result-end-2 c = search needs
 
--- src/part.rt:36:1
 returns-2 : tie.Need-returns-2
 returns-2 c = past-none (c .before .before .args .s .now) (c .before .before .args .k) (c .before .if1 .left)
 
