@@ -90,7 +90,7 @@ pub extern "C" fn dispatch_minimum_early(book: Book) -> Figure
 pub extern "C" fn dispatch_write_plan(plan: Plan, out: &mut [u8]) -> Written
     ensures { λ r. ⌜ (r ≡ writtenOf plan (length (now (out .entry)))) × (now (out .exit) ≡ bufferAfter plan (now (out .entry))) ⌝ }
 {
-    plan::write::write_plan(plan, out)
+    writer::write::write_plan(plan, out)
 }
 
 #[no_mangle]

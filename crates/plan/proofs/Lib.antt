@@ -15,5 +15,3 @@ pub mod RoundLength
 pub mod RoundPlan
 pub mod RoundWrite
 pub mod ReadingLaws
-pub mod RunLaws
-pub mod WriteLaws

@@ -6,4 +6,3 @@ pub mod Arrays
 pub mod Read
 pub mod Fields
 pub mod Write
-pub mod WriteParts

@@ -5,7 +5,6 @@ mod fields;
 mod pairs;
 pub mod ranges;
 pub mod read;
-pub mod write;
 
 // The refusal number and the table's two numbers; all 0 where nothing is refused.
 #[repr(C)]

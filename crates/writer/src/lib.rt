@@ -1,0 +1,2 @@
+// Writing a plan text into a lent buffer.
+pub mod write;
