@@ -20,16 +20,7 @@ pub fn open_book(plan: &Plan) -> Opening {
             book: Book::ZERO,
         };
     }
-    let mut book = Book {
-        boards: plan.boards,
-        tasks: plan.tasks,
-        board: plan.board,
-        begin: plan.begin,
-        finish: plan.finish,
-        holds: plan.holds,
-        after: plan.after,
-        ..Book::ZERO
-    };
+    let mut book = Book::on(plan);
     let_go_all_that_can(&mut book);
     Opening {
         answer: Answer::ACCEPTED,

@@ -161,6 +161,20 @@ impl Book {
         after: [0; 4096],
     };
 
+    /// A book on the plan in which nothing is known yet.
+    pub fn on(plan: &Plan) -> Book {
+        Book {
+            boards: plan.boards,
+            tasks: plan.tasks,
+            board: plan.board,
+            begin: plan.begin,
+            finish: plan.finish,
+            holds: plan.holds,
+            after: plan.after,
+            ..Book::ZERO
+        }
+    }
+
     /// The plan the book was opened on.
     pub fn plan(&self) -> Plan {
         Plan {

@@ -3,7 +3,7 @@
 use dispatcher::run_log;
 use dispatcher::sample::plan_a::{ENDS_A, PLAN_A};
 use dispatcher::sample::plans::full_plan;
-use dispatcher::sample::program::{at_root, program_in};
+use dispatcher::sample::program::{at_root, empty_folder, program_in};
 use dispatcher::sample::{announced_seed, Rng};
 use dispatcher::text::plan_text;
 use std::fs::{self, File};
@@ -14,16 +14,8 @@ use std::process::{Command, Output};
 const TOO_LONG: &[u8] = b"refused\t1\t0\t0\n";
 const OPENING_A: &str = "run\t1\t2\t5\nstart\t1\t1\t0\t0\nstart\t2\t2\t0\t0\nearly\t0\t0\n";
 
-/// An empty folder of the test's own.
-fn empty_folder(name: &str) -> PathBuf {
-    let folder = Path::new(env!("CARGO_TARGET_TMPDIR")).join(name);
-    let _ = fs::remove_dir_all(&folder);
-    fs::create_dir_all(&folder).unwrap();
-    folder
-}
-
 fn folder_of(name: &str, plan: &[u8], ends: &[u8]) -> PathBuf {
-    let folder = empty_folder(name);
+    let folder = empty_folder(env!("CARGO_TARGET_TMPDIR"), name);
     fs::write(folder.join("plan.txt"), plan).unwrap();
     fs::write(folder.join("ends.txt"), ends).unwrap();
     folder
@@ -150,22 +142,49 @@ fn expect_said(said: &[u8], name: &str) {
     assert!(said.ends_with('\n'));
 }
 
+/// Puts a folder in the file's place: it is there, and cannot be read.
+fn make_unreadable(folder: &Path, name: &str) {
+    fs::remove_file(folder.join(name)).unwrap();
+    fs::create_dir(folder.join(name)).unwrap();
+}
+
+/// The program printed nothing, and one line names the file; the script ends with 2.
+fn expect_unread(folder: &Path, name: &str) {
+    let output = run_in(folder);
+    assert_eq!(output.stdout, b"");
+    expect_said(&output.stderr, name);
+
+    let output = script(folder);
+    assert_eq!(output.stdout, b"");
+    expect_said(&output.stderr, &format!("runlog: {name}"));
+    assert_eq!(output.status.code(), Some(2));
+}
+
 #[test]
 fn a_file_that_cannot_be_read_is_named_and_nothing_printed() {
     for name in ["plan.txt", "ends.txt"] {
         let folder = folder_of(&format!("unreadable-{name}"), PLAN_A, ENDS_A);
-        fs::remove_file(folder.join(name)).unwrap();
-        fs::create_dir(folder.join(name)).unwrap();
-        let output = run_in(&folder);
-        assert_eq!(output.stdout, b"");
-        expect_said(&output.stderr, name);
+        make_unreadable(&folder, name);
+        expect_unread(&folder, name);
 
         // A link to itself is there too, and opens for nobody.
         fs::remove_dir(folder.join(name)).unwrap();
         std::os::unix::fs::symlink(name, folder.join(name)).unwrap();
-        let output = run_in(&folder);
-        assert_eq!(output.stdout, b"");
-        expect_said(&output.stderr, name);
+        expect_unread(&folder, name);
+    }
+}
+
+/// Both files are read before anything is printed, whatever the plan says.
+#[test]
+fn ends_that_cannot_be_read_hide_the_refusal_of_a_plan() {
+    for (name, plan) in [("no-plan", b"".as_slice()), ("bad-plan", b"plan\n")] {
+        let folder = folder_of(&format!("unreadable-ends-{name}"), plan, ENDS_A);
+        expect_log(&folder, b"refused\t2\t1\t0\n");
+        make_unreadable(&folder, "ends.txt");
+        expect_unread(&folder, "ends.txt");
+        // Of two such files the plan is named.
+        make_unreadable(&folder, "plan.txt");
+        expect_unread(&folder, "plan.txt");
     }
 }
 
@@ -209,13 +228,7 @@ fn the_script_runs_a_folder_and_has_an_exit_status() {
     assert_eq!(good.status.code(), Some(0));
     assert!(good.stdout == log);
 
-    let folder = folder_of("script-unreadable", b"", ENDS_A);
-    fs::remove_file(folder.join("plan.txt")).unwrap();
-    fs::create_dir(folder.join("plan.txt")).unwrap();
-    let bad = script(&folder);
-    assert_eq!(bad.status.code(), Some(2));
-    assert_eq!(bad.stdout, b"");
-    assert!(String::from_utf8_lossy(&bad.stderr).contains("plan.txt"));
-
-    assert_eq!(script(&folder.join("nowhere")).status.code(), Some(2));
+    let nowhere = script(&at_root("examples/nowhere"));
+    assert_eq!(nowhere.status.code(), Some(2));
+    assert_eq!(nowhere.stdout, b"");
 }

@@ -5,10 +5,17 @@ use dispatcher::sample::tally::say;
 use std::fs;
 use std::path::Path;
 
-const MOST_KIB: u32 = 512;
+const MOST_KIB: u32 = 336;
+
+/// Where the system cannot be kept from putting a random distance before a stack, one of some tries has little of it.
+const TRIES: u32 = 12;
+
+fn runs_with(kib: u32, folder: &Path, log: &[u8]) -> bool {
+    (0..TRIES).any(|_| runs_once_with(kib, folder, log))
+}
 
 /// Whether the program prints its log with so much stack, which holds its environment too.
-fn runs_with(kib: u32, folder: &Path, log: &[u8]) -> bool {
+fn runs_once_with(kib: u32, folder: &Path, log: &[u8]) -> bool {
     let mut command = program_in(folder);
     command.env_clear();
     for name in ["PATH", "RATTLE_HOME"] {
@@ -22,7 +29,7 @@ fn runs_with(kib: u32, folder: &Path, log: &[u8]) -> bool {
 }
 
 #[test]
-fn the_program_takes_no_more_than_512_kib() {
+fn the_program_takes_no_more_than_336_kib() {
     let folder = at_root("examples/full-morning");
     let log = fs::read(folder.join("log.txt")).unwrap();
     // Its buffers alone are longer than the one, and the other is the usual limit.

@@ -1,9 +1,12 @@
 //! Every refusal number by hand-written cases, with the two numbers it says.
 
+use dispatcher::sample::events::random_book;
 use dispatcher::sample::plan_a::{ENDS_A, PLAN_A, REPORTS_A};
-use dispatcher::values::refusal;
+use dispatcher::sample::{announced_seed, Rng};
+use dispatcher::values::{refusal, RUNNING};
 use dispatcher::{
-    accepted, drop_task, minimum_early, open_book, read_plan, report, run_log, sound, write_plan,
+    accepted, drop_task, minimum_early, open_book, proved, read_plan, report, run_log, sound,
+    write_plan,
 };
 use dispatcher::{Answer, Book, Plan};
 
@@ -571,6 +574,33 @@ fn code_14_after_the_limit() {
     check_report(&late_book(), 4, 10, 14);
     check_report(&late_book(), 5, 11, 14);
     check_report(&late_book(), 5, u32::MAX, 14);
+}
+
+/// A limit is at most the planned finish, so above the last tick 14 comes before 15.
+#[test]
+fn above_the_last_tick_a_running_task_always_gets_14() {
+    let to_the_last_tick = b"plan\t1\t2\t3
+task\t1\t1\t0\t1000000\t-\t-
+task\t2\t2\t0\t5\t-\t-
+task\t3\t2\t5\t9\t-\t-
+";
+    let mut rng = Rng::new(announced_seed("above the last tick"));
+    let mut books: Vec<Book> = (0..500).map(|_| random_book(&mut rng)).collect();
+    books.push(book_of(to_the_last_tick, &[]));
+    for book in books {
+        for task in 0..=u32::from(book.tasks) + 1 {
+            let code = match book.mark.get((task as usize).wrapping_sub(1)) {
+                _ if task == 0 || task > u32::from(book.tasks) => 10,
+                Some(&RUNNING) => 14,
+                _ => 11,
+            };
+            for tick in [1_000_001, 1_000_002, u32::MAX] {
+                check_report(&book, task, tick, code);
+                let proved = proved::report(&book, task, tick);
+                assert_eq!(proved.answer, refusal(code, task, tick));
+            }
+        }
+    }
 }
 
 #[test]

@@ -17,7 +17,7 @@ use dispatcher::{open_book, Book, Figure, Plan, Written};
 use std::{ptr, slice};
 use Register::{Lent, Number, Place};
 
-const MOST_STACK: u32 = 65_536;
+const MOST_STACK: u32 = 32_768;
 
 fn check(what: &str, measured: Measured, code: u32) {
     let used = measured.used;
@@ -46,6 +46,15 @@ fn check_writing(what: &str, plan: &Plan, code: u32) {
     let registers = [Lent(&mut out), Number(LONGEST_TEXT), Number(0)];
     let measured = measure(Function::WritePlan, bytes_of(plan), registers);
     check(what, measured, code);
+}
+
+/// The answer is 1 or 0, in the register where others have their code.
+fn check_judging<T: Copy>(what: &str, function: Function, value: &T, yes: u32) {
+    check(
+        what,
+        measure(function, bytes_of(value), no_registers()),
+        yes,
+    );
 }
 
 fn check_opening(what: &str, plan: &Plan, code: u32) {
@@ -77,19 +86,24 @@ fn no_registers() -> [Register<'static>; 3] {
 }
 
 #[test]
-fn no_call_takes_more_than_64_kib() {
+fn no_call_takes_more_than_32_kib() {
     let plan = full_plan(&mut Rng::new(7), 64);
     let text = plan_text(&plan);
     check_reading("reading a plan", &text, 0);
     check_reading("a refused reading", &text[..text.len() - 1], 3);
     check_writing("writing a plan", &plan, 0);
     check_writing("a refused writing", &Plan::ZERO, 9);
+    check_judging("judging a plan", Function::IsAccepted, &plan, 1);
+    check_judging("a plan not accepted", Function::IsAccepted, &Plan::ZERO, 0);
     check_opening("opening a book", &plan, 0);
+    check_opening("a refused opening", &Plan::ZERO, 9);
     let book = open_book(&plan).book;
     let (task, tick) = last_moment_report(&book).expect("a fresh book has running tasks");
     check_report("a report", &book, (task, tick), 0);
     check_report("a refused report", &book, (65, tick), 10);
     check_figure("M", &book, 0);
+    check_judging("judging a book", Function::IsSound, &book, 1);
+    check_judging("a book not sound", Function::IsSound, &Book::ZERO, 0);
     let droppable = droppable_tasks(&book);
     check_drop("a drop", &book, droppable[0], 0);
     check_drop("a refused drop", &book, task, 19);
@@ -97,6 +111,7 @@ fn no_call_takes_more_than_64_kib() {
         .iter()
         .fold(book, |book, &task| must_take(&book, Event::Drop(task)));
     check_report("a report with drops", &all_dropped, (task, tick), 0);
+    check_judging("judging drops", Function::IsSound, &all_dropped, 1);
 }
 
 #[test]

@@ -1,12 +1,11 @@
-pub mod SoundLaws
 pub mod TableLaws
 pub mod StartLaws
 pub mod SkipLaws
-pub mod CodeLaws
-pub mod EarlyLaws
-pub mod Accepted
 pub mod Sizes
 pub mod Views
+pub mod SettleLaws
 pub mod Soundness
+pub mod Fits
 pub mod ReportLaws
+pub mod Handed
 pub mod Reports

@@ -1,242 +1,193 @@
--- What the public functions answer, by the tests that lead there; and what the start rule may count on.
+-- What the public functions answer, by the tests that lead there.
 use Prim.Native.Nat.{ℕ, _-_, _<_, _≤_}
 use native.Mathlib.Omega.{arith}
-use mathlib.Core.Bool.{Bool, true, false, not, _&&_, and-false}
+use mathlib.Core.Bool.{Bool, true, false, not, cond, _||_}
 use mathlib.Core.List.{[]}
-use mathlib.Core.Path.{_≡_, refl, sym, _∙_}
+use mathlib.Core.Path.{_≡_, refl, sym, ap, _∙_}
 use mathlib.Core.Logic.{_≢_}
-use lib.Dec.{eqb}
-use lib.ListN.{length, set, getD-replicate}
-use lib.Seq.{getD-set-same, getD-set-other}
+use lib.Dec.{leb, ltb, eqb}
+use lib.ListN.{length, set, replicate}
 use borrow.Author.Tests.{eq-eqb, ne-eqb, not-true, not-false}
-use Rattle.laws.specs.Cases.{by-eq, and-no}
-use Rattle.laws.specs.Every.{every}
-use Rattle.laws.specs.Latest.{latest}
-use Rattle.theory.specs.Book.{ended, taskTest, soundTest}
+use Rattle.laws.proofs.Cases.{by-bool, by-eq}
 use Rattle.theory.specs.Figure.{minimumEarly}
-use Rattle.theory.specs.Report.{Accepts, AcceptsDrop, reportCode, dropCode, nonePast}
-use Rattle.theory.proofs.Reflect.{code-accepts, code-accepts-drop, all-ended-at}
-use Rattle.theory.proofs.Task.{started-all}
+use Rattle.theory.specs.Book.{waiting, running, isDropped, limit}
+use Rattle.theory.specs.Report.{nonePast, reportCode, dropCode}
+use Rattle.theory.specs.Events.{Accepts, AcceptsDrop}
+use Rattle.theory.proofs.Reflect.{code-accepts, code-accepts-drop}
 use Rattle.plan.specs.Answer.{refuse, granted}
-use Rattle.plan.specs.Value.{at, isAccepted}
+use Rattle.plan.specs.Value.{isAccepted, zeroPlan}
 use Rattle.plan.specs.declared.Answer.{Answer}
 use Rattle.plan.specs.declared.Plan.{Plan}
-use Rattle.book.specs.View.{planIn, planView, bookView, planSeen}
-use Rattle.book.specs.Sound.{pastNothing, isSound}
-use Rattle.book.specs.Open.{blankBook, mayGo, letGoIn, skipTimesIn, openedOn, zeroBook, openingOf}
-use Rattle.book.specs.Report.{codeOf, reportAnswer, endedIn, nextBook, reportedOf}
+use Rattle.view.specs.View.{planSeen, bookSeen}
+use Rattle.view.proofs.Accepted.{PlanFacts, plan-facts}
+use Rattle.book.specs.View.{planIn, planView, bookView}
+use Rattle.book.specs.Sound.{isSound}
+use Rattle.book.specs.Open.{blankBook, openedOn, openingOf}
+use Rattle.book.specs.Report.{codeOf, reportAnswer, nextBook, reportedOf}
 use Rattle.book.specs.Drop.{dropCodeOf, dropAnswer, droppedIn, droppedOf}
 use Rattle.book.specs.Early.{figureOf}
-use Rattle.book.specs.Table.{Closed, Fit}
-use Rattle.book.specs.Arrays.{codeSeen, dropSeen, startsSeen}
 use Rattle.book.specs.declared.Book.{Book}
 use Rattle.book.specs.declared.Opening.{Opening}
 use Rattle.book.specs.declared.Reported.{Reported}
 use Rattle.book.specs.declared.Dropped.{Dropped}
 use Rattle.book.specs.declared.Figure.{Figure}
-use Rattle.book.proofs.Accepted.{PlanFacts, plan-facts, plan-lawful, plan-boards, plan-turns}
-use Rattle.book.proofs.Views.{at-zeros}
 use Rattle.book.proofs.Soundness.{SoundFacts, is-sound-facts}
-use Rattle.book.proofs.SkipLaws.{idle-times}
-
--- the soundness test, part by part
-module _ (book : Book) {plan : Bool} (p : plan ≡ isAccepted (planIn book)) where
-  pub unsound-plan : not plan ≡ true → false ≡ isSound book
-  unfolding isSound
-  unsound-plan h = rw (sym p ∙ not-true plan h)
-
-  module _ (accepted : not plan ≡ false) where
-    pub few-tasks : book .tasks ≤ 64
-    few-tasks = plan-facts (planIn book) (sym p ∙ not-false plan accepted) .tasks-to
-
-    module _ {past : Bool} (q : past ≡ pastNothing book) where
-      pub unsound-past : not past ≡ true → false ≡ isSound book
-      unfolding isSound
-      unsound-past h = rw (sym q ∙ not-true past h, and-false, and-false)
-
-      module _ (nothing : not past ≡ false) {tasks : Bool} (r : tasks ≡ every (book .tasks) (taskTest (planView book) (bookView book))) where
-        pub unsound-task : not tasks ≡ true → false ≡ isSound book
-        unfolding isSound soundTest
-        unsound-task h = rw (sym p ∙ not-false plan accepted, sym r ∙ not-true tasks h)
-
-        pub sound-clock :
-            not tasks ≡ false → {last : ℕ} → last ≡ latest (book .tasks) (ended (at (book .mark))) (at (book .end))
-            → eqb (book .clock) last ≡ isSound book
-        unfolding isSound soundTest
-        sound-clock h e =
-            rw (sym p ∙ not-false plan accepted, sym q ∙ not-false past nothing, sym r ∙ not-false tasks h, e)
-            (sym (and-true (eqb (book .clock) _)))
-          where
-            and-true : (b : Bool) → (b && true) ≡ b
-            and-true true = refl
-            and-true false = refl
-
--- nobody is dropped on a blank book
-none-dropped : (plan : Plan) (n : ℕ) → skipTimesIn n (blankBook plan) ≡ blankBook plan
-unfolding blankBook
-none-dropped plan n = idle-times n (blankBook plan) (λ i l. rw (at-zeros i) (and-no (mayGo (blankBook plan) i)))
 
 -- opening
 module _ (plan : Plan) {ok : Bool} (p : ok ≡ isAccepted plan) {answer : Answer} {book : Book} where
   pub opening-refused :
-      not ok ≡ true → answer ≡ refuse 9 0 0 → book ≡ zeroBook
+      not ok ≡ true → answer ≡ refuse 9 0 0 → book ≡ blankBook zeroPlan
       → _≡_ {A = Opening} (record { answer = answer; book = book }) (openingOf plan)
   unfolding openingOf
   opening-refused h a b = rw (sym p ∙ not-true ok h, a, b)
 
   pub opening-granted :
-      not ok ≡ false → answer ≡ granted → {empty : Book} → empty ≡ blankBook plan
-      → book ≡ letGoIn (skipTimesIn (empty .tasks) empty)
+      not ok ≡ false → answer ≡ granted → book ≡ openedOn plan
       → _≡_ {A = Opening} (record { answer = answer; book = book }) (openingOf plan)
-  unfolding openingOf openedOn
-  opening-granted h a e b = rw (sym p ∙ not-false ok h, a, b, e, none-dropped plan _)
+  unfolding openingOf
+  opening-granted h a b = rw (sym p ∙ not-false ok h, a, b)
 
--- nobody has started on a blank book
-pub fit-blank : (plan : Plan) → isAccepted plan ≡ true → Fit (blankBook plan)
-unfolding blankBook
-fit-blank plan h = record {
-  few = plan-facts plan h .tasks-to;
-  law = plan-lawful plan h;
-  on = plan-boards plan h;
-  turn = plan-turns plan h;
-  closed = λ i j li lj n w.
-      absurd (n (getD-replicate {A = ℕ} 64 i 0 0 (omega (arith, plan-facts plan h .tasks-to))));
-}
+pub sound-plan : (book : Book) → isSound book ≡ true → PlanFacts (planIn book)
+sound-plan book h = plan-facts (planIn book) ((is-sound-facts book) .0 h .accepted)
 
--- a sound book with one more running task ended
-module _ (book : Book) (k tick : ℕ) (f : SoundFacts book) (ok : Accepts (planView book) (bookView book) k tick)
-    (size : length (book .mark) ≡ 64) where
-  in-range : k < length (book .mark)
-  in-range = omega (arith, ok .task, plan-facts (planIn book) (f .accepted) .tasks-to)
+-- code 0 names a running task, code 0 of a drop a waiting one
+numbered-zero : (task code : ℕ) → cond (eqb task 0) 10 code ≡ 0 → (0 < task) × (code ≡ 0)
+numbered-zero task code h =
+    by-eq task 0
+    (λ e. let z : _≡_ {A = ℕ} 10 0 = rw (eq-eqb task 0 e) at h in absurd (omega arith))
+    (λ n. (omega arith, rw (ne-eqb task 0 n) at h))
 
-  closed-ended : Closed (planView book) (at (set (book .mark) k 2))
-  closed-ended i j li lj n w =
-      by-eq j k
-      (λ e. rw (e, getD-set-same (book .mark) k 2 0 in-range))
-      (λ e.
-      let started : at (book .mark) i ≢ 0 =
-      by-eq i k
-      (λ q z. let r : at (book .mark) i ≡ 1 = rw q (ok .runs) in omega arith)
-      (λ q z. n (getD-set-other (book .mark) k i 2 0 q ∙ z)) in
-      getD-set-other (book .mark) k j 2 0 e
-      ∙ all-ended-at (planView book) (at (book .mark)) i (started-all (f .sound .task i li) started) j lj w)
-
-  pub fit-ended : Fit (endedIn book k tick)
-  unfolding endedIn
-  fit-ended = record {
-    few = plan-facts (planIn book) (f .accepted) .tasks-to;
-    law = plan-lawful (planIn book) (f .accepted);
-    on = plan-boards (planIn book) (f .accepted);
-    turn = plan-turns (planIn book) (f .accepted);
-    closed = closed-ended;
-  }
-
--- code 0 names a running task
 pub code-zero :
     (book : Book) (task tick : ℕ) → codeOf book task tick ≡ 0
     → (0 < task) × (Accepts (planView book) (bookView book) (task - 1) tick)
 unfolding codeOf
 code-zero book task tick h =
-    by-eq task 0
-    (λ e. let z : _≡_ {A = ℕ} 10 0 = rw (eq-eqb task 0 e) at h in absurd (omega arith))
-    (λ n. (omega arith, code-accepts (planView book) (bookView book) (task - 1) tick (rw (ne-eqb task 0 n) at h)))
+    let r = numbered-zero task _ h in (r .0, code-accepts (planView book) (bookView book) (task - 1) tick (r .1))
 
-pub sound-plan : (book : Book) → isSound book ≡ true → PlanFacts (planIn book)
-sound-plan book h = plan-facts (planIn book) ((is-sound-facts book) .0 h .accepted)
-
--- a report
-module _ (book : Book) (task tick : ℕ) {sound : Bool} (s : sound ≡ isSound book) where
-  pub reported-unsound :
-      {answer : Answer} → not sound ≡ true → answer ≡ refuse 9 0 0
-      → _≡_ {A = Reported} (record { answer = answer; book = book }) (reportedOf book task tick)
-  unfolding reportedOf reportAnswer
-  reported-unsound h a = rw (a, sym s ∙ not-true sound h)
-
-  module _ (h : not sound ≡ false) where
-    its-sound : isSound book ≡ true
-    its-sound = sym s ∙ not-false sound h
-
-    pub sound-few : book .tasks ≤ 64
-    sound-few = sound-plan book its-sound .tasks-to
-
-    module _ {code : ℕ}
-        (c : code ≡ codeSeen (book .tasks) (book .begin) (book .finish) (book .mark) (book .start) (book .clock) task tick) where
-      its-code : code ≡ codeOf book task tick
-      unfolding codeOf reportCode nonePast
-      its-code = c
-
-      pub reported-refused :
-          {answer : Answer} → code ≢ 0 → answer ≡ refuse code task tick
-          → _≡_ {A = Reported} (record { answer = answer; book = book }) (reportedOf book task tick)
-      unfolding reportedOf reportAnswer
-      reported-refused n a = rw (a, its-sound, ← its-code, ne-eqb code 0 n, ne-eqb code 0 n)
-
-      module _ (z : code ≡ 0) where
-        its-task : (0 < task) × (Accepts (planView book) (bookView book) (task - 1) tick)
-        its-task = code-zero book task tick (sym its-code ∙ z)
-
-        pub granted-task : 0 < task
-        granted-task = its-task .0
-
-        pub granted-place : task - 1 < 64
-        granted-place = omega (arith, its-task .1 .task, sound-few)
-
-        pub granted-fit : length (book .mark) ≡ 64 → Fit (endedIn book (task - 1) tick)
-        granted-fit size = fit-ended book (task - 1) tick ((is-sound-facts book) .0 its-sound) (its-task .1) size
-
-        pub reported-granted :
-            {answer : Answer} → answer ≡ granted → {next : Book}
-            → next ≡ letGoIn (skipTimesIn (book .tasks) (endedIn book (task - 1) tick))
-            → _≡_ {A = Reported} (record { answer = answer; book = next }) (reportedOf book task tick)
-        unfolding reportedOf reportAnswer nextBook
-        reported-granted a e = rw (a, e, its-sound, ← its-code, eq-eqb code 0 z)
-
--- code 0 of a drop names a waiting task
 pub drop-zero :
     (book : Book) (task : ℕ) → dropCodeOf book task ≡ 0 → (0 < task) × (AcceptsDrop (planView book) (bookView book) (task - 1))
 unfolding dropCodeOf
 drop-zero book task h =
-    by-eq task 0
-    (λ e. let z : _≡_ {A = ℕ} 10 0 = rw (eq-eqb task 0 e) at h in absurd (omega arith))
-    (λ n. (omega arith, code-accepts-drop (planView book) (bookView book) (task - 1) (rw (ne-eqb task 0 n) at h)))
+    let r = numbered-zero task _ h in (r .0, code-accepts-drop (planView book) (bookView book) (task - 1) (r .1))
+
+-- the other codes are not 9
+not-nine : (test : Bool) (one other : ℕ) → one ≢ 9 → other ≢ 9 → cond test one other ≢ 9
+not-nine true one other n m = n
+not-nine false one other n m = m
+
+report-not-nine : (book : Book) (task tick : ℕ) → codeOf book task tick ≢ 9
+unfolding codeOf reportCode
+report-not-nine book task tick =
+    let plan = planView book in
+    let seen = bookView book in
+    let k = task - 1 in
+    not-nine (eqb task 0) 10 _ (λ e. omega arith)
+    (not-nine (leb (book .tasks) k) 10 _ (λ e. omega arith)
+    (not-nine (not (running (seen .mark) k)) 11 _ (λ e. omega arith)
+    (not-nine (ltb tick (book .clock)) 12 _ (λ e. omega arith)
+    (not-nine (leb tick (seen .start k)) 13 _ (λ e. omega arith)
+    (not-nine (ltb (limit plan seen k) tick) 14 _ (λ e. omega arith)
+    (not-nine (not (nonePast plan seen tick)) 15 0 (λ e. omega arith) (λ e. omega arith)))))))
+
+drop-not-nine : (book : Book) (task : ℕ) → dropCodeOf book task ≢ 9
+unfolding dropCodeOf dropCode
+drop-not-nine book task =
+    let seen = bookView book in
+    let k = task - 1 in
+    not-nine (eqb task 0) 10 _ (λ e. omega arith)
+    (not-nine (leb (book .tasks) k) 10 _ (λ e. omega arith)
+    (not-nine (not (waiting (seen .mark) k) || isDropped (seen .dropped) k) 19 0 (λ e. omega arith) (λ e. omega arith)))
+
+-- 9 first, then the code of a sound book
+module _ (sound : Bool) (inner code : ℕ) (c : code ≡ cond (not sound) 9 inner) where
+  pub told-granted : code ≡ 0 → (sound ≡ true) × (inner ≡ 0)
+  told-granted z =
+      by-bool sound
+      (λ h. (h, let r = sym c ∙ z in rw h at r))
+      (λ h. let r = sym c ∙ z in let q : _≡_ {A = ℕ} 9 0 = rw h at r in absurd (omega arith))
+
+  pub told-refused :
+      (first second : ℕ) → inner ≢ 9 → code ≢ 0
+      → cond (eqb code 9) (refuse 9 0 0) (refuse code first second)
+      ≡ cond (not sound) (refuse 9 0 0) (cond (eqb inner 0) granted (refuse inner first second))
+  told-refused first second n z =
+      by-bool sound
+      (λ h.
+      let e : code ≡ inner = rw h at c in
+      let m : inner ≢ 0 = λ q. z (e ∙ q) in
+      rw (h, e, ne-eqb inner 9 n, ne-eqb inner 0 m))
+      (λ h. let e : code ≡ 9 = rw h at c in rw (h, e))
+
+not-granted : (sound : Bool) (inner code first second : ℕ) → code ≡ cond (not sound) 9 inner → code ≢ 0
+    → eqb ((cond (not sound) (refuse 9 0 0) (cond (eqb inner 0) granted (refuse inner first second))) .code) 0 ≡ false
+not-granted true inner code first second c z =
+    let m : inner ≢ 0 = λ q. z (c ∙ q) in rw (ne-eqb inner 0 m) (ne-eqb inner 0 m)
+not-granted false inner code first second c z = refl
+
+-- a report
+module _ (book : Book) (task tick : ℕ) {code : ℕ} (c : code ≡ cond (not (isSound book)) 9 (codeOf book task tick)) where
+  pub reported-refused :
+      {answer : Answer} → code ≢ 0 → answer ≡ cond (eqb code 9) (refuse 9 0 0) (refuse code task tick)
+      → _≡_ {A = Reported} (record { answer = answer; book = book }) (reportedOf book task tick)
+  unfolding reportedOf reportAnswer
+  reported-refused n a =
+      rw (a, told-refused (isSound book) (codeOf book task tick) code c task tick (report-not-nine book task tick) n, not-granted (isSound book) (codeOf book task tick) code task tick c n)
+
+  module _ (z : code ≡ 0) where
+    pub its-sound : isSound book ≡ true
+    its-sound = told-granted (isSound book) (codeOf book task tick) code c z .0
+
+    its-task : (0 < task) × (Accepts (planView book) (bookView book) (task - 1) tick)
+    its-task = code-zero book task tick (told-granted (isSound book) (codeOf book task tick) code c z .1)
+
+    pub granted-task : 0 < task
+    granted-task = its-task .0
+
+    pub granted-accepts : Accepts (planView book) (bookView book) (task - 1) tick
+    granted-accepts = its-task .1
+
+    pub granted-place : task - 1 < 64
+    granted-place = omega (arith, its-task .1 .task, sound-plan book its-sound .tasks-to)
+
+    pub granted-facts : SoundFacts book
+    granted-facts = (is-sound-facts book) .0 its-sound
+
+    pub reported-granted :
+        {answer : Answer} → answer ≡ granted → {next : Book} → next ≡ nextBook book (task - 1) tick
+        → _≡_ {A = Reported} (record { answer = answer; book = next }) (reportedOf book task tick)
+    unfolding reportedOf reportAnswer
+    reported-granted a e = rw (a, e, its-sound, told-granted (isSound book) (codeOf book task tick) code c z .1)
 
 -- a drop
-module _ (book : Book) (task : ℕ) {sound : Bool} (s : sound ≡ isSound book) where
-  pub dropped-unsound :
-      {answer : Answer} → not sound ≡ true → answer ≡ refuse 9 0 0
+module _ (book : Book) (task : ℕ) {code : ℕ} (c : code ≡ cond (not (isSound book)) 9 (dropCodeOf book task)) where
+  pub dropped-refused :
+      {answer : Answer} → code ≢ 0 → answer ≡ cond (eqb code 9) (refuse 9 0 0) (refuse code task 0)
       → _≡_ {A = Dropped} (record { answer = answer; book = book }) (droppedOf book task)
   unfolding droppedOf dropAnswer
-  dropped-unsound h a = rw (a, sym s ∙ not-true sound h)
+  dropped-refused n a =
+      rw (a, told-refused (isSound book) (dropCodeOf book task) code c task 0 (drop-not-nine book task) n, not-granted (isSound book) (dropCodeOf book task) code task 0 c n)
 
-  module _ (h : not sound ≡ false) {code : ℕ} (c : code ≡ dropSeen (book .tasks) (book .mark) (book .dropped) task) where
-    drop-sound : isSound book ≡ true
-    drop-sound = sym s ∙ not-false sound h
+  module _ (z : code ≡ 0) where
+    drop-task : (0 < task) × (AcceptsDrop (planView book) (bookView book) (task - 1))
+    drop-task = drop-zero book task (told-granted (isSound book) (dropCodeOf book task) code c z .1)
 
-    drop-code-is : code ≡ dropCodeOf book task
-    unfolding dropCodeOf dropCode
-    drop-code-is = c
+    pub dropped-task : 0 < task
+    dropped-task = drop-task .0
 
-    pub dropped-refused :
-        {answer : Answer} → code ≢ 0 → answer ≡ refuse code task 0
-        → _≡_ {A = Dropped} (record { answer = answer; book = book }) (droppedOf book task)
+    pub dropped-facts : SoundFacts book
+    dropped-facts = (is-sound-facts book) .0 (told-granted (isSound book) (dropCodeOf book task) code c z .0)
+
+    pub dropped-known : task - 1 < book .tasks
+    dropped-known = drop-task .1 .task
+
+    pub dropped-place : task - 1 < 64
+    dropped-place = omega (arith, dropped-known, sound-plan book (told-granted (isSound book) (dropCodeOf book task) code c z .0) .tasks-to)
+
+    pub dropped-granted :
+        {answer : Answer} → answer ≡ granted → {next : Book} → next ≡ droppedIn book (task - 1)
+        → _≡_ {A = Dropped} (record { answer = answer; book = next }) (droppedOf book task)
     unfolding droppedOf dropAnswer
-    dropped-refused n a = rw (a, drop-sound, ← drop-code-is, ne-eqb code 0 n, ne-eqb code 0 n)
-
-    module _ (z : code ≡ 0) where
-      drop-task : (0 < task) × (AcceptsDrop (planView book) (bookView book) (task - 1))
-      drop-task = drop-zero book task (sym drop-code-is ∙ z)
-
-      pub dropped-task : 0 < task
-      dropped-task = drop-task .0
-
-      pub dropped-place : task - 1 < 64
-      dropped-place = omega (arith, drop-task .1 .task, sound-plan book drop-sound .tasks-to)
-
-      pub dropped-granted :
-          {answer : Answer} → answer ≡ granted → {next : Book} → next ≡ droppedIn book (task - 1)
-          → _≡_ {A = Dropped} (record { answer = answer; book = next }) (droppedOf book task)
-      unfolding droppedOf dropAnswer
-      dropped-granted a e = rw (a, e, drop-sound, ← drop-code-is, eq-eqb code 0 z)
+    dropped-granted a e = rw (a, e, told-granted (isSound book) (dropCodeOf book task) code c z .0, told-granted (isSound book) (dropCodeOf book task) code c z .1)
 
 -- the same of the definitions alone
 module _ (book : Book) (task : ℕ) (h : isSound book ≡ true) where
@@ -265,12 +216,7 @@ module _ (book : Book) {sound : Bool} (s : sound ≡ isSound book) {answer : Ans
 
   pub figure-granted :
       not sound ≡ false → answer ≡ granted → {early : ℕ}
-      → early ≡ minimumEarly (planSeen (book .tasks) (book .begin) []) (startsSeen (book .mark) (book .start) 0)
+      → early ≡ minimumEarly (planSeen (book .tasks) (book .begin) []) (bookSeen (book .mark) (book .start) [] [] 0)
       → _≡_ {A = Figure} (record { answer = answer; early = early }) (figureOf book)
   unfolding figureOf minimumEarly
   figure-granted h a e = rw (a, e, sym s ∙ not-false sound h)
-
--- what the figure asks of a sound book
-pub figure-fit : (book : Book) {sound : Bool} → sound ≡ isSound book → not sound ≡ false → book .tasks ≤ 64
-figure-fit book s h =
-    let f = (is-sound-facts book) .0 (sym s ∙ not-false _ h) in plan-facts (planIn book) (f .accepted) .tasks-to

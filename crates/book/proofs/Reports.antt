@@ -6,8 +6,10 @@ use mathlib.Core.Path.{_≡_, sym, ap, _∙_}
 use mathlib.Core.Logic.{_≢_}
 use lib.Dec.{eqb}
 use borrow.Author.Tests.{eq-eqb, ne-eqb, le-leb}
-use Rattle.laws.specs.Cases.{by-eq}
-use Rattle.theory.specs.Report.{reportCode, dropCode, Event, eventCode, stepTo, bookAfter}
+use Rattle.laws.proofs.Cases.{by-eq}
+use Rattle.theory.specs.Report.{reportCode, dropCode}
+use Rattle.theory.specs.Events.{Event}
+use Rattle.theory.proofs.Facts.{eventCode, stepTo, bookAfter}
 use Rattle.theory.proofs.Reflect.{after-taken, after-refused}
 use Rattle.book.specs.View.{planIn, planView, bookView}
 use Rattle.book.specs.Sound.{isSound}
@@ -15,12 +17,9 @@ use Rattle.book.specs.Report.{codeOf, nextBook}
 use Rattle.book.specs.Drop.{dropCodeOf, droppedIn}
 use Rattle.book.specs.Event.{bookTold}
 use Rattle.book.specs.declared.Book.{Book}
-use Rattle.book.proofs.Sizes.{Sized, sized-next, plan-next}
-use Rattle.book.proofs.Views.{view-next}
-use Rattle.book.proofs.Soundness.{next-is-sound}
-use Rattle.book.proofs.Sizes.{sized-dropped, plan-dropped}
-use Rattle.book.proofs.Views.{view-dropped}
-use Rattle.book.proofs.Soundness.{dropped-is-sound}
+use Rattle.book.proofs.Sizes.{Sized, sized-next, plan-next, sized-dropped, plan-dropped}
+use Rattle.book.proofs.Views.{view-next, view-dropped}
+use Rattle.book.proofs.Soundness.{is-sound-facts, next-is-sound, dropped-is-sound}
 use Rattle.book.proofs.ReportLaws.{code-zero, drop-zero, sound-plan, book-refused, book-granted, drop-refused-book, drop-granted-book}
 
 -- the code of a report or drop from 10 on, and the book after one that is accepted
@@ -60,23 +59,23 @@ step-sized book (Event.ends task tick) s = sized-next book (task - 1) tick s
 step-sized book (Event.drops task) s = sized-dropped book (task - 1) s
 
 module _ (book : Book) (h : isSound book ≡ true) where
-  step-sound : (event : Event) → codeIn book event ≡ 0 → Sized book → isSound (stepIn book event) ≡ true
-  step-sound (Event.ends task tick) z s = next-is-sound book (task - 1) tick s h (code-zero book task tick z .1)
-  step-sound (Event.drops task) z s = dropped-is-sound book (task - 1) s h (drop-zero book task z .1)
+  step-sound : (event : Event) → codeIn book event ≡ 0 → isSound (stepIn book event) ≡ true
+  step-sound (Event.ends task tick) z = next-is-sound book h (task - 1) tick (code-zero book task tick z .1)
+  step-sound (Event.drops task) z = dropped-is-sound book h (task - 1) (drop-zero book task z .1)
 
   step-view :
-      (event : Event) → codeIn book event ≡ 0 → Sized book
+      (event : Event) → codeIn book event ≡ 0
       → bookView (stepIn book event) ≡ stepTo (planView book) (bookView book) (theoryEvent (book .tasks) event)
-  step-view (Event.ends task tick) z s =
+  step-view (Event.ends task tick) z =
       let r = code-zero book task tick z in
-      let few = sound-plan book h .tasks-to in
       let n : task ≢ 0 = omega (arith, r .0) in
-      rw (ne-eqb task 0 n) (view-next book (task - 1) tick s few (omega (arith, r .1 .task)))
-  step-view (Event.drops task) z s =
+      rw (ne-eqb task 0 n)
+      (view-next book (sound-plan book h .tasks-to) ((is-sound-facts book) .0 h .past) (task - 1) tick (r .1 .task))
+  step-view (Event.drops task) z =
       let r = drop-zero book task z in
-      let few = sound-plan book h .tasks-to in
       let n : task ≢ 0 = omega (arith, r .0) in
-      rw (ne-eqb task 0 n) (view-dropped book (task - 1) s (omega (arith, r .1 .task)))
+      rw (ne-eqb task 0 n)
+      (view-dropped book (sound-plan book h .tasks-to) ((is-sound-facts book) .0 h .past) (task - 1) (r .1 .task))
 
 pub data Told (book : Book) (event : Event) (after : Book) : Type 0 where
   taken : codeIn book event ≡ 0 → after ≡ stepIn book event → Told book event after
@@ -101,32 +100,31 @@ module _ (book : Book) (h : isSound book ≡ true) where
         go after (Told.taken z e) = rw e (step-plan book event)
         go after (Told.refused n e) = rw e
 
-    module _ (s : Sized book) where
-      pub event-sized : Sized (bookTold book event)
-      event-sized = go (bookTold book event) (told event)
-        where
-          go : (after : Book) → Told book event after → Sized after
-          go after (Told.taken z e) = rw e (step-sized book event s)
-          go after (Told.refused n e) = rw e s
+    pub event-sized : Sized book → Sized (bookTold book event)
+    event-sized s = go (bookTold book event) (told event)
+      where
+        go : (after : Book) → Told book event after → Sized after
+        go after (Told.taken z e) = rw e (step-sized book event s)
+        go after (Told.refused n e) = rw e s
 
-      pub event-sound : isSound (bookTold book event) ≡ true
-      event-sound = go (bookTold book event) (told event)
-        where
-          go : (after : Book) → Told book event after → isSound after ≡ true
-          go after (Told.taken z e) = rw e (step-sound book h event z s)
-          go after (Told.refused n e) = rw e h
+    pub event-sound : isSound (bookTold book event) ≡ true
+    event-sound = go (bookTold book event) (told event)
+      where
+        go : (after : Book) → Told book event after → isSound after ≡ true
+        go after (Told.taken z e) = rw e (step-sound book h event z)
+        go after (Told.refused n e) = rw e h
 
-      pub event-view :
-          bookView (bookTold book event) ≡ bookAfter (planView book) (bookView book) (theoryEvent (book .tasks) event)
-      event-view = go (bookTold book event) (told event)
-        where
-          go :
-              (after : Book) → Told book event after
-              → bookView after ≡ bookAfter (planView book) (bookView book) (theoryEvent (book .tasks) event)
-          go after (Told.taken z e) =
-              ap (λ (x : Book). bookView x) e ∙ step-view book h event z s
-              ∙ sym (after-taken (planView book) (bookView book) (theoryEvent (book .tasks) event) (sym (code-seen-by book event) ∙ z))
-          go after (Told.refused n e) =
-              ap (λ (x : Book). bookView x) e
-              ∙ sym
-              (after-refused (planView book) (bookView book) (theoryEvent (book .tasks) event) (λ z. n (code-seen-by book event ∙ z)))
+    pub event-view :
+        bookView (bookTold book event) ≡ bookAfter (planView book) (bookView book) (theoryEvent (book .tasks) event)
+    event-view = go (bookTold book event) (told event)
+      where
+        go :
+            (after : Book) → Told book event after
+            → bookView after ≡ bookAfter (planView book) (bookView book) (theoryEvent (book .tasks) event)
+        go after (Told.taken z e) =
+            ap (λ (x : Book). bookView x) e ∙ step-view book h event z
+            ∙ sym (after-taken (planView book) (bookView book) (theoryEvent (book .tasks) event) (sym (code-seen-by book event) ∙ z))
+        go after (Told.refused n e) =
+            ap (λ (x : Book). bookView x) e
+            ∙ sym
+            (after-refused (planView book) (bookView book) (theoryEvent (book .tasks) event) (λ z. n (code-seen-by book event ∙ z)))

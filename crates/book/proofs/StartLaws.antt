@@ -1,90 +1,88 @@
--- The start rule by the table lets go whoever may go.
-use Prim.Native.Nat.{ℕ, _+_, _<_}
-use mathlib.Core.Bool.{true, false, cond, _&&_}
-use mathlib.Core.List.{List}
-use mathlib.Core.Path.{_≡_, refl, _∙_}
-use lib.ListN.{set}
+-- Values put at the places that are picked, and the start rule by the table.
+use Prim.Native.Nat.{ℕ, _+_, _<_, _≤_}
+use mathlib.Core.Bool.{Bool, true, false, cond}
+use mathlib.Core.List.{List, []}
+use mathlib.Core.Path.{_≡_, refl, sym, _∙_}
+use mathlib.Core.Logic.{_≢_}
+use lib.ListN.{length, getD, set, List·getD-eq-default}
+use native.Mathlib.Omega.{arith}
 use borrow.Author.Tests.{ne-eqb, lt-ltb}
-use Rattle.laws.specs.Cases.{by-eq}
-use Rattle.laws.specs.Each.{each, each-turn, each-skip}
-use Rattle.theory.specs.Book.{waiting}
+use Rattle.laws.proofs.Cases.{by-bool, by-eq, by-le}
+use Rattle.laws.specs.Each.{each}
+use Rattle.laws.proofs.Each.{each-turn, each-skip, each-past, each-below, each-idle, length-each}
+use Rattle.theory.specs.Plan.{Plan}
 use Rattle.theory.specs.Report.{goes}
 use Rattle.plan.specs.Value.{at}
-use Rattle.book.specs.View.{planView}
-use Rattle.book.specs.Open.{mayGo, letGoIn}
-use Rattle.book.specs.Table.{rowEnded, RowTo, Fit}
-use Rattle.book.specs.declared.Book.{Book}
+use Rattle.book.specs.private.Table.{goesByRow, putEach, startsBy, seenAs, TableTo, Fit}
+use Rattle.book.specs.declared.Moved.{Moved}
 use Rattle.book.proofs.TableLaws.{row-rule}
 
--- the tasks below n looked at
-unfoldable pub startedTo : Book → ℕ → Book
-startedTo book n = record {
-  boards = book .boards;
-  tasks = book .tasks;
-  clock = book .clock;
-  board = book .board;
-  begin = book .begin;
-  finish = book .finish;
-  start = each n (λ i. cond (mayGo book i) (book .clock) (at (book .start) i)) (book .start);
-  end = book .end;
-  mark = each n (λ i. cond (mayGo book i) 1 (at (book .mark) i)) (book .mark);
-  dropped = book .dropped;
-  holds = book .holds;
-  after = book .after;
-}
+module _ (pick : ℕ → Bool) (v : ℕ) (l : List ℕ) where
+  pub put-none : putEach 0 pick v l ≡ l
+  unfolding each
+  put-none = refl
 
-pub started-none : (book : Book) → book ≡ startedTo book 0
-unfolding startedTo each
-started-none book = refl
+  pub put-turn : (n : ℕ) → pick n ≡ true → set (putEach n pick v l) n v ≡ putEach (n + 1) pick v l
+  put-turn n h = rw (each-turn n (λ i. cond (pick i) v (at l i)) l, h)
 
-pub started-all : (book : Book) → startedTo book (book .tasks) ≡ letGoIn book
-unfolding startedTo letGoIn
-started-all book = refl
+  pub put-stay : (n : ℕ) → pick n ≡ false → putEach n pick v l ≡ putEach (n + 1) pick v l
+  put-stay n h = each-skip n (λ i. cond (pick i) v (at l i)) l 0 (rw h)
 
-module _ (book : Book) (i : ℕ) {next : Book} (h : next ≡ startedTo book i) where
-  pub started-go :
-      mayGo book i ≡ true
-      → _≡_ {A = Book}
-      (record {
-        boards = next .boards;
-        tasks = next .tasks;
-        clock = next .clock;
-        board = next .board;
-        begin = next .begin;
-        finish = next .finish;
-        start = set (next .start) i (book .clock);
-        end = next .end;
-        mark = set (next .mark) i 1;
-        dropped = next .dropped;
-        holds = next .holds;
-        after = next .after;
-      })
-      (startedTo book (i + 1))
-  unfolding startedTo
-  started-go g =
-      rw (
-        h,
-        each-turn i (λ x. cond (mayGo book x) (book .clock) (at (book .start) x)) (book .start),
-        each-turn i (λ x. cond (mayGo book x) 1 (at (book .mark) x)) (book .mark),
-        g,
-      )
+  pub put-idle : (n : ℕ) → ((i : ℕ) → i < n → pick i ≡ false) → putEach n pick v l ≡ l
+  put-idle n none = each-idle n (λ i. cond (pick i) v (at l i)) l 0 (λ i h. rw (none i h))
 
-  pub started-stay : mayGo book i ≡ false → next ≡ startedTo book (i + 1)
-  unfolding startedTo
-  started-stay g =
-      let s = each-skip i (λ x. cond (mayGo book x) (book .clock) (at (book .start) x)) (book .start) 0 (rw g) in
-      let m = each-skip i (λ x. cond (mayGo book x) 1 (at (book .mark) x)) (book .mark) 0 (rw g) in
-      h ∙ rw (s, m)
+  pub length-put : (n : ℕ) → length (putEach n pick v l) ≡ length l
+  length-put n = length-each n _ l
+
+  -- as a function that picks the same below n and nobody past it
+  pub put-at :
+      (n : ℕ) (go : ℕ → Bool) → n ≤ length l → ((i : ℕ) → i < n → pick i ≡ go i) → ((j : ℕ) → n ≤ j → go j ≡ false) → (j : ℕ)
+      → at (putEach n pick v l) j ≡ cond (go j) v (at l j)
+  put-at n go few same none j =
+      by-le n j
+      (λ h. each-past n _ l j 0 h ∙ rw (none j h))
+      (λ h. each-below n _ l j 0 h (omega arith) ∙ rw (same j h))
+
+  -- a value that is not 0 leaves a 0 only where one was
+  pub put-back : (n : ℕ) → v ≢ 0 → (i : ℕ) → at (putEach n pick v l) i ≡ 0 → at l i ≡ 0
+  put-back n ne i z =
+      by-le n i
+      (λ h. sym (each-past n _ l i 0 h) ∙ z)
+      (λ h.
+      by-le (length l) i
+      (λ q. List·getD-eq-default l 0 {n = i} q)
+      (λ q.
+      let e = sym (each-below n (λ x. cond (pick x) v (at l x)) l i 0 h q) ∙ z in
+      by-bool (pick i)
+      (λ p. absurd (ne (rw p at e)))
+      (λ p. rw p at e)))
 
 -- by its row a task goes when it may
-pub goes-by-row :
-    (book : Book) → Fit book → (i : ℕ) → i < book .tasks → (row : List ℕ)
-    → (at (book .mark) i ≡ 0 → RowTo (planView book) (at (book .board)) i (book .tasks) row)
-    → (waiting (at (book .mark)) i && rowEnded (at (book .mark)) row) ≡ mayGo book i
-unfolding goes
-goes-by-row book fit i l row r =
-    rw (lt-ltb i (book .tasks) l)
-    (by-eq (at (book .mark) i) 0
-    (λ z.
-    rw (row-rule (planView book) (at (book .board)) (at (book .mark)) (fit .law) (fit .on) (fit .turn) (fit .closed) i row (r z)))
-    (λ n. rw (ne-eqb (at (book .mark) i) 0 n)))
+module _ (plan : Plan) (board : ℕ → ℕ) (old : Moved) (dropped : List ℕ) (clock : ℕ) (table : List (List ℕ))
+    (fit : Fit plan board (seenAs old dropped clock)) (rows : TableTo plan board (at (old .mark)) (plan .tasks) table) where
+  pub go-by-row : (i : ℕ) → i < plan .tasks → goesByRow (old .mark) table i ≡ goes plan (seenAs old dropped clock) i
+  unfolding goes
+  go-by-row i l =
+      rw (lt-ltb i (plan .tasks) l)
+      (by-eq (at (old .mark) i) 0
+      (λ z.
+      rw (row-rule plan board (at (old .mark)) (fit .law) (fit .on) (fit .turn) (fit .closed) i (getD table i []) (rows .rows i l z)))
+      (λ n. rw (ne-eqb (at (old .mark) i) 0 n)))
+
+-- the starts, task by task
+module _ (table : List (List ℕ)) (clock : ℕ) (old : Moved) where
+  pub starts-none : old ≡ startsBy table clock 0 old
+  unfolding startsBy each
+  starts-none = refl
+
+  module _ (i : ℕ) {next : Moved} (h : next ≡ startsBy table clock i old) where
+    pub starts-go :
+        goesByRow (old .mark) table i ≡ true
+        → _≡_ {A = Moved} (record { mark = set (next .mark) i 1; start = set (next .start) i clock; end = next .end })
+        (startsBy table clock (i + 1) old)
+    unfolding startsBy
+    starts-go g = rw (h, put-turn (goesByRow (old .mark) table) 1 (old .mark) i g, put-turn (goesByRow (old .mark) table) clock (old .start) i g)
+
+    pub starts-stay : goesByRow (old .mark) table i ≡ false → next ≡ startsBy table clock (i + 1) old
+    unfolding startsBy
+    starts-stay g = h ∙ rw (put-stay (goesByRow (old .mark) table) 1 (old .mark) i g, put-stay (goesByRow (old .mark) table) clock (old .start) i g)

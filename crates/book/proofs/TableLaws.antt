@@ -9,14 +9,15 @@ use lib.Dec.{eqb}
 use lib.ListN.{length, set}
 use lib.Seq.{getD-set-same, getD-set-other}
 use borrow.Author.Tests.{eq-eqb, ne-eqb, eqb-true}
-use Rattle.laws.specs.Cases.{by-eq, true-false, same-test, and-l, and-r, and-of}
-use Rattle.laws.specs.Every.{every-at, every-of}
-use Rattle.laws.specs.Last.{lastOf, laterOf, last-taken, last-passed, Last, last-is, last-small}
+use Rattle.laws.proofs.Cases.{by-eq, true-false, same-test, and-l, and-r, and-of}
+use Rattle.laws.proofs.Every.{every-at, every-of}
+use Rattle.laws.specs.Picked.{lastOf, laterOf}
+use Rattle.laws.proofs.Last.{last-taken, last-passed, Last, last-is, last-small}
 use Rattle.theory.specs.Plan.{Plan, Lawful}
 use Rattle.theory.specs.Book.{allEnded}
 use Rattle.theory.proofs.Reflect.{all-ended-at, all-ended-of}
 use Rattle.plan.specs.Value.{at}
-use Rattle.book.specs.Table.{waitsOn, lastTask, hasEnded, rowEnded, SmallRow, RowTo, TableTo, OnEight, InTurn, Closed}
+use Rattle.book.specs.private.Table.{waitsOn, lastTask, hasEnded, rowEnded, SmallRow, RowTo, TableTo, OnEight, InTurn, Closed}
 
 -- a row, task by task
 module _ (plan : Plan) (board : ℕ → ℕ) (i : ℕ) where

@@ -1,148 +1,119 @@
--- What the functions do to a book, as the theory sees it.
-use Prim.Native.Nat.{ℕ, zero, suc, _-_, _<_, _≤_}
+-- The theory's book laid out is seen as itself, and a book of which nothing is kept past its tasks is laid out as itself.
+use Prim.Native.Nat.{ℕ, _<_, _≤_}
 use native.Mathlib.Omega.{arith}
-use mathlib.Core.Bool.{Bool, false, cond}
+use mathlib.Core.Bool.{true}
 use mathlib.Core.List.{List}
-use mathlib.Core.Path.{_≡_, refl, ap, _∙_}
-use lib.ListN.{length, set, replicate, getD-replicate, List·getD-eq-default}
+use mathlib.Core.Path.{_≡_, refl, sym, _∙_}
+use mathlib.Core.Logic.{_↔_}
+use lib.ListN.{length, set, length-set}
 use lib.Seq.{getD-set-same, getD-set-other}
-use borrow.Author.Tests.{eq-eqb, ne-eqb, le-ltb}
-use Rattle.laws.specs.Cases.{by-eq, by-le}
-use Rattle.laws.specs.Each.{each, each-past, each-below}
-use Rattle.theory.specs.Report.{put, endIt, goes, skipOnce, skipTimes, letGo, next, dropIt, blank, opened}
-use Rattle.plan.specs.Value.{at}
+use borrow.Author.Tests.{eq-eqb, ne-eqb}
+use Rattle.laws.proofs.Cases.{by-eq, and-l, and-r, and-of}
+use Rattle.theory.specs.Plan as theory-plan
+use Rattle.theory.specs.Book as theory-book
+use Rattle.theory.specs.Report.{putAt, endIt, next, dropIt, blank, opened}
+use Rattle.theory.proofs.Past.{SamePast, past-next, past-drop, past-opened}
+use Rattle.plan.specs.Value.{at, blankFrom}
 use Rattle.plan.specs.declared.Plan.{Plan}
-use Rattle.book.specs.View.{planIn, planView, bookView}
-use Rattle.book.specs.Open.{blankBook, mayGo, letGoIn, maySkip, skipIn, skipTimesIn, openedOn}
-use Rattle.book.specs.Report.{endedIn, nextBook}
+use Rattle.view.specs.View.{planFor, laid}
+use Rattle.view.proofs.Blank.{blank-at, blank-of}
+use Rattle.view.proofs.Laid.{laid-own, laid-is, laid-past}
+use Rattle.sound.specs.Sound.{nothingPast}
+use Rattle.book.specs.View.{planIn, planView, bookView, layOut}
+use Rattle.book.specs.Open.{openedOn}
+use Rattle.book.specs.Report.{nextBook}
 use Rattle.book.specs.Drop.{droppedIn}
+use Rattle.book.specs.private.Table.{Past}
 use Rattle.book.specs.declared.Book.{Book}
-use Rattle.book.proofs.Accepted.{planFor}
-use Rattle.book.proofs.Sizes.{SizedPlan, Sized, sized-skip, sized-skips, sized-ended, sized-blank, length-zeros, plan-skips, plan-ended}
+use Rattle.book.proofs.Sizes.{Sized}
 
--- letting go
-each-seen :
-    (n : ℕ) (go : ℕ → Bool) (v : ℕ) (l : List ℕ) → n ≤ length l → ((j : ℕ) → n ≤ j → go j ≡ false) → (j : ℕ)
-    → at (each n (λ i. cond (go i) v (at l i)) l) j ≡ cond (go j) v (at l j)
-each-seen n go v l few none j =
-    by-le n j
-    (λ h. each-past n (λ i. cond (go i) v (at l i)) l j 0 h ∙ rw (none j h))
-    (λ h. each-below n (λ i. cond (go i) v (at l i)) l j 0 h (omega arith))
+-- nothing is known past the tasks
+pub past-by :
+    (plan : theory-plan.Plan) (book other : theory-book.Book) → SamePast plan book other → Past (plan .tasks) other → Past (plan .tasks) book
+past-by plan book other s p = record {
+  mark = λ j l. s .marks j l ∙ p .mark j l;
+  start = λ j l. s .starts j l ∙ p .start j l;
+  end = λ j l. s .ends j l ∙ p .end j l;
+  dropped = λ j l. s .drops j l ∙ p .dropped j l;
+}
 
-goes-not : (book : Book) (j : ℕ) → book .tasks ≤ j → mayGo book j ≡ false
-unfolding goes
-goes-not book j h = rw (le-ltb j (book .tasks) h)
+pub past-blank : (n : ℕ) → Past n blank
+past-blank n = record { mark = λ j l. refl; start = λ j l. refl; end = λ j l. refl; dropped = λ j l. refl }
 
-pub view-let-go :
-    (book : Book) → Sized book → book .tasks ≤ 64 → bookView (letGoIn book) ≡ letGo (planView book) (bookView book)
-unfolding letGoIn
-view-let-go book s few = λ i. record { mark = λ j. mark j i; start = λ j. start j i; end = at (book .end); dropped = at (book .dropped); clock = book .clock }
-  where
-    mark : (j : ℕ) → at (each (book .tasks) (λ i. cond (mayGo book i) 1 (at (book .mark) i)) (book .mark)) j ≡ cond (mayGo book j) 1 (at (book .mark) j)
-    mark = each-seen (book .tasks) (mayGo book) 1 (book .mark) (omega (arith, s .mark)) (goes-not book)
+pub past-book : (book : Book) → (nothingPast (book .tasks) (book .mark) (book .start) (book .end) (book .dropped) ≡ true) ↔ Past (book .tasks) (bookView book)
+past-book book = (
+  λ h.
+      let rest = and-r (blankFrom (book .tasks) (book .start)) _ h in
+      record {
+        start = blank-at (book .tasks) (book .start) (and-l _ _ h);
+        end = blank-at (book .tasks) (book .end) (and-l _ _ rest);
+        mark = blank-at (book .tasks) (book .mark) (and-l _ _ (and-r (blankFrom (book .tasks) (book .end)) _ rest));
+        dropped = blank-at (book .tasks) (book .dropped)
+            (and-r (blankFrom (book .tasks) (book .mark)) _ (and-r (blankFrom (book .tasks) (book .end)) _ rest));
+      },
+  λ f.
+      and-of (blank-of (book .tasks) (book .start) (f .start))
+      (and-of (blank-of (book .tasks) (book .end) (f .end))
+      (and-of (blank-of (book .tasks) (book .mark) (f .mark)) (blank-of (book .tasks) (book .dropped) (f .dropped)))),
+)
 
-    start : (j : ℕ) → at (each (book .tasks) (λ i. cond (mayGo book i) (book .clock) (at (book .start) i)) (book .start)) j ≡ cond (mayGo book j) (book .clock) (at (book .start) j)
-    start = each-seen (book .tasks) (mayGo book) (book .clock) (book .start) (omega (arith, s .start)) (goes-not book)
+module _ (plan : Plan) (few : plan .tasks ≤ 64) (seen : theory-book.Book) (past : Past (plan .tasks) seen) where
+  pub view-laid : bookView (layOut plan seen) ≡ seen
+  unfolding layOut
+  view-laid =
+      λ i. record {
+        mark = λ j. laid-own (plan .tasks) (seen .mark) few (past .mark) j i;
+        start = λ j. laid-own (plan .tasks) (seen .start) few (past .start) j i;
+        end = λ j. laid-own (plan .tasks) (seen .end) few (past .end) j i;
+        dropped = λ j. laid-own (plan .tasks) (seen .dropped) few (past .dropped) j i;
+        clock = seen .clock;
+      }
 
--- skipping
-skips-not : (book : Book) (j : ℕ) → book .tasks ≤ j → maySkip book j ≡ false
-unfolding goes
-skips-not book j h = rw (le-ltb j (book .tasks) h)
+pub nothing-past-laid :
+    (plan : Plan) (seen : theory-book.Book) → Past (plan .tasks) (bookView (layOut plan seen))
+unfolding layOut
+nothing-past-laid plan seen = record {
+  mark = laid-past (plan .tasks) (seen .mark);
+  start = laid-past (plan .tasks) (seen .start);
+  end = laid-past (plan .tasks) (seen .end);
+  dropped = laid-past (plan .tasks) (seen .dropped);
+}
 
-view-skip :
-    (book : Book) → Sized book → book .tasks ≤ 64 → bookView (skipIn book) ≡ skipOnce (planView book) (bookView book)
-unfolding skipIn
-view-skip book s few =
-    λ i. record { mark = λ j. mark j i; start = λ j. start j i; end = λ j. end j i; dropped = at (book .dropped); clock = book .clock }
-  where
-    mark : (j : ℕ) → at (each (book .tasks) (λ i. cond (maySkip book i) 2 (at (book .mark) i)) (book .mark)) j ≡ cond (maySkip book j) 2 (at (book .mark) j)
-    mark = each-seen (book .tasks) (maySkip book) 2 (book .mark) (omega (arith, s .mark)) (skips-not book)
+-- an array whose places past n hold nothing is laid out as itself
+pub own-laid : (n : ℕ) (l : List ℕ) → n ≤ 64 → length l ≡ 64 → ((j : ℕ) → n ≤ j → at l j ≡ 0) → l ≡ laid n (at l)
+own-laid n l few size past = laid-is n (at l) l few size (λ j h. refl) past
 
-    start : (j : ℕ) → at (each (book .tasks) (λ i. cond (maySkip book i) (book .clock) (at (book .start) i)) (book .start)) j ≡ cond (maySkip book j) (book .clock) (at (book .start) j)
-    start = each-seen (book .tasks) (maySkip book) (book .clock) (book .start) (omega (arith, s .start)) (skips-not book)
-
-    end : (j : ℕ) → at (each (book .tasks) (λ i. cond (maySkip book i) (book .clock) (at (book .end) i)) (book .end)) j ≡ cond (maySkip book j) (book .clock) (at (book .end) j)
-    end = each-seen (book .tasks) (maySkip book) (book .clock) (book .end) (omega (arith, s .end)) (skips-not book)
-
-view-skips :
-    (n : ℕ) (book : Book) → Sized book → book .tasks ≤ 64
-    → bookView (skipTimesIn n book) ≡ skipTimes n (planView book) (bookView book)
-unfolding skipTimesIn skipTimes skipIn
-view-skips zero book s few = refl
-view-skips (suc n) book s few =
-    view-skips n (skipIn book) (sized-skip book s) few ∙ ap (skipTimes n (planView book)) (view-skip book s few)
-
--- a task ended
-pub set-put : (l : List ℕ) (k v : ℕ) → k < length l → (j : ℕ) → at (set l k v) j ≡ put (at l) k v j
+-- one place stored
+pub set-put : (l : List ℕ) (k v : ℕ) → k < length l → (j : ℕ) → at (set l k v) j ≡ putAt k v (at l) j
 set-put l k v h j =
     by-eq j k
     (λ e. rw (e, getD-set-same l k v 0 h, eq-eqb k k refl))
     (λ n. rw (ne-eqb j k n, getD-set-other l k j v 0 n))
 
-pub view-ended :
-    (book : Book) (k tick : ℕ) → Sized book → k < 64 → bookView (endedIn book k tick) ≡ endIt (bookView book) k tick
-unfolding endedIn
-view-ended book k tick s h =
-    λ i. record { mark = λ j. mark j i; start = at (book .start); end = λ j. end j i; dropped = at (book .dropped); clock = tick }
-  where
-    mark : (j : ℕ) → at (set (book .mark) k 2) j ≡ put (at (book .mark)) k 2 j
-    mark = set-put (book .mark) k 2 (omega (arith, s .mark))
+pub set-laid :
+    (n : ℕ) (l : List ℕ) (k v : ℕ) → n ≤ 64 → length l ≡ 64 → k < n → ((j : ℕ) → n ≤ j → at l j ≡ 0)
+    → set l k v ≡ laid n (putAt k v (at l))
+set-laid n l k v few size h past =
+    laid-is n (putAt k v (at l)) (set l k v) few (length-set l k v ∙ size)
+    (λ j b. set-put l k v (omega arith) j)
+    (λ j b. getD-set-other l k j v 0 (λ e. omega arith) ∙ past j b)
 
-    end : (j : ℕ) → at (set (book .end) k tick) j ≡ put (at (book .end)) k tick j
-    end = set-put (book .end) k tick (omega (arith, s .end))
+-- what the functions hand out, as the theory sees it
+module _ (book : Book) (few : book .tasks ≤ 64) (past : Past (book .tasks) (bookView book)) where
+  pub view-next :
+      (k tick : ℕ) → k < book .tasks → bookView (nextBook book k tick) ≡ next (planView book) (bookView book) k tick
+  unfolding nextBook
+  view-next k tick h =
+      view-laid (planIn book) few _ (past-by (planView book) _ _ (past-next (planView book) (bookView book) k tick h) past)
 
-pub view-dropped : (book : Book) (k : ℕ) → Sized book → k < 64 → bookView (droppedIn book k) ≡ dropIt (bookView book) k
-unfolding droppedIn
-view-dropped book k s h =
-    λ i. record { mark = at (book .mark); start = at (book .start); end = at (book .end); dropped = λ j. gone j i; clock = book .clock }
-  where
-    gone : (j : ℕ) → at (set (book .dropped) k 1) j ≡ put (at (book .dropped)) k 1 j
-    gone = set-put (book .dropped) k 1 (omega (arith, s .dropped))
+  pub view-dropped : (k : ℕ) → k < book .tasks → bookView (droppedIn book k) ≡ dropIt (bookView book) k
+  unfolding droppedIn
+  view-dropped k h =
+      view-laid (planIn book) few _ (past-by (planView book) _ _ (past-drop (planView book) (bookView book) k h) past)
 
-view-ended-skips :
-    (book : Book) (k tick : ℕ) → Sized book → book .tasks ≤ 64
-    → bookView (skipTimesIn (book .tasks) (endedIn book k tick))
-    ≡ skipTimes (book .tasks) (planView book) (bookView (endedIn book k tick))
-unfolding endedIn
-view-ended-skips book k tick s few = view-skips (book .tasks) (endedIn book k tick) (sized-ended book k tick s) few
+pub past-of-opened : (plan : Plan) → Past (plan .tasks) (opened (planFor plan))
+past-of-opened plan = past-by (planFor plan) _ blank (past-opened (planFor plan)) (past-blank (plan .tasks))
 
-pub view-next :
-    (book : Book) (k tick : ℕ) → Sized book → book .tasks ≤ 64 → k < 64
-    → bookView (nextBook book k tick) ≡ next (planView book) (bookView book) k tick
-unfolding nextBook next
-view-next book k tick s few h =
-    view-go (skipTimesIn (book .tasks) (endedIn book k tick)) (sized-skips (book .tasks) _ (sized-ended book k tick s)) few same
-    ∙ ap (letGo (planView book)) (view-ended-skips book k tick s few ∙ ap (skipTimes (book .tasks) (planView book)) (view-ended book k tick s h))
-  where
-    same : planIn (skipTimesIn (book .tasks) (endedIn book k tick)) ≡ planIn book
-    same = plan-skips (book .tasks) (endedIn book k tick) ∙ plan-ended book k tick
-
-    view-go :
-        (other : Book) → Sized other → book .tasks ≤ 64 → planIn other ≡ planIn book
-        → bookView (letGoIn other) ≡ letGo (planView book) (bookView other)
-    view-go other s few e =
-        let t : other .tasks ≡ book .tasks = ap (λ (p : Plan). p .tasks) e in
-        view-let-go other s (omega arith) ∙ ap (λ (p : Plan). letGo (planFor p) (bookView other)) e
-
--- opening
-pub at-zeros : (j : ℕ) → at (replicate 64 0) j ≡ 0
-at-zeros j =
-    by-le 64 j
-    (λ l. List·getD-eq-default {A = ℕ} (replicate 64 0) 0 {n = j} (omega (arith, length-zeros)))
-    (λ l. getD-replicate {A = ℕ} 64 j 0 0 l)
-
-view-blank : (plan : Plan) → bookView (blankBook plan) ≡ blank
-unfolding blankBook
-view-blank plan =
-    λ i. record {
-      mark = λ j. at-zeros j i;
-      start = λ j. at-zeros j i;
-      end = λ j. at-zeros j i;
-      dropped = λ j. at-zeros j i;
-      clock = 0;
-    }
-
-pub view-opened : (plan : Plan) → SizedPlan plan → plan .tasks ≤ 64 → bookView (openedOn plan) ≡ opened (planFor plan)
-unfolding openedOn opened blankBook
-view-opened plan s few =
-    view-let-go (blankBook plan) (sized-blank plan s) few ∙ ap (letGo (planFor plan)) (view-blank plan)
+pub view-opened : (plan : Plan) → plan .tasks ≤ 64 → bookView (openedOn plan) ≡ opened (planFor plan)
+unfolding openedOn
+view-opened plan few = view-laid plan few (opened (planFor plan)) (past-of-opened plan)

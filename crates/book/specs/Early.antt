@@ -10,6 +10,5 @@ use Rattle.book.specs.declared.Figure.{Figure}
 -- 9, with 0, or M
 unfoldable pub figureOf : Book → Figure
 figureOf book =
-    cond (isSound book)
-    (record { answer = granted; early = minimumEarly (planView book) (bookView book) })
+    cond (isSound book) (record { answer = granted; early = minimumEarly (planView book) (bookView book) })
     (record { answer = refuse 9 0 0; early = 0 })

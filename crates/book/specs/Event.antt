@@ -1,5 +1,5 @@
 -- A report or a drop, task k from 1: what is answered, and the book that is handed back.
-use Rattle.theory.specs.Report.{Event}
+use Rattle.theory.specs.Events.{Event}
 use Rattle.plan.specs.declared.Answer.{Answer}
 use Rattle.book.specs.Report.{reportedOf}
 use Rattle.book.specs.Drop.{droppedOf}

@@ -2,13 +2,11 @@
 use Prim.Native.Nat.{ℕ, _-_}
 use mathlib.Core.Bool.{not, cond}
 use lib.Dec.{eqb}
-use lib.ListN.{set}
-use Rattle.theory.specs.Report.{reportCode}
+use Rattle.theory.specs.Report.{reportCode, next}
 use Rattle.plan.specs.Answer.{refuse, granted, isGranted}
 use Rattle.plan.specs.declared.Answer.{Answer}
-use Rattle.book.specs.View.{planView, bookView}
+use Rattle.book.specs.View.{planIn, planView, bookView, layOut}
 use Rattle.book.specs.Sound.{isSound}
-use Rattle.book.specs.Open.{skipTimesIn, letGoIn}
 use Rattle.book.specs.declared.Book.{Book}
 use Rattle.book.specs.declared.Reported.{Reported}
 
@@ -22,30 +20,12 @@ reportAnswer book task tick =
     cond (not (isSound book)) (refuse 9 0 0)
     (cond (eqb (codeOf book task tick) 0) granted (refuse (codeOf book task tick) task tick))
 
--- task k from 0 ends at the tick
-unfoldable pub endedIn : Book → ℕ → ℕ → Book
-endedIn book k tick = record {
-  boards = book .boards;
-  tasks = book .tasks;
-  clock = tick;
-  board = book .board;
-  begin = book .begin;
-  finish = book .finish;
-  start = book .start;
-  end = set (book .end) k tick;
-  mark = set (book .mark) k 2;
-  dropped = book .dropped;
-  holds = book .holds;
-  after = book .after;
-}
-
--- end it, skip the dropped tasks that may go, then let go whoever may go. No chain is longer than there are tasks
+-- the book after an accepted report of task k, from 0
 unfoldable pub nextBook : Book → ℕ → ℕ → Book
-nextBook book k tick = letGoIn (skipTimesIn (book .tasks) (endedIn book k tick))
+nextBook book k tick = layOut (planIn book) (next (planView book) (bookView book) k tick)
 
 -- a refused report gives the book it was given
 unfoldable pub reportedOf : Book → ℕ → ℕ → Reported
-reportedOf book task tick = record {
-  answer = reportAnswer book task tick;
-  book = cond (isGranted (reportAnswer book task tick)) (nextBook book (task - 1) tick) book;
-}
+reportedOf book task tick =
+    let answer = reportAnswer book task tick in
+    record { answer = answer; book = cond (isGranted answer) (nextBook book (task - 1) tick) book }

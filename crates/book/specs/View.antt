@@ -1,35 +1,35 @@
--- A book seen as its plan, and as the theory sees a plan and a book.
-use Prim.Native.Nat.{ℕ}
-use mathlib.Core.List.{List}
-use Rattle.theory.specs.Plan.{earlyStart}
+-- A book seen as its plan, and as the theory sees a plan and a book; and the theory's book laid out as a `Book`.
 use Rattle.theory.specs.Plan as theory-plan
 use Rattle.theory.specs.Book as theory-book
-use Rattle.plan.specs.Value.{at}
+use Rattle.plan.specs.Value.{planWith}
 use Rattle.plan.specs.declared.Plan.{Plan}
+use Rattle.view.specs.View.{planFor, bookSeen, laid}
 use Rattle.book.specs.declared.Book.{Book}
 
 -- the plan that the book is on
 abbrev pub planIn : Book → Plan
-planIn book = record {
-  boards = book .boards;
-  tasks = book .tasks;
-  board = book .board;
-  begin = book .begin;
-  finish = book .finish;
-  holds = book .holds;
-  after = book .after;
-}
-
--- Task i waits for each task j with planned finish j ≤ planned start i, on any board
-abbrev pub planSeen : ℕ → List ℕ → List ℕ → theory-plan.Plan
-planSeen tasks begin finish = earlyStart tasks (at begin) (at finish)
-
-abbrev pub bookSeen : List ℕ → List ℕ → List ℕ → List ℕ → ℕ → theory-book.Book
-bookSeen mark start end dropped clock =
-    record { mark = at mark; start = at start; end = at end; dropped = at dropped; clock = clock }
+planIn book =
+    planWith (book .boards) (book .tasks) (book .board) (book .begin) (book .finish) (book .holds) (book .after)
 
 abbrev pub planView : Book → theory-plan.Plan
-planView book = planSeen (book .tasks) (book .begin) (book .finish)
+planView book = planFor (planIn book)
 
 abbrev pub bookView : Book → theory-book.Book
 bookView book = bookSeen (book .mark) (book .start) (book .end) (book .dropped) (book .clock)
+
+-- the theory's book in the arrays of a `Book` on its plan; places past T hold nothing
+unfoldable pub layOut : Plan → theory-book.Book → Book
+layOut plan seen = record {
+  boards = plan .boards;
+  tasks = plan .tasks;
+  clock = seen .clock;
+  board = plan .board;
+  begin = plan .begin;
+  finish = plan .finish;
+  start = laid (plan .tasks) (seen .start);
+  end = laid (plan .tasks) (seen .end);
+  mark = laid (plan .tasks) (seen .mark);
+  dropped = laid (plan .tasks) (seen .dropped);
+  holds = plan .holds;
+  after = plan .after;
+}

@@ -1,21 +1,27 @@
 // A book on a plan: planned times, starts, ends and marks beside the clock, and the rest of its plan.
-mod early;
-mod refusal;
+mod settle;
 mod skip;
-mod sound;
 mod start;
 mod table;
 
+use judge::ranges::is_accepted;
 use plan::Answer;
 use plan::Plan;
-use plan::ranges::is_accepted;
+use settle::settle;
 ghost use mathlib.Core.Path.{_≡_};
+ghost use mathlib.Core.Bool.{cond};
+ghost use lib.Dec.{eqb};
+ghost use lib.ListN.{set};
+ghost use Prim.Native.Nat.{_<_};
+ghost use Rattle.theory.specs.Report.{blank};
+ghost use Rattle.plan.specs.Answer.{refuse};
+ghost use Rattle.plan.specs.Value.{zeroPlan};
 ghost use Rattle.book.specs.Sound.{isSound};
-ghost use Rattle.book.specs.Open.{blankBook, skipTimesIn, letGoIn, zeroBook, openingOf};
+ghost use Rattle.book.specs.Open.{blankBook, openingOf};
 ghost use Rattle.book.specs.Report.{reportedOf};
 ghost use Rattle.book.specs.Drop.{droppedOf};
 ghost use Rattle.book.specs.Early.{figureOf};
-ghost use Rattle.book.specs.Table.{Fit};
+ghost use Rattle.book.specs.private.Table.{movedTo};
 
 // mark: 0 waiting, 1 running, 2 ended; dropped: 1 for a dropped task, 0 for any other.
 #[repr(C)]
@@ -58,76 +64,54 @@ pub struct Figure {
     pub early: u32,
 }
 
-// The arrays after one round of skipping, and whether it skipped somebody.
-pub(crate) struct Round {
+// The arrays that a step changes.
+pub(crate) struct Moved {
     pub mark: [u8; 64],
     pub start: [u32; 64],
     pub end: [u32; 64],
-    pub some: bool,
+}
+
+// 9 says 0 and 0 besides.
+fn refused(code: u32, first: u32, second: u32) -> Answer
+    ensures { λ r. ⌜ r ≡ cond (eqb code 9) (refuse 9 0 0) (refuse code first second) ⌝ }
+{
+    if code == 9 {
+        return Answer {
+            code: 9,
+            first: 0,
+            second: 0,
+        };
+    }
+    Answer {
+        code,
+        first,
+        second,
+    }
 }
 
 // The test of code 9.
 pub fn is_sound(book: Book) -> bool
     ensures { λ r. ⌜ r ≡ isSound book ⌝ }
 {
-    if !is_accepted(
+    sound::is_sound(
         book.boards,
         book.tasks,
+        book.clock,
         &book.board,
-        &book.begin,
-        &book.finish,
-        &book.holds,
-        &book.after,
-    ) {
-        return false;
-    }
-    let tasks = book.tasks as usize;
-    if !sound::past_nothing(&book.start, &book.end, &book.mark, &book.dropped, tasks) {
-        return false;
-    }
-    if !sound::tasks_sound(
         &book.begin,
         &book.finish,
         &book.start,
         &book.end,
         &book.mark,
         &book.dropped,
-        book.clock,
-        tasks,
-    ) {
-        return false;
-    }
-    book.clock == sound::last_end(&book.mark, &book.end, tasks)
-}
-
-// Nothing is known yet.
-fn blank_book(plan: Plan) -> Book
-    ensures { λ r. ⌜ r ≡ blankBook plan ⌝ }
-{
-    let board = plan.board;
-    let begin = plan.begin;
-    let finish = plan.finish;
-    let holds = plan.holds;
-    let after = plan.after;
-    Book {
-        boards: plan.boards,
-        tasks: plan.tasks,
-        clock: 0,
-        board,
-        begin,
-        finish,
-        start: [0; 64],
-        end: [0; 64],
-        mark: [0; 64],
-        dropped: [0; 64],
-        holds,
-        after,
-    }
+        &book.holds,
+        &book.after,
+    )
 }
 
 // A book of zeros.
 fn zero_book() -> Book
-    ensures { λ r. ⌜ r ≡ zeroBook ⌝ }
+    ensures { λ r. ⌜ r ≡ blankBook zeroPlan ⌝ }
 {
     Book {
         boards: 0,
@@ -145,37 +129,79 @@ fn zero_book() -> Book
     }
 }
 
-// Dropped tasks that may go are skipped, then whoever may go starts at the clock.
-fn let_go(book: Book) -> Book
-    requires { ⌜ Fit book ⌝ }
-    ensures { λ r. ⌜ r ≡ letGoIn (skipTimesIn (book .tasks) book) ⌝ }
+// Nothing is known yet of any task.
+fn unmoved() -> Moved
+    ensures { λ r. ⌜ r ≡ movedTo 0 blank ⌝ }
 {
-    let tasks = book.tasks as usize;
-    let last = table::last_tasks(&book.board, &book.begin, &book.finish, &book.mark, tasks);
-    let skipped = skip::skip_free(book, last);
-    start::start_free(book, skipped, last)
+    Moved {
+        mark: [0; 64],
+        start: [0; 64],
+        end: [0; 64],
+    }
+}
+
+// Task k has ended at the tick.
+fn ended_at(mark: [u8; 64], start: [u32; 64], end: [u32; 64], k: usize, tick: u32) -> Moved
+    requires { ⌜ k < 64 ⌝ }
+    ensures { λ r. ⌜ r ≡ record { mark = set mark k 2; start = start; end = set end k tick } ⌝ }
+{
+    let mut moved = Moved { mark, start, end };
+    moved.mark[k] = 2;
+    moved.end[k] = tick;
+    moved
 }
 
 pub fn open_book(plan: Plan) -> Opening
     ensures { λ r. ⌜ r ≡ openingOf plan ⌝ }
 {
+    let board = plan.board;
+    let begin = plan.begin;
+    let finish = plan.finish;
+    let holds = plan.holds;
+    let after = plan.after;
     if !is_accepted(
         plan.boards,
         plan.tasks,
-        &plan.board,
-        &plan.begin,
-        &plan.finish,
-        &plan.holds,
-        &plan.after,
+        &board,
+        &begin,
+        &finish,
+        &holds,
+        &after,
     ) {
         return Opening {
-            answer: refusal::refuse(9, 0, 0),
+            answer: refused(9, 0, 0),
             book: zero_book(),
         };
     }
+    let none = [0; 64];
+    let moved = settle(
+        &board,
+        &begin,
+        &finish,
+        &none,
+        unmoved(),
+        0,
+        plan.tasks as usize,
+    );
+    let start = moved.start;
+    let end = moved.end;
+    let mark = moved.mark;
     Opening {
-        answer: refusal::refuse(0, 0, 0),
-        book: let_go(blank_book(plan)),
+        answer: refused(0, 0, 0),
+        book: Book {
+            boards: plan.boards,
+            tasks: plan.tasks,
+            clock: 0,
+            board,
+            begin,
+            finish,
+            start,
+            end,
+            mark,
+            dropped: none,
+            holds,
+            after,
+        },
     }
 }
 
@@ -183,36 +209,49 @@ impl Book {
     pub fn report(mut self, task: u32, tick: u32) -> Reported
         ensures { λ r. ⌜ r ≡ reportedOf self task tick ⌝ }
     {
-        if !is_sound(self) {
-            return Reported {
-                answer: refusal::refuse(9, 0, 0),
-                book: self,
-            };
-        }
         let tasks = self.tasks as usize;
-        let code = refusal::report_code(
+        let code = codes::report_code(
+            self.boards,
+            self.tasks,
+            self.clock,
+            &self.board,
             &self.begin,
             &self.finish,
             &self.start,
+            &self.end,
             &self.mark,
-            self.clock,
-            tasks,
+            &self.dropped,
+            &self.holds,
+            &self.after,
             task,
             tick,
         );
         if code != 0 {
             return Reported {
-                answer: refusal::refuse(code, task, tick),
+                answer: refused(code, task, tick),
                 book: self,
             };
         }
-        let k = (task - 1) as usize;
+        let ended = ended_at(self.mark, self.start, self.end, (task - 1) as usize, tick);
+        let next = settle(
+            &self.board,
+            &self.begin,
+            &self.finish,
+            &self.dropped,
+            ended,
+            tick,
+            tasks,
+        );
+        let mark = next.mark;
+        let start = next.start;
+        let end = next.end;
         self.clock = tick;
-        self.end[k] = tick;
-        self.mark[k] = 2;
+        self.mark = mark;
+        self.start = start;
+        self.end = end;
         Reported {
-            answer: refusal::refuse(0, 0, 0),
-            book: let_go(self),
+            answer: refused(0, 0, 0),
+            book: self,
         }
     }
 
@@ -220,24 +259,31 @@ impl Book {
     pub fn drop(mut self, task: u32) -> Dropped
         ensures { λ r. ⌜ r ≡ droppedOf self task ⌝ }
     {
-        if !is_sound(self) {
+        let code = codes::drop_code(
+            self.boards,
+            self.tasks,
+            self.clock,
+            &self.board,
+            &self.begin,
+            &self.finish,
+            &self.start,
+            &self.end,
+            &self.mark,
+            &self.dropped,
+            &self.holds,
+            &self.after,
+            task,
+        );
+        if code != 0 {
             return Dropped {
-                answer: refusal::refuse(9, 0, 0),
-                book: self,
-            };
-        }
-        let tasks = self.tasks as usize;
-        let refused = refusal::drop_code(&self.mark, &self.dropped, tasks, task);
-        if refused != 0 {
-            return Dropped {
-                answer: refusal::refuse(refused, task, 0),
+                answer: refused(code, task, 0),
                 book: self,
             };
         }
         let k = (task - 1) as usize;
         self.dropped[k] = 1;
         Dropped {
-            answer: refusal::refuse(0, 0, 0),
+            answer: refused(0, 0, 0),
             book: self,
         }
     }
@@ -245,17 +291,28 @@ impl Book {
     pub fn minimum_early(self) -> Figure
         ensures { λ r. ⌜ r ≡ figureOf self ⌝ }
     {
-        if !is_sound(self) {
+        if !sound::is_sound(
+            self.boards,
+            self.tasks,
+            self.clock,
+            &self.board,
+            &self.begin,
+            &self.finish,
+            &self.start,
+            &self.end,
+            &self.mark,
+            &self.dropped,
+            &self.holds,
+            &self.after,
+        ) {
             return Figure {
-                answer: refusal::refuse(9, 0, 0),
+                answer: refused(9, 0, 0),
                 early: 0,
             };
         }
-        let tasks = self.tasks as usize;
-        let early = early::least_early(&self.begin, &self.start, &self.mark, tasks);
         Figure {
-            answer: refusal::refuse(0, 0, 0),
-            early,
+            answer: refused(0, 0, 0),
+            early: early::least_early(&self.begin, &self.start, &self.mark, self.tasks),
         }
     }
 }

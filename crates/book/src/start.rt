@@ -1,14 +1,11 @@
 // The start rule: whoever waits and by the table waits for nobody any more starts at the clock.
-use crate::Book;
-use crate::Round;
+use crate::Moved;
 ghost use mathlib.Core.Path.{_≡_};
 ghost use mathlib.Core.Bool.{_&&_};
 ghost use Prim.Native.Nat.{_<_, _≤_};
 ghost use Rattle.theory.specs.Book.{waiting};
 ghost use Rattle.plan.specs.Value.{at};
-ghost use Rattle.book.specs.View.{planView};
-ghost use Rattle.book.specs.Open.{letGoIn};
-ghost use Rattle.book.specs.Table.{hasEnded, rowEnded, SmallRow, TableTo, Fit, withRound};
+ghost use Rattle.book.specs.private.Table.{hasEnded, rowEnded, SmallRow, SmallTable, startsBy};
 
 fn has_ended(mark: &[u8; 64], held: u8) -> bool
     requires { ⌜ held ≤ 64 ⌝ }
@@ -45,24 +42,16 @@ pub(crate) fn may_go(mark: &[u8; 64], row: [u8; 8], i: usize) -> bool
     row_ended(mark, row)
 }
 
-// The book with the arrays of the skipping, and then the starts.
-pub(crate) fn start_free(book: Book, skipped: Round, last: [[u8; 8]; 64]) -> Book
-    requires { ⌜ Fit (withRound book skipped) ⌝ }
-    requires { ⌜ TableTo (planView book) (at (book .board)) (at (skipped .mark)) (book .tasks) last ⌝ }
-    ensures { λ r. ⌜ r ≡ letGoIn (withRound book skipped) ⌝ }
+// Whoever may go by the marks as they were starts at the clock.
+pub(crate) fn start_free(old: Moved, last: [[u8; 8]; 64], clock: u32, tasks: usize) -> Moved
+    requires { ⌜ (tasks ≤ 64) × SmallTable (at (old .mark)) tasks last ⌝ }
+    ensures { λ r. ⌜ r ≡ startsBy last clock tasks old ⌝ }
 {
-    let mut next = book;
-    let mark = skipped.mark;
-    let start = skipped.start;
-    let end = skipped.end;
-    next.mark = mark;
-    next.start = start;
-    next.end = end;
-    let tasks = book.tasks as usize;
+    let mark = old.mark;
+    let mut next = old;
     for i in 0..tasks {
-        let row = last[i];
-        if may_go(&mark, row, i) {
-            next.start[i] = book.clock;
+        if may_go(&mark, last[i], i) {
+            next.start[i] = clock;
             next.mark[i] = 1;
         }
     }

@@ -1,10 +1,10 @@
 // For every task and every board, the last task waited for, counted from 1; 0 for none.
 ghost use mathlib.Core.Path.{_≡_};
 ghost use Prim.Native.Nat.{_<_, _≤_};
-ghost use Rattle.laws.specs.Last.{laterOf};
+ghost use Rattle.laws.specs.Picked.{laterOf};
 ghost use Rattle.plan.specs.Value.{at};
-ghost use Rattle.book.specs.View.{planSeen};
-ghost use Rattle.book.specs.Table.{OnEight, RowTo, TableTo};
+ghost use Rattle.view.specs.View.{planSeen};
+ghost use Rattle.book.specs.private.Table.{OnEight, RowTo, TableTo};
 
 // k + 1 where the place holds nobody or one whose key is less, else what the place holds.
 pub(crate) fn later_of(key: &[u32; 64], held: u8, k: usize) -> u8

@@ -1,7 +1,9 @@
 // What the tests in Rust call, and nothing else.
 ghost use mathlib.Core.Path.{_≡_};
 ghost use mathlib.Core.Bool.{cond};
+ghost use Prim.Native.Nat.{_≤_};
 ghost use lib.ListN.{length};
+ghost use lib.Seq.{sets};
 ghost use Rattle.plan.specs.Read.{readingOf};
 ghost use Rattle.plan.specs.Write.{writtenOf, bufferAfter};
 ghost use Rattle.plan.specs.Value.{isAccepted};
@@ -10,7 +12,7 @@ ghost use Rattle.book.specs.Open.{openingOf};
 ghost use Rattle.book.specs.Report.{reportedOf};
 ghost use Rattle.book.specs.Drop.{droppedOf};
 ghost use Rattle.book.specs.Early.{figureOf};
-ghost use Rattle.log.specs.Ends.{Ran};
+ghost use Rattle.log.specs.Log.{logMost, logIn};
 use book::Book;
 use book::Dropped;
 use book::Figure;
@@ -24,7 +26,7 @@ use plan::Written;
 pub extern "C" fn dispatch_read_plan(text: &[u8]) -> Reading
     ensures { λ r. ⌜ r ≡ readingOf (now (text .entry)) ⌝ }
 {
-    plan::read::read_plan(text)
+    judge::read::read_plan(text)
 }
 
 fn number(yes: bool) -> u32
@@ -40,7 +42,7 @@ fn number(yes: bool) -> u32
 pub extern "C" fn dispatch_is_accepted(plan: Plan) -> u32
     ensures { λ r. ⌜ r ≡ cond (isAccepted plan) 1 0 ⌝ }
 {
-    number(plan::ranges::is_accepted(
+    number(judge::ranges::is_accepted(
         plan.boards,
         plan.tasks,
         &plan.board,
@@ -95,7 +97,7 @@ pub extern "C" fn dispatch_write_plan(plan: Plan, out: &mut [u8]) -> Written
 
 #[no_mangle]
 pub extern "C" fn dispatch_run_log(plan: &[u8], ends: &[u8], out: &mut [u8]) -> usize
-    ensures { λ r. ⌜ Ran (now (plan .entry)) (now (ends .entry)) (now (out .entry)) (now (out .exit)) r ⌝ }
+    ensures { λ r. ⌜ (r ≡ length (logIn (length (now (out .entry))) (now (plan .entry)) (now (ends .entry)))) × (now (out .exit) ≡ sets (now (out .entry)) 0 (logIn (length (now (out .entry))) (now (plan .entry)) (now (ends .entry)))) × (r ≤ logMost) ⌝ }
 {
     log::run_log(plan, ends, out)
 }

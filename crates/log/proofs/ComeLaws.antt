@@ -7,26 +7,23 @@ use mathlib.Core.List.{List}
 use native.Mathlib.Omega.{arith}
 use lib.Dec.{eqb}
 use borrow.Author.Tests.{ne-eqb}
-use Rattle.laws.specs.Cases.{by-eq}
-use Rattle.laws.specs.Count.{count}
+use Rattle.laws.proofs.Cases.{by-eq}
+use Rattle.laws.specs.Picked.{count}
 use Rattle.plan.specs.Value.{at}
-use Rattle.plan.specs.declared.Answer.{Answer}
-use Rattle.book.specs.declared.Book.{Book}
-use Rattle.log.specs.Lines.{refusedLine}
-use Rattle.log.specs.Writes.{Wrote, Told, starting, linesOf, toCome, roomFor}
-use Rattle.log.proofs.WriteLaws.{looser}
+use Rattle.log.specs.private.Writes.{starting}
+use Rattle.log.specs.private.Room.{linesLeft, toCome}
 
 -- ---- the lines of one task, by its marks and whether it is dropped
 
 abbrev bit : ℕ → ℕ → ℕ
 bit old new = cond (eqb old 0 && not (eqb new 0)) 1 0
 
-lines-gone : (mark d : ℕ) → d ≡ 1 → linesOf mark d ≡ 1 - mark
-unfolding linesOf
+lines-gone : (mark d : ℕ) → d ≡ 1 → linesLeft mark d ≡ 1 - mark
+unfolding linesLeft
 lines-gone mark d e = rw e
 
-lines-kept : (mark d : ℕ) → d ≢ 1 → linesOf mark d ≡ 2 - mark
-unfolding linesOf
+lines-kept : (mark d : ℕ) → d ≢ 1 → linesLeft mark d ≡ 2 - mark
+unfolding linesLeft
 lines-kept mark d n = rw (ne-eqb d 1 n)
 
 one-bit : (b : Bool) → cond b 1 0 ≤ 1
@@ -41,11 +38,11 @@ same-bit m = go (eqb m 0)
     go false = refl
 
 -- it stays as it was
-pub lines-stay : (old new d d′ : ℕ) → new ≡ old → d′ ≡ d → linesOf new d′ + bit old new ≤ linesOf old d
+pub lines-stay : (old new d d′ : ℕ) → new ≡ old → d′ ≡ d → linesLeft new d′ + bit old new ≤ linesLeft old d
 lines-stay old new d d′ e q = rw (e, q) (omega (arith, same-bit old))
 
 -- it waited and is started or skipped
-pub lines-go : (old new d d′ : ℕ) → old ≡ 0 → new ≢ 0 → d′ ≡ d → linesOf new d′ + bit old new ≤ linesOf old d
+pub lines-go : (old new d d′ : ℕ) → old ≡ 0 → new ≢ 0 → d′ ≡ d → linesLeft new d′ + bit old new ≤ linesLeft old d
 lines-go old new d d′ z n q =
     let b = one-bit (eqb old 0 && not (eqb new 0)) in
     rw q
@@ -55,22 +52,23 @@ lines-go old new d d′ z n q =
 
 -- it ran and has ended
 pub lines-end :
-    (old new d d′ : ℕ) → old ≡ 1 → new ≡ 2 → d ≡ 0 → d′ ≡ d → linesOf new d′ + bit old new + 1 ≤ linesOf old d
+    (old new d d′ : ℕ) → old ≡ 1 → new ≡ 2 → d ≡ 0 → d′ ≡ d → linesLeft new d′ + bit old new + 1 ≤ linesLeft old d
 lines-end old new d d′ o n z q =
     let e : d ≢ 1 = λ w. omega arith in
     rw (q, o, n) (omega (arith, lines-kept 2 d e, lines-kept 1 d e))
 
 -- it waits and was dropped
-pub lines-drop : (mark d d′ : ℕ) → mark ≡ 0 → d ≢ 1 → d′ ≡ 1 → linesOf mark d′ + bit mark mark + 1 ≤ linesOf mark d
-lines-drop mark d d′ z n q = omega (arith, same-bit mark, lines-kept mark d n, lines-gone mark d′ q)
+pub lines-drop :
+    (old new d d′ : ℕ) → new ≡ old → old ≡ 0 → d ≢ 1 → d′ ≡ 1 → linesLeft new d′ + bit old new + 1 ≤ linesLeft old d
+lines-drop old new d d′ e z n q = rw e (omega (arith, same-bit old, lines-kept old d n, lines-gone old d′ q))
 
-lines-most : (mark d : ℕ) → linesOf mark d ≤ 2
+lines-most : (mark d : ℕ) → linesLeft mark d ≤ 2
 lines-most mark d =
     by-eq d 1 (λ e. omega (arith, lines-gone mark d e)) (λ e. omega (arith, lines-kept mark d e))
 
 -- ---- of all tasks
 
-come-suc : (mark dropped : List ℕ) (n : ℕ) → toCome mark dropped (suc n) ≡ toCome mark dropped n + linesOf (at mark n) (at dropped n)
+come-suc : (mark dropped : List ℕ) (n : ℕ) → toCome mark dropped (suc n) ≡ toCome mark dropped n + linesLeft (at mark n) (at dropped n)
 unfolding toCome
 come-suc mark dropped n = refl
 
@@ -86,8 +84,8 @@ come-most mark dropped (suc n) = omega (arith, come-most mark dropped n, lines-m
 -- one task k of those below t gives a line more than it prints here
 module _ (old new dropped dropped′ : List ℕ) (t k : ℕ)
     (stay : (i : ℕ) → i < t → i ≢ k
-    → linesOf (at new i) (at dropped′ i) + bit (at old i) (at new i) ≤ linesOf (at old i) (at dropped i))
-    (here : linesOf (at new k) (at dropped′ k) + bit (at old k) (at new k) + 1 ≤ linesOf (at old k) (at dropped k))
+    → linesLeft (at new i) (at dropped′ i) + bit (at old i) (at new i) ≤ linesLeft (at old i) (at dropped i))
+    (here : linesLeft (at new k) (at dropped′ k) + bit (at old k) (at new k) + 1 ≤ linesLeft (at old k) (at dropped k))
   where
     pays-before : (n : ℕ) → n ≤ t → n ≤ k → toCome new dropped′ n + count n (starting old new) ≤ toCome old dropped n
     unfolding toCome count
@@ -107,7 +105,7 @@ module _ (old new dropped dropped′ : List ℕ) (t k : ℕ)
     pays (suc n) l h =
         by-eq k n
         (λ e.
-        let q : linesOf (at new n) (at dropped′ n) + bit (at old n) (at new n) + 1 ≤ linesOf (at old n) (at dropped n) =
+        let q : linesLeft (at new n) (at dropped′ n) + bit (at old n) (at new n) + 1 ≤ linesLeft (at old n) (at dropped n) =
         rw e at here in
         omega
         (arith, pays-before n (omega arith) (omega arith), come-suc new dropped′ n, come-suc old dropped n, count-suc n (starting old new)))
@@ -120,20 +118,3 @@ module _ (old new dropped dropped′ : List ℕ) (t k : ℕ)
           come-suc old dropped n,
           count-suc n (starting old new),
         ))
-
--- ---- a text written and paid
-
-module _ {out : List ℕ} {from : ℕ} {book : Book} {text : List ℕ} {after : Book} {written : List ℕ} {place : ℕ} {next : Book} where
-  pub told-of :
-      {x : List ℕ} {most : ℕ} → next ≡ after → text ≡ x → Wrote out from x most written place → most ≤ 3432
-      → most + roomFor after ≤ roomFor book + 41 → Told out from book text after written place next
-  told-of {x} e t w h p = record {
-    book-is = e;
-    wrote = rw t (looser h w);
-    paid = rw (e, t) (omega (arith, w .small, p));
-  }
-
-  pub told-no :
-      (answer : Answer) → next ≡ after → after ≡ book → text ≡ refusedLine answer
-      → Wrote out from (refusedLine answer) 41 written place → Told out from book text after written place next
-  told-no answer e b t w = told-of e t w (omega arith) (rw b (omega arith))

@@ -1,6 +1,7 @@
-pub mod EntryLaws
-pub mod WriteLaws
+pub mod StartLaws
 pub mod ComeLaws
+pub mod BookLaws
+pub mod ToldLaws
 pub mod ReportLaws
 pub mod EndsLaws
 pub mod LogLaws

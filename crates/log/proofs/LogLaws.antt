@@ -6,88 +6,91 @@ use mathlib.Core.Bool.{true}
 use mathlib.Core.List.{List, _++_}
 use native.Mathlib.Omega.{arith}
 use lib.ListN.{length, replicate}
+use lib.Seq.{sets}
 use borrow.Author.Tests.{eq-eqb, ne-eqb, lt-ltb, le-ltb, lt-leb, le-leb}
-use Rattle.plan.specs.Answer.{refuse}
+use Rattle.plan.specs.Answer.{refuse, granted}
 use Rattle.plan.specs.Read.{readingOf}
 use Rattle.plan.specs.Value.{isAccepted}
 use Rattle.plan.specs.declared.Answer.{Answer}
 use Rattle.plan.specs.declared.Plan.{Plan}
 use Rattle.plan.specs.declared.Reading.{Reading}
-use Rattle.plan.proofs.RoundText.{read-answer, read-accepted, read-sized}
-use Rattle.book.specs.Open.{blankBook, letGoIn, openedOn, openingOf}
+use Rattle.plan.proofs.ReadOk.{read-answer, read-accepted, read-sized}
+use Rattle.book.specs.Sound.{isSound}
+use Rattle.book.proofs.Soundness.{opened-is-sound}
+use Rattle.book.specs.Open.{blankBook, openedOn, openingOf}
 use Rattle.book.specs.declared.Book.{Book}
 use Rattle.book.specs.declared.Opening.{Opening}
-use Rattle.book.proofs.Accepted.{plan-facts}
+use Rattle.view.proofs.Accepted.{plan-facts}
+use Rattle.view.proofs.Laid.{zeros-laid}
+use Rattle.book.specs.View.{layOut}
 use Rattle.book.proofs.Sizes.{SizedPlan, sized-opened}
-use Rattle.log.specs.Lines.{refusedLine, runLine, earlyLine}
-use Rattle.log.specs.Log.{openLog, endsLog, logOf}
-use Rattle.log.specs.Writes.{Wrote, startsIn, goingLog, openedLog}
-use Rattle.log.specs.Ends.{EndsFit, endsMost, Ran}
-use Rattle.log.proofs.WriteLaws.{also, wrote-length}
+use Rattle.log.specs.Lines.{runLine, earlyLine, refusedLine}
+use Rattle.log.specs.Log.{shownAfter, openLog, endsLog, logOf, logMost, logIn}
+use Rattle.log.specs.declared.Shown.{Shown}
+use Rattle.lines.specs.Lines.{Lined}
+use Rattle.lines.specs.private.Wrote.{Wrote}
+use Rattle.log.specs.private.Writes.{startsIn, openedIn}
+use Rattle.log.specs.private.Room.{EndsFit, endsMost}
+use Rattle.lines.proofs.WriteLaws.{also, wrote-length, wrote-line}
 use Rattle.log.proofs.ComeLaws.{come-most}
-use Rattle.log.proofs.ReportLaws.{starts-same, whole-of}
+use Rattle.log.proofs.BookLaws.{opened-tasks, opening-answer, opening-book}
+use Rattle.log.proofs.ReportLaws.{starts-same}
+
+-- what is printed of an opened book, made of its parts
+abbrev pub openedText : Shown → List ℕ
+openedText s =
+    openedIn (s .book .boards) (s .book .tasks) (s .book .mark) (s .book .dropped) (s .book .board) (s .book .begin) (s .book .start)
+    (s .book .clock) (s .early)
 
 module _ (plan : Plan) where
   blank-mark : blankBook plan .mark ≡ replicate 64 0
-  unfolding blankBook
-  blank-mark = refl
+  unfolding layOut
+  blank-mark = sym (zeros-laid (plan .tasks))
 
-  opened-tasks : openedOn plan .tasks ≡ plan .tasks
-  unfolding openedOn letGoIn blankBook
-  opened-tasks = refl
-
-  opened-same : openedLog (openedOn plan) ≡ openLog plan
-  unfolding openLog openedLog goingLog
+  opened-same : openedText (shownAfter granted (openedOn plan)) ≡ openLog plan
+  unfolding openLog
   opened-same =
       let book = openedOn plan in
-      ap (λ (x : List ℕ). runLine book ++ (x ++ earlyLine book))
+      ap (λ (x : List ℕ). runLine book ++ (x ++ earlyLine (shownAfter granted book)))
       (ap (λ (m : List ℕ). startsIn m (book .mark) (book .dropped) (book .board) (book .begin) (book .start) (book .tasks)) (sym blank-mark)
-      ∙ ap (startsIn (blankBook plan .mark) (book .mark) (book .dropped) (book .board) (book .begin) (book .start)) opened-tasks
+      ∙ ap (startsIn (blankBook plan .mark) (book .mark) (book .dropped) (book .board) (book .begin) (book .start)) (opened-tasks plan)
       ∙ sym (starts-same (blankBook plan) book (plan .tasks)))
 
-  opening-book : isAccepted plan ≡ true → openingOf plan .book ≡ openedOn plan
-  unfolding openingOf
-  opening-book h = rw h
+-- the contract of run_log
+abbrev pub Ran : List ℕ → List ℕ → List ℕ → List ℕ → ℕ → Type 0
+Ran plan ends out written r =
+    (r ≡ length (logIn (length out) plan ends)) × (written ≡ sets out 0 (logIn (length out) plan ends)) × (r ≤ logMost)
 
 module _ (plan ends out : List ℕ) where
   pub ran-short : length out < 212992 → Ran plan ends out out 0
-  ran-short h = record {
-    count = rw (lt-leb 212992 (length out) h);
-    bytes = rw (lt-leb 212992 (length out) h);
-    small = omega arith;
-  }
+  ran-short h = let t = lt-leb 212992 (length out) h in (rw t, rw t, omega arith)
 
   module _ (long : 212992 ≤ length out) where
     ran-whole : {text : List ℕ} {a : ℕ} {m : List ℕ} {p : ℕ} → text ≡ logOf plan ends → a ≤ 212992 → Wrote out 0 text a m p → Ran plan ends out m p
     ran-whole {text} e h w =
         let t = le-leb 212992 (length out) long in
         let n : length text ≡ length (logOf plan ends) = ap length e in
-        record {
-          count = rw t (omega (arith, w .place));
-          bytes = rw (t, ← e) (w .bytes);
-          small = omega (arith, w .place, w .small);
-        }
+        (rw t (omega (arith, w .place)), rw (t, ← e) (w .bytes), omega (arith, w .place, w .small))
 
     module _ {r : Reading} (e : r ≡ readingOf plan) where
-      pub ran-refused : {m : List ℕ} {p : ℕ} → r .answer .code ≢ 0 → Wrote out 0 (refusedLine (r .answer)) 41 m p → Ran plan ends out m p
+      pub ran-refused : {m : List ℕ} {p : ℕ} → r .answer .code ≢ 0 → Lined out 0 (refusedLine (r .answer)) 41 m p → Ran plan ends out m p
       unfolding logOf
       ran-refused h w =
           let h′ : readingOf plan .answer .code ≢ 0 = rw e at h in
-          ran-whole (rw e (rw (ne-eqb (readingOf plan .answer .code) 0 h′))) (omega arith) w
+          ran-whole (rw e (rw (ne-eqb (readingOf plan .answer .code) 0 h′))) (omega arith) (wrote-line (omega arith) w)
 
       module _ (z : r .answer .code ≡ 0) where
         its-zero : readingOf plan .answer .code ≡ 0
         its-zero = rw e at z
 
         pub ran-long :
-            {a : Answer} {m : List ℕ} {p : ℕ} → 32768 < length ends → a ≡ refuse 1 0 0 → Wrote out 0 (refusedLine a) 41 m p
-            → Ran plan ends out m p
+            {m : List ℕ} {p : ℕ} → 32768 < length ends → Lined out 0 (refusedLine (refuse 1 0 0)) 41 m p → Ran plan ends out m p
         unfolding logOf
-        ran-long h q w =
+        ran-long h w =
             ran-whole
-            (rw q (rw (eq-eqb (readingOf plan .answer .code) 0 its-zero, lt-ltb 32768 (length ends) h)))
+            (rw (eq-eqb (readingOf plan .answer .code) 0 its-zero, lt-ltb 32768 (length ends) h))
             (omega arith)
-            w
+            (wrote-line (omega arith) w)
 
         its-accepted : isAccepted (readingOf plan .plan) ≡ true
         its-accepted = read-accepted plan (ap (λ (a : Answer). a .code) (sym (read-answer plan)) ∙ its-zero)
@@ -97,38 +100,53 @@ module _ (plan ends out : List ℕ) where
             let s = read-sized plan (ap (λ (a : Answer). a .code) (sym (read-answer plan)) ∙ its-zero) in
             record { board = s .board; begin = s .begin; finish = s .finish; holds = s .holds; after = s .after }
 
-        module _ (short : length ends ≤ 32768) {o : Opening} (q : o ≡ openingOf (r .plan)) where
-          its-book : o .book ≡ openedOn (readingOf plan .plan)
-          its-book =
+        pub opening-sound : {o : Opening} → o ≡ openingOf (r .plan) → o .answer .code ≡ 0 → isSound (o .book) ≡ true
+        opening-sound q y =
+            rw (q, e, opening-book (readingOf plan .plan) its-accepted) (opened-is-sound (readingOf plan .plan) its-accepted)
+
+        module _ (short : length ends ≤ 32768) {o : Opening} (q : o ≡ openingOf (r .plan)) {h : Shown} (t : h ≡ shownAfter (o .answer) (o .book)) where
+          its-opened : o .book ≡ openedOn (readingOf plan .plan)
+          its-opened =
               ap (λ (x : Opening). x .book) q
               ∙ ap (λ (x : Reading). openingOf (x .plan) .book) e
               ∙ opening-book (readingOf plan .plan) its-accepted
 
-          pub opened-few : o .book .tasks ≤ 64
-          opened-few =
-              let t = ap (λ (b : Book). b .tasks) its-book ∙ opened-tasks (readingOf plan .plan) in
-              omega (arith, t, plan-facts (readingOf plan .plan) its-accepted .tasks-to)
+          its-answer : o .answer ≡ granted
+          its-answer =
+              ap (λ (x : Opening). x .answer) q
+              ∙ ap (λ (x : Reading). openingOf (x .plan) .answer) e
+              ∙ opening-answer (readingOf plan .plan) its-accepted
 
-          module _ {m : List ℕ} {p : ℕ} (v : Wrote out 0 (openedLog (o .book)) 3432 m p) where
-            pub ends-fit : EndsFit m p (o .book) ends
+          its-book : h .book ≡ openedOn (readingOf plan .plan)
+          its-book = ap (λ (x : Shown). x .book) t ∙ its-opened
+
+          pub opened-few : h .book .tasks ≤ 64
+          opened-few =
+              let n = ap (λ (b : Book). b .tasks) its-book ∙ opened-tasks (readingOf plan .plan) in
+              omega (arith, n, plan-facts (readingOf plan .plan) its-accepted .tasks-to)
+
+          module _ {m : List ℕ} {p : ℕ} (v : Wrote out 0 (openedText h) 3432 m p) where
+            pub ends-fit : EndsFit m p (h .book) ends
             ends-fit = record {
               short = short;
-              whole = rw its-book (whole-of _ (sized-opened (readingOf plan .plan) its-sized));
+              sized = rw its-book (sized-opened (readingOf plan .plan) its-sized);
               room =
                   omega
-                  (arith, opened-few, come-most (o .book .mark) (o .book .dropped) (o .book .tasks), v .place, v .small, wrote-length v);
+                  (arith, opened-few, come-most (h .book .mark) (h .book .dropped) (h .book .tasks), v .place, v .small, wrote-length v);
             }
 
-            text-is : openedLog (o .book) ++ endsLog (length ends) (o .book) 1 ends ≡ logOf plan ends
+            text-is : openedText h ++ endsLog (length ends) (h .book) 1 ends ≡ logOf plan ends
             unfolding logOf
             text-is =
                 rw (eq-eqb (readingOf plan .answer .code) 0 its-zero, le-ltb 32768 (length ends) short)
-                (ap (λ (b : Book). openedLog b ++ endsLog (length ends) b 1 ends) its-book
+                (ap (λ (x : Shown). openedText x ++ endsLog (length ends) (x .book) 1 ends) t
+                ∙ ap (λ (b : Book). openedText (shownAfter (o .answer) b) ++ endsLog (length ends) b 1 ends) its-opened
+                ∙ ap (λ (a : Answer). openedText (shownAfter a (openedOn (readingOf plan .plan))) ++ endsLog (length ends) (openedOn (readingOf plan .plan)) 1 ends) its-answer
                 ∙ ap (λ (x : List ℕ). x ++ endsLog (length ends) (openedOn (readingOf plan .plan)) 1 ends)
                 (opened-same (readingOf plan .plan)))
 
             pub ran-ends :
-                {m′ : List ℕ} {p′ : ℕ} → Wrote m p (endsLog (length ends) (o .book) 1 ends) (endsMost (o .book) ends) m′ p′
+                {m′ : List ℕ} {p′ : ℕ} → Wrote m p (endsLog (length ends) (h .book) 1 ends) (endsMost (h .book) ends) m′ p′
                 → Ran plan ends out m′ p′
             ran-ends w =
-                ran-whole text-is (omega (arith, opened-few, come-most (o .book .mark) (o .book .dropped) (o .book .tasks))) (also v w)
+                ran-whole text-is (omega (arith, opened-few, come-most (h .book .mark) (h .book .dropped) (h .book .tasks))) (also v w)

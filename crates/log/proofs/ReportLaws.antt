@@ -1,41 +1,54 @@
--- What a report or a drop prints, and what it uses up of the lines that are still to come.
+-- What a line of ends.txt prints, and what it uses up of the lines that are still to come.
 use Prim.Native.Nat.{ℕ, zero, suc, _+_, _-_, _*_, _≤_, _<_}
 use mathlib.Core.Path.{_≡_, refl, sym, ap, _∙_}
 use mathlib.Core.Logic.{_≢_}
-use mathlib.Core.Bool.{Bool, true, false, not, cond}
+use mathlib.Core.Bool.{cond}
 use mathlib.Core.List.{List, _++_}
 use native.Mathlib.Omega.{arith}
 use lib.Dec.{eqb}
-use lib.Seq.{getD-set-same, getD-set-other}
+use lib.ListN.{length}
 use borrow.Author.Tests.{eq-eqb, ne-eqb}
-use Rattle.laws.specs.Cases.{by-bool, by-eq}
-use Rattle.laws.specs.Count.{count}
-use Rattle.text.specs.Bytes.{bytes}
+use Rattle.laws.proofs.Cases.{by-eq}
+use Rattle.laws.specs.Picked.{count}
+use Rattle.theory.proofs.Facts.{Sound}
 use Rattle.theory.specs.Book as theory-book
-use Rattle.theory.specs.Report.{Accepts, AcceptsDrop, Event, next}
+use Rattle.theory.specs.Report.{next, dropIt}
+use Rattle.theory.specs.Events.{Accepts, AcceptsDrop, Event}
 use Rattle.theory.proofs.Step.{AtTask, next-at, next-dropped}
 use Rattle.theory.proofs.Task.{runs-kept}
-use Rattle.plan.specs.Answer.{refuse, granted}
 use Rattle.plan.specs.Value.{at}
-use Rattle.plan.specs.declared.Plan.{Plan}
 use Rattle.book.specs.View.{planView, bookView}
-use Rattle.book.specs.Sound.{isSound}
-use Rattle.book.specs.Report.{codeOf, reportAnswer, nextBook, reportedOf}
-use Rattle.book.specs.Drop.{dropCodeOf, dropAnswer, droppedIn, droppedOf}
+use Rattle.book.specs.Report.{reportedOf}
+use Rattle.book.specs.Drop.{droppedOf}
 use Rattle.book.specs.declared.Book.{Book}
-use Rattle.book.specs.declared.Reported.{Reported}
-use Rattle.book.specs.declared.Dropped.{Dropped}
 use Rattle.book.proofs.Sizes.{Sized}
-use Rattle.book.proofs.Views.{view-next}
-use Rattle.book.proofs.Soundness.{is-sound-facts}
-use Rattle.book.proofs.ReportLaws.{code-zero, drop-zero, sound-plan, book-granted, drop-granted-book}
-use Rattle.book.specs.Event.{bookTold}
-use Rattle.book.proofs.Reports.{event-plan, event-sized}
-use Rattle.log.specs.Lines.{refusedLine, startLines, endLine, dropLine, earlyLine}
-use Rattle.log.specs.Log.{reportLog, dropLog}
-use Rattle.log.specs.Writes.{Wrote, Told, Whole, taskLine, starting, startIn, startsIn, goingLog, linesOf, toCome, roomFor}
-use Rattle.log.proofs.WriteLaws.{also, count-below}
-use Rattle.log.proofs.ComeLaws.{lines-stay, lines-go, lines-end, lines-drop, pays, told-of, told-no}
+use Rattle.entries.specs.declared.Entry.{Entry}
+use Rattle.entries.specs.declared.Entry.the-variants.{End, Drop, Refused}
+use Rattle.log.specs.Lines.{startLines, endLine, earlyLine}
+use Rattle.log.specs.Log.{toldOf, linesOf, toldLog}
+use Rattle.log.specs.declared.Shown.{Shown}
+use Rattle.lines.specs.private.Wrote.{Wrote}
+use Rattle.log.specs.private.Writes.{starting, startIn, startsIn, Named, linesIn, toldIn, linesMost, toldMost}
+use Rattle.log.specs.private.Room.{linesLeft, toCome, roomFor}
+use Rattle.lines.proofs.WriteLaws.{looser}
+use Rattle.log.proofs.StartLaws.{count-below}
+use Rattle.log.proofs.ComeLaws.{lines-stay, lines-go, lines-end, lines-drop, pays}
+use Rattle.log.proofs.BookLaws.{
+  report-refused,
+  report-few,
+  report-some,
+  report-accepts,
+  report-sound,
+  report-tasks,
+  report-view,
+  drop-refused,
+  drop-few,
+  drop-some,
+  drop-accepts,
+  drop-tasks,
+  drop-view,
+  sized-told,
+}
 
 pub starts-same :
     (old new : Book) (n : ℕ)
@@ -48,15 +61,24 @@ starts-same old new (suc n) =
 
 -- ---- each line that is printed was still to come
 
-module _ (book : Book) (k tick : ℕ) (s : Sized book) (few : book .tasks ≤ 64)
-    (ok : Accepts (planView book) (bookView book) k tick) (sound : theory-book.Sound (planView book) (bookView book))
+-- what a task gives up of its lines, at the least, beside the one that it prints as it starts
+abbrev Gives : Book → Book → ℕ → ℕ → Type 0
+Gives book new i more =
+    linesLeft (at (new .mark) i) (at (new .dropped) i) + cond (starting (book .mark) (new .mark) i) 1 0 + more
+    ≤ linesLeft (at (book .mark) i) (at (book .dropped) i)
+
+pays-all :
+    (book new : Book) (k : ℕ) → k < book .tasks → ((i : ℕ) → i < book .tasks → i ≢ k → Gives book new i 0) → Gives book new k 1
+    → toCome (new .mark) (new .dropped) (book .tasks) + count (book .tasks) (starting (book .mark) (new .mark)) + 1
+    ≤ toCome (book .mark) (book .dropped) (book .tasks)
+pays-all book new k h stay here =
+    pays (book .mark) (new .mark) (book .dropped) (new .dropped) (book .tasks) k
+    (λ i l n. omega (arith, stay i l n))
+    here (book .tasks) (omega arith) h
+
+module _ (book new : Book) (k tick : ℕ) (view : bookView new ≡ next (planView book) (bookView book) k tick)
+    (ok : Accepts (planView book) (bookView book) k tick) (sound : Sound (planView book) (bookView book))
   where
-    abbrev new : Book
-    new = nextBook book k tick
-
-    view : bookView new ≡ next (planView book) (bookView book) k tick
-    view = view-next book k tick s few (omega (arith, ok .task))
-
     at-task : (i : ℕ) → i < book .tasks → AtTask (planView book) (bookView book) k tick (bookView new) i
     at-task i l = rw view (next-at (planView book) (bookView book) k tick i l)
 
@@ -65,31 +87,26 @@ module _ (book : Book) (k tick : ℕ) (s : Sized book) (few : book .tasks ≤ 64
         ap (λ (b : theory-book.Book). b .dropped i) view
         ∙ ap (λ (f : ℕ → ℕ). f i) (next-dropped (planView book) (bookView book) k tick)
 
-    stays :
-        (i : ℕ) → i < book .tasks → i ≢ k
-        → linesOf (at (new .mark) i) (at (new .dropped) i) + cond (starting (book .mark) (new .mark) i) 1 0
-        ≤ linesOf (at (book .mark) i) (at (book .dropped) i)
+    it-goes : (i : ℕ) → at (book .mark) i ≡ 0 → at (new .mark) i ≢ 0 → Gives book new i 0
+    it-goes i w n = omega (arith, lines-go (at (book .mark) i) (at (new .mark) i) (at (book .dropped) i) (at (new .dropped) i) w n (dropped-is i))
+
+    it-stays : (i : ℕ) → at (new .mark) i ≡ at (book .mark) i → Gives book new i 0
+    it-stays i m = omega (arith, lines-stay (at (book .mark) i) (at (new .mark) i) (at (book .dropped) i) (at (new .dropped) i) m (dropped-is i))
+
+    stays : (i : ℕ) → i < book .tasks → i ≢ k → Gives book new i 0
     stays i l ne = go (at-task i l)
       where
-        go :
-            AtTask (planView book) (bookView book) k tick (bookView new) i
-            → linesOf (at (new .mark) i) (at (new .dropped) i) + cond (starting (book .mark) (new .mark) i) 1 0
-            ≤ linesOf (at (book .mark) i) (at (book .dropped) i)
+        go : AtTask (planView book) (bookView book) k tick (bookView new) i → Gives book new i 0
         go (AtTask.ends e m b v) = absurd (ne e)
-        go (AtTask.starts n w all m b v) = lines-go _ _ _ _ w (λ z. omega arith) (dropped-is i)
-        go (AtTask.skipped n w d all m b v) = lines-go _ _ _ _ w (λ z. omega arith) (dropped-is i)
-        go (AtTask.stands n w m b v) = lines-stay _ _ _ _ m (dropped-is i)
-        go (AtTask.lingers n w all m b v) = lines-stay _ _ _ _ m (dropped-is i)
+        go (AtTask.starts n w all m b v) = it-goes i w (λ z. omega arith)
+        go (AtTask.skipped n w d all m b v) = it-goes i w (λ z. omega arith)
+        go (AtTask.stands n w m b v) = it-stays i m
+        go (AtTask.lingers n w all m b v) = it-stays i m
 
-    ends :
-        linesOf (at (new .mark) k) (at (new .dropped) k) + cond (starting (book .mark) (new .mark) k) 1 0 + 1
-        ≤ linesOf (at (book .mark) k) (at (book .dropped) k)
+    ends : Gives book new k 1
     ends = go (at-task k (ok .task))
       where
-        go :
-            AtTask (planView book) (bookView book) k tick (bookView new) k
-            → linesOf (at (new .mark) k) (at (new .dropped) k) + cond (starting (book .mark) (new .mark) k) 1 0 + 1
-            ≤ linesOf (at (book .mark) k) (at (book .dropped) k)
+        go : AtTask (planView book) (bookView book) k tick (bookView new) k → Gives book new k 1
         go (AtTask.ends e m b v) =
             lines-end _ _ _ _ (ok .runs) m (runs-kept (sound .task k (ok .task)) (ok .runs)) (dropped-is k)
         go (AtTask.starts n w all m b v) = absurd (n refl)
@@ -97,203 +114,164 @@ module _ (book : Book) (k tick : ℕ) (s : Sized book) (few : book .tasks ≤ 64
         go (AtTask.stands n w m b v) = absurd (n refl)
         go (AtTask.lingers n w all m b v) = absurd (n refl)
 
-    pub next-pays :
+    next-pays :
         toCome (new .mark) (new .dropped) (book .tasks) + count (book .tasks) (starting (book .mark) (new .mark)) + 1
         ≤ toCome (book .mark) (book .dropped) (book .tasks)
-    next-pays =
-        pays (book .mark) (new .mark) (book .dropped) (new .dropped) (book .tasks) k stays ends (book .tasks) (omega arith)
-        (ok .task)
+    next-pays = pays-all book new k (ok .task) stays ends
 
 -- a drop takes a line from its task
-drop-pays :
-    (book : Book) (k : ℕ) → Sized book → book .tasks ≤ 64 → AcceptsDrop (planView book) (bookView book) k
-    → roomFor (droppedIn book k) + 52 ≤ roomFor book
-unfolding droppedIn
-drop-pays book k s few ok =
-    let h =
-    pays (book .mark) (book .mark) (book .dropped) (droppedIn book k .dropped) (book .tasks) k
-    (λ i l n. lines-stay _ _ _ _ refl (getD-set-other (book .dropped) k i 1 0 n))
-    (lines-drop _ _ _ (ok .waits) (ok .new) (getD-set-same (book .dropped) k 1 0 (omega (arith, s .dropped, ok .task))))
-    (book .tasks) (omega arith) (ok .task) in
-    omega arith
+module _ (book new : Book) (k : ℕ) (view : bookView new ≡ dropIt (bookView book) k) (ok : AcceptsDrop (planView book) (bookView book) k)
+  where
+    mark-is : (i : ℕ) → at (new .mark) i ≡ at (book .mark) i
+    mark-is i = ap (λ (b : theory-book.Book). b .mark i) view
 
--- ---- the arrays keep their lengths
+    gone-is : (i : ℕ) → at (new .dropped) i ≡ cond (eqb i k) 1 (at (book .dropped) i)
+    gone-is i = ap (λ (b : theory-book.Book). b .dropped i) view
 
-pub sized-of : (book : Book) → Whole book → Sized book
-sized-of book w = record {
-  plan = record { board = w .board; begin = w .begin; finish = w .finish; holds = w .holds; after = w .after };
-  start = w .start;
-  end = w .end;
-  mark = w .mark;
-  dropped = w .dropped;
-}
+    keeps : (i : ℕ) → at (new .dropped) i ≡ at (book .dropped) i → Gives book new i 0
+    keeps i q = omega (arith, lines-stay (at (book .mark) i) (at (new .mark) i) (at (book .dropped) i) (at (new .dropped) i) (mark-is i) q)
 
-pub whole-of : (book : Book) → Sized book → Whole book
-whole-of book s = record {
-  board = s .plan .board;
-  begin = s .plan .begin;
-  finish = s .plan .finish;
-  holds = s .plan .holds;
-  after = s .plan .after;
-  start = s .start;
-  end = s .end;
-  mark = s .mark;
-  dropped = s .dropped;
-}
-
-unsound-book : (book : Book) (event : Event) → isSound book ≡ false → bookTold book event ≡ book
-unfolding reportedOf reportAnswer droppedOf dropAnswer
-unsound-book book (Event.ends task tick) h = rw h
-unsound-book book (Event.drops task) h = rw h
-
-pub whole-kept : (book : Book) (event : Event) → Whole book → Whole (bookTold book event)
-whole-kept book event w =
-    by-bool (isSound book)
-    (λ h. whole-of _ (event-sized book h event (sized-of book w)))
-    (λ h. rw (unsound-book book event h) w)
-
--- code 0 is answered of a sound book alone
-answer-zero :
-    (sound : Bool) (code a b : ℕ) → cond (not sound) (refuse 9 0 0) (cond (eqb code 0) granted (refuse code a b)) .code ≡ 0
-    → (sound ≡ true) × (code ≡ 0)
-answer-zero true code a b h =
-    by-eq code 0 (λ z. (refl, z)) (λ n. let q : code ≡ 0 = rw (ne-eqb code 0 n) at h in absurd (n q))
-answer-zero false code a b h = absurd (omega arith)
-
--- ---- a report
-
-module _ (book : Book) (task tick : ℕ) where
-  abbrev after : Reported
-  after = reportedOf book task tick
-
-  refused-text : after .answer .code ≢ 0 → reportLog book task after ≡ refusedLine (after .answer)
-  unfolding reportLog
-  refused-text h = rw (ne-eqb (after .answer .code) 0 h)
-
-  refused-book : after .answer .code ≢ 0 → after .book ≡ book
-  unfolding reportedOf
-  refused-book h = rw (ne-eqb (reportAnswer book task tick .code) 0 h)
-
-  pub told-refused :
-      {out : List ℕ} {from : ℕ} {written : List ℕ} {place : ℕ} {r : Reported} → r ≡ after → r .answer .code ≢ 0
-      → Wrote out from (refusedLine (r .answer)) 41 written place
-      → Told out from book (reportLog book task after) (after .book) written place (r .book)
-  told-refused {r = r} e h w =
-      let h′ : after .answer .code ≢ 0 = rw e at h in
-      told-no (after .answer) (ap (λ (x : Reported). x .book) e) (refused-book h′) (refused-text h′) (rw e at w)
-
-  module _ {r : Reported} (e : r ≡ after) (z : r .answer .code ≡ 0) where
-    its-zero : after .answer .code ≡ 0
-    its-zero = rw e at z
-
-    sound-zero : (isSound book ≡ true) × (codeOf book task tick ≡ 0)
-    unfolding reportedOf reportAnswer
-    sound-zero = answer-zero (isSound book) (codeOf book task tick) task tick its-zero
-
-    pub granted-few : book .tasks ≤ 64
-    granted-few = sound-plan book (sound-zero .0) .tasks-to
-
-    pub granted-task : 0 < task
-    granted-task = code-zero book task tick (sound-zero .1) .0
-
-    pub granted-place : task - 1 < 64
-    granted-place = omega (arith, code-zero book task tick (sound-zero .1) .1 .task, granted-few)
-
-    same-tasks : book .tasks ≡ after .book .tasks
-    same-tasks = sym (ap (λ (p : Plan). p .tasks) (event-plan book (sound-zero .0) (Event.ends task tick)))
-
-    pub granted-tasks : r .book .tasks ≤ 64
-    granted-tasks = rw e (omega (arith, granted-few, same-tasks))
-
-    granted-text :
-        reportLog book task after
-        ≡ taskLine (bytes "end") (after .book .board) (after .book .finish) (after .book .end) (task - 1)
-        ++ goingLog (book .mark) (after .book)
-    unfolding reportLog goingLog
-    granted-text =
-        rw (eq-eqb (after .answer .code) 0 its-zero)
-        (ap (λ (x : List ℕ). endLine (after .book) (task - 1) ++ (x ++ earlyLine (after .book)))
-        (ap (startLines book (after .book)) same-tasks ∙ starts-same book (after .book) (after .book .tasks)))
-
-    granted-pays :
-        Sized book
-        → toCome (after .book .mark) (after .book .dropped) (after .book .tasks)
-        + count (after .book .tasks) (starting (book .mark) (after .book .mark))
-        + 1
+    drop-pays :
+        toCome (new .mark) (new .dropped) (book .tasks) + count (book .tasks) (starting (book .mark) (new .mark)) + 1
         ≤ toCome (book .mark) (book .dropped) (book .tasks)
-    granted-pays s =
-        rw (← same-tasks)
-        (rw (book-granted book task tick (sound-zero .0) (sound-zero .1))
-        (next-pays book (task - 1) tick s granted-few (code-zero book task tick (sound-zero .1) .1)
-        ((is-sound-facts book) .0 (sound-zero .0) .sound)))
+    drop-pays =
+        pays-all book new k (ok .task)
+        (λ i l n. keeps i (gone-is i ∙ rw (ne-eqb i k n)))
+        (lines-drop (at (book .mark) k) (at (new .mark) k) (at (book .dropped) k) (at (new .dropped) k) (mark-is k) (ok .waits) (ok .new)
+        (gone-is k ∙ rw (eq-eqb k k refl)))
 
-    pub told-granted :
-        {out : List ℕ} {from : ℕ} {m : List ℕ} {p : ℕ} {written : List ℕ} {place : ℕ} → Whole book
-        → Wrote out from (taskLine (bytes "end") (r .book .board) (r .book .finish) (r .book .end) (task - 1)) 52 m p
-        → Wrote m p (goingLog (book .mark) (r .book)) (52 * count (r .book .tasks) (starting (book .mark) (r .book .mark)) + 30)
-        written place
-        → Told out from book (reportLog book task after) (after .book) written place (r .book)
-    told-granted s v w =
-        let few = granted-few in
-        let c = count-below (after .book .tasks) (starting (book .mark) (after .book .mark)) in
-        let p = granted-pays (sized-of book s) in
-        told-of (ap (λ (x : Reported). x .book) e) granted-text (also (rw e at v) (rw e at w)) (omega (arith, same-tasks)) (omega arith)
+-- ---- what a line is answered
 
--- ---- a drop
+module _ (n : ℕ) where
+  told-named : (book : Book) (e : Entry) → toldOf n book e .answer .code ≡ 0 → Named e (toldOf n book e .book .tasks)
+  unfolding toldOf
+  told-named book (End task tick) z =
+      let few = report-few book task tick z in (
+        report-some book task tick z,
+        omega (arith, few, report-some book task tick z, report-accepts book task tick z .task),
+        omega (arith, few, report-tasks book task tick z),
+      )
+  told-named book (Drop task) z = (
+    drop-some book task z,
+    omega (arith, drop-few book task z, drop-some book task z, drop-accepts book task z .task),
+    omega arith,
+  )
+  told-named book (Refused code) z = omega arith
 
-module _ (book : Book) (task : ℕ) where
-  abbrev left : Dropped
-  left = droppedOf book task
+  told-lines :
+      (book : Book) (e : Entry) → toldOf n book e .answer .code ≡ 0
+      → linesOf book e (toldOf n book e .book)
+      ≡ linesIn e (book .mark) (toldOf n book e .book .mark) (toldOf n book e .book .dropped) (toldOf n book e .book .board)
+      (toldOf n book e .book .begin) (toldOf n book e .book .start) (toldOf n book e .book .finish) (toldOf n book e .book .end)
+      (toldOf n book e .book .tasks)
+  unfolding toldOf
+  told-lines book (End task tick) z =
+      let after = reportedOf book task tick .book in
+      ap (λ (x : List ℕ). endLine after task ++ x)
+      (ap (startLines book after) (sym (report-tasks book task tick z)) ∙ starts-same book after (after .tasks))
+  told-lines book (Drop task) z = refl
+  told-lines book (Refused code) z = refl
 
-  kept-text : left .answer .code ≢ 0 → dropLog book task left ≡ refusedLine (left .answer)
-  unfolding dropLog
-  kept-text h = rw (ne-eqb (left .answer .code) 0 h)
+  -- what is printed is at most what was to come, and a line of three numbers
+  told-pays :
+      (book : Book) (e : Entry) → Sized book → toldOf n book e .answer .code ≡ 0
+      → linesMost e (count (toldOf n book e .book .tasks) (starting (book .mark) (toldOf n book e .book .mark)))
+      + 30
+      + roomFor (toldOf n book e .book)
+      ≤ roomFor book + 41
+  unfolding toldOf
+  told-pays book (End task tick) s z =
+      rw (report-tasks book task tick z)
+      (omega (
+        arith,
+        next-pays book (reportedOf book task tick .book) (task - 1) tick (report-view book task tick z)
+            (report-accepts book task tick z) (report-sound book task tick z),
+      ))
+  told-pays book (Drop task) s z =
+      rw (drop-tasks book task z)
+      (omega (
+        arith,
+        drop-pays book (droppedOf book task .book) (task - 1) (drop-view book task z) (drop-accepts book task z),
+      ))
+  told-pays book (Refused code) s z = omega arith
 
-  kept-book : left .answer .code ≢ 0 → left .book ≡ book
-  unfolding droppedOf
-  kept-book h = rw (ne-eqb (dropAnswer book task .code) 0 h)
+  told-short :
+      (book : Book) (e : Entry) → toldOf n book e .answer .code ≡ 0
+      → linesMost e (count (toldOf n book e .book .tasks) (starting (book .mark) (toldOf n book e .book .mark))) ≤ 3380
+  unfolding toldOf
+  told-short book (End task tick) z =
+      let after = reportedOf book task tick .book in
+      omega (
+        arith,
+        report-few book task tick z,
+        report-tasks book task tick z,
+        count-below (after .tasks) (starting (book .mark) (after .mark)),
+      )
+  told-short book (Drop task) z = omega arith
+  told-short book (Refused code) z = omega arith
 
-  pub told-kept :
-      {out : List ℕ} {from : ℕ} {written : List ℕ} {place : ℕ} {r : Dropped} → r ≡ left → r .answer .code ≢ 0
-      → Wrote out from (refusedLine (r .answer)) 41 written place
-      → Told out from book (dropLog book task left) (left .book) written place (r .book)
-  told-kept {r = r} e h w =
-      let h′ : left .answer .code ≢ 0 = rw e at h in
-      told-no (left .answer) (ap (λ (x : Dropped). x .book) e) (kept-book h′) (kept-text h′) (rw e at w)
+  pub told-sized : (book : Book) (e : Entry) → Sized book → Sized (toldOf n book e .book)
+  unfolding toldOf
+  told-sized book (End task tick) s = sized-told book (Event.ends task tick) s
+  told-sized book (Drop task) s = sized-told book (Event.drops task) s
+  told-sized book (Refused code) s = s
 
-  module _ {r : Dropped} (e : r ≡ left) (z : r .answer .code ≡ 0) where
-    drop-is-zero : left .answer .code ≡ 0
-    drop-is-zero = rw e at z
+  told-stays : (book : Book) (e : Entry) → toldOf n book e .answer .code ≢ 0 → toldOf n book e .book ≡ book
+  unfolding toldOf
+  told-stays book (End task tick) h = report-refused book task tick h
+  told-stays book (Drop task) h = drop-refused book task h
+  told-stays book (Refused code) h = refl
 
-    drop-sound-zero : (isSound book ≡ true) × (dropCodeOf book task ≡ 0)
-    unfolding droppedOf dropAnswer
-    drop-sound-zero = answer-zero (isSound book) (dropCodeOf book task) task 0 drop-is-zero
+-- ---- a line's text, written
 
-    drop-accepts : (0 < task) × (AcceptsDrop (planView book) (bookView book) (task - 1))
-    drop-accepts = drop-zero book task (drop-sound-zero .1)
+-- the text was written, and is at most what it takes from what was to come and a line of three numbers
+pub record Told (out : List ℕ) (from : ℕ) (book : Book) (text : List ℕ) (after : Book) (written : List ℕ) (place : ℕ) : Type 0 where
+  pub wrote : Wrote out from text 3432 written place
+  pub paid : length text + roomFor after ≤ roomFor book + 41
 
-    drop-few : book .tasks ≤ 64
-    drop-few = sound-plan book (drop-sound-zero .0) .tasks-to
+granted-same : (c : ℕ) (a b r : List ℕ) → (c ≡ 0 → a ≡ b) → cond (eqb c 0) a r ≡ cond (eqb c 0) b r
+granted-same c a b r h = by-eq c 0 (λ z. rw (eq-eqb c 0 z) (h z)) (λ n. rw (ne-eqb c 0 n))
 
-    pub drop-task : 0 < task
-    drop-task = drop-accepts .0
+granted-most : (c a b x m : ℕ) → (c ≡ 0 → a + x ≤ m) → (c ≢ 0 → b + x ≤ m) → cond (eqb c 0) a b + x ≤ m
+granted-most c a b x m f g = by-eq c 0 (λ z. rw (eq-eqb c 0 z) (f z)) (λ n. rw (ne-eqb c 0 n) (g n))
 
-    pub drop-place : task - 1 < 64
-    drop-place = omega (arith, drop-accepts .1 .task, drop-few)
+module _ (n : ℕ) (book : Book) (e : Entry) where
+  abbrev told : Shown
+  told = toldOf n book e
 
-    drop-text : dropLog book task left ≡ dropLine book (task - 1) ++ earlyLine (left .book)
-    unfolding dropLog
-    drop-text = rw (eq-eqb (left .answer .code) 0 drop-is-zero)
+  pub told-names : {r : Shown} → r ≡ told → r .answer .code ≡ 0 → Named e (r .book .tasks)
+  told-names q z = let z′ : told .answer .code ≡ 0 = rw q at z in rw q (told-named n book e z′)
 
-    left-pays : Sized book → roomFor (left .book) + 52 ≤ roomFor book
-    left-pays s =
-        rw (drop-granted-book book task (drop-sound-zero .0) (drop-sound-zero .1))
-        (drop-pays book (task - 1) s drop-few (drop-accepts .1))
+  abbrev started : ℕ
+  started = count (told .book .tasks) (starting (book .mark) (told .book .mark))
 
-    pub told-dropped :
-        {out : List ℕ} {from : ℕ} {m : List ℕ} {p : ℕ} {written : List ℕ} {place : ℕ} → Whole book
-        → Wrote out from (dropLine book (task - 1)) 30 m p → Wrote m p (earlyLine (r .book)) 30 written place
-        → Told out from book (dropLog book task left) (left .book) written place (r .book)
-    told-dropped s v w =
-        let p = left-pays (sized-of book s) in
-        told-of (ap (λ (x : Dropped). x .book) e) drop-text (also v (rw e at w)) (omega arith) (omega arith)
+  told-text :
+      toldLog book e told
+      ≡ toldIn e (told .answer) (book .mark) (told .book .mark) (told .book .dropped) (told .book .board) (told .book .begin)
+      (told .book .start) (told .book .finish) (told .book .end) (told .book .tasks) (told .book .clock) (told .early)
+  unfolding toldLog
+  told-text = granted-same (told .answer .code) _ _ _ (λ z. ap (λ (x : List ℕ). x ++ earlyLine told) (told-lines n book e z))
+
+  told-most : toldMost e (told .answer) started + 0 ≤ 3432
+  told-most =
+      granted-most (told .answer .code) (linesMost e started + 30) 41 0 3432
+      (λ z. omega (arith, told-short n book e z))
+      (λ h. omega arith)
+
+  told-paid : Sized book → toldMost e (told .answer) started + roomFor (told .book) ≤ roomFor book + 41
+  told-paid s =
+      granted-most (told .answer .code) (linesMost e started + 30) 41 (roomFor (told .book)) (roomFor book + 41)
+      (told-pays n book e s)
+      (λ h. rw (told-stays n book e h) (omega arith))
+
+  pub told-wrote :
+      {out : List ℕ} {from : ℕ} {written : List ℕ} {place : ℕ} → Sized book
+      → Wrote out from
+      (toldIn e (told .answer) (book .mark) (told .book .mark) (told .book .dropped) (told .book .board) (told .book .begin)
+      (told .book .start) (told .book .finish) (told .book .end) (told .book .tasks) (told .book .clock) (told .early))
+      (toldMost e (told .answer) started) written place
+      → Told out from book (toldLog book e told) (told .book) written place
+  told-wrote s w = record {
+    wrote = rw told-text (looser (omega (arith, told-most)) w);
+    paid = rw told-text (omega (arith, w .small, told-paid s));
+  }

@@ -1,5 +1,3 @@
-pub mod Entries
 pub mod Lines
 pub mod Log
-pub mod Writes
-pub mod Ends
+pub mod private

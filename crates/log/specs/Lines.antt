@@ -1,46 +1,36 @@
--- The lines of a log.
+-- The lines of a log, from a book.
 use Prim.Native.Nat.{ℕ, zero, suc, _+_, _-_}
 use mathlib.Core.Bool.{Bool, cond, not, _&&_}
-use mathlib.Core.List.{List, [], _∷_, _++_, map}
-use Rattle.laws.specs.Digits.{digitsOf}
+use mathlib.Core.List.{List, [], _∷_, _++_}
 use Rattle.text.specs.Bytes.{bytes}
-use Rattle.text.specs.Line.{lineText}
 use Rattle.theory.specs.Book.{waiting, isDropped}
 use Rattle.plan.specs.Value.{at}
 use Rattle.plan.specs.declared.Answer.{Answer}
-use Rattle.book.specs.Early.{figureOf}
 use Rattle.book.specs.declared.Book.{Book}
-
--- a word and numbers, with tabs and LF as in a plan text
-unfoldable pub numbersLine : List ℕ → List ℕ → List ℕ
-numbersLine word numbers = lineText (word ∷ map digitsOf numbers)
+use Rattle.lines.specs.Lines.{numbersLine, taskLine, startWord}
+use Rattle.log.specs.declared.Shown.{Shown}
 
 -- `run`, 1, B, T
 abbrev pub runLine : Book → List ℕ
 runLine book = numbersLine (bytes "run") (1 ∷ book .boards ∷ book .tasks ∷ [])
 
--- the word of a start: a dropped task is skipped
-abbrev pub startWord : Bool → List ℕ
-startWord dropped = cond dropped (bytes "skip") (bytes "start")
-
--- `start`, `skip` and `end` carry task, board, tick, ticks early against plan; task i from 0
+-- the start of task i, from 0
 abbrev pub startLine : Book → ℕ → List ℕ
 startLine book i =
-    numbersLine (startWord (isDropped (at (book .dropped)) i))
-    ((i + 1) ∷ at (book .board) i ∷ at (book .start) i ∷ (at (book .begin) i - at (book .start) i) ∷ [])
+    taskLine (startWord (isDropped (at (book .dropped)) i)) (i + 1) (at (book .board) i) (at (book .begin) i) (at (book .start) i)
 
+-- the end of a task, from 1 as everywhere in a text
 abbrev pub endLine : Book → ℕ → List ℕ
-endLine book i =
-    numbersLine (bytes "end")
-    ((i + 1) ∷ at (book .board) i ∷ at (book .end) i ∷ (at (book .finish) i - at (book .end) i) ∷ [])
+endLine book task =
+    taskLine (bytes "end") task (at (book .board) (task - 1)) (at (book .finish) (task - 1)) (at (book .end) (task - 1))
 
 -- `drop` carries task and board
 abbrev pub dropLine : Book → ℕ → List ℕ
-dropLine book i = numbersLine (bytes "drop") ((i + 1) ∷ at (book .board) i ∷ [])
+dropLine book task = numbersLine (bytes "drop") (task ∷ at (book .board) (task - 1) ∷ [])
 
 -- `early` carries clock and M
-abbrev pub earlyLine : Book → List ℕ
-earlyLine book = numbersLine (bytes "early") (book .clock ∷ figureOf book .early ∷ [])
+abbrev pub earlyLine : Shown → List ℕ
+earlyLine shown = numbersLine (bytes "early") (shown .book .clock ∷ shown .early ∷ [])
 
 -- `refused` carries code and the table's two numbers
 abbrev pub refusedLine : Answer → List ℕ

@@ -1,64 +1,61 @@
 -- The whole output of the program, from the two texts.
 use Prim.Native.Nat.{ℕ, zero, suc, _+_, _-_}
-use mathlib.Core.Bool.{true, false, cond}
+use mathlib.Core.Bool.{cond}
 use mathlib.Core.List.{List, [], _++_}
-use lib.Dec.{ltb, eqb}
+use lib.Dec.{leb, ltb, eqb}
 use lib.ListN.{length}
-use Rattle.laws.specs.Split.{before, after}
-use Rattle.text.specs.Line.{LF, hasLine}
-use Rattle.plan.specs.Answer.{refuse, isGranted, isRefused}
+use Rattle.laws.specs.Split.{after}
+use Rattle.text.specs.Line.{LF}
+use Rattle.plan.specs.Answer.{refuse, granted, isGranted, isRefused}
 use Rattle.plan.specs.Read.{readingOf}
+use Rattle.plan.specs.declared.Answer.{Answer}
 use Rattle.plan.specs.declared.Plan.{Plan}
 use Rattle.book.specs.Open.{blankBook, openedOn}
 use Rattle.book.specs.Report.{reportedOf}
 use Rattle.book.specs.Drop.{droppedOf}
+use Rattle.book.specs.Early.{figureOf}
 use Rattle.book.specs.declared.Book.{Book}
-use Rattle.book.specs.declared.Reported.{Reported}
-use Rattle.book.specs.declared.Dropped.{Dropped}
-use Rattle.log.specs.Entries.{entryOf}
+use Rattle.entries.specs.Entries.{nextEntry, entryCode}
+use Rattle.entries.specs.declared.Entry.{Entry}
+use Rattle.entries.specs.declared.Entry.the-variants.{End, Drop, Refused}
 use Rattle.log.specs.Lines.{runLine, endLine, dropLine, earlyLine, refusedLine, startLines}
-use Rattle.log.specs.declared.Entry.the-variants.{End, Drop, Refused}
+use Rattle.log.specs.declared.Shown.{Shown}
+
+-- an answer, the book after it, and its M where it is accepted
+abbrev pub shownAfter : Answer → Book → Shown
+shownAfter answer book = record { answer = answer; book = book; early = cond (isGranted answer) (figureOf book .early) 0 }
 
 -- `run`; then a `start` line for each task started at 0; an `early` line
 unfoldable pub openLog : Plan → List ℕ
 openLog plan =
     runLine (openedOn plan)
-    ++ (startLines (blankBook plan) (openedOn plan) (plan .tasks) ++ earlyLine (openedOn plan))
+    ++ (startLines (blankBook plan) (openedOn plan) (plan .tasks) ++ earlyLine (shownAfter granted (openedOn plan)))
 
--- an `end` line, the `start` and `skip` lines it caused, and an `early` line; or a `refused` line
-unfoldable pub reportLog : Book → ℕ → Reported → List ℕ
-reportLog book task reported =
-    cond (isGranted (reported .answer))
-    (endLine (reported .book) (task - 1)
-    ++ (startLines book (reported .book) (book .tasks) ++ earlyLine (reported .book)))
-    (refusedLine (reported .answer))
+-- what line n of ends.txt is answered, by what it says
+unfoldable pub toldOf : ℕ → Book → Entry → Shown
+toldOf n book (End task tick) = shownAfter (reportedOf book task tick .answer) (reportedOf book task tick .book)
+toldOf n book (Drop task) = shownAfter (droppedOf book task .answer) (droppedOf book task .book)
+toldOf n book (Refused code) = record { answer = refuse code n 0; book = book; early = 0 }
 
--- a `drop` line and an `early` line; or a `refused` line
-unfoldable pub dropLog : Book → ℕ → Dropped → List ℕ
-dropLog book task dropped =
-    cond (isGranted (dropped .answer))
-    (dropLine book (task - 1) ++ earlyLine (dropped .book))
-    (refusedLine (dropped .answer))
+-- an accepted report's `end` line and the `start` and `skip` lines it caused, or a drop's `drop` line
+abbrev pub linesOf : Book → Entry → Book → List ℕ
+linesOf book (End task tick) told = endLine told task ++ startLines book told (book .tasks)
+linesOf book (Drop task) told = dropLine told task
+linesOf book (Refused code) told = []
+
+-- these and an `early` line; or a `refused` line
+unfoldable pub toldLog : Book → Entry → Shown → List ℕ
+toldLog book entry told =
+    cond (isGranted (told .answer)) (linesOf book entry (told .book) ++ earlyLine told) (refusedLine (told .answer))
 
 -- line by line from line n on; 3 and 4 print and stop, codes 10 to 15 and 19 print and the next line is read
 unfoldable pub endsLog : ℕ → Book → ℕ → List ℕ → List ℕ
 endsLog zero book n ends = []
 endsLog (suc fuel) book n ends =
-    elim (eqb (length ends) 0) [
-      | true ↦ []
-      | false ↦ elim (hasLine ends) [
-        | false ↦ refusedLine (refuse 3 n 0)
-        | true ↦ elim (entryOf (before LF ends)) [
-          | Refused code ↦ refusedLine (refuse code n 0)
-          | End task tick ↦
-              let reported = reportedOf book task tick in
-              reportLog book task reported ++ endsLog fuel (reported .book) (n + 1) (after LF ends)
-          | Drop task ↦
-              let dropped = droppedOf book task in
-              dropLog book task dropped ++ endsLog fuel (dropped .book) (n + 1) (after LF ends)
-        ]
-      ]
-    ]
+    let entry = nextEntry ends in
+    let told = toldOf n book entry in
+    let rest = cond (eqb (entryCode entry) 0) (endsLog fuel (told .book) (n + 1) (after LF ends)) [] in
+    cond (eqb (length ends) 0) [] (toldLog book entry told ++ rest)
 
 -- A refused plan, then a too long ends.txt, prints only the `refused` line
 unfoldable pub logOf : List ℕ → List ℕ → List ℕ
@@ -66,3 +63,11 @@ logOf plan ends =
     cond (isRefused (readingOf plan .answer)) (refusedLine (readingOf plan .answer))
     (cond (ltb 32768 (length ends)) (refusedLine (refuse 1 0 0))
     (openLog (readingOf plan .plan) ++ endsLog (length ends) (openedOn (readingOf plan .plan)) 1 ends))
+
+-- no log is longer
+abbrev pub logMost : ℕ
+logMost = 212992
+
+-- what is written into a buffer of so many bytes: nothing where some log would not fit
+abbrev pub logIn : ℕ → List ℕ → List ℕ → List ℕ
+logIn room plan ends = cond (leb logMost room) (logOf plan ends) []

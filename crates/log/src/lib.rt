@@ -1,30 +1,35 @@
 // The log of a morning, as bytes.
 mod ends;
-mod line;
-pub mod read;
-mod report;
+mod starts;
+mod told;
 
-ghost use Rattle.log.specs.Ends.{Ran};
+ghost use mathlib.Core.Path.{_≡_};
+ghost use Prim.Native.Nat.{_≤_};
+ghost use lib.ListN.{length};
+ghost use lib.Seq.{sets};
+ghost use Rattle.log.specs.Log.{logMost, logIn};
+use book::Book;
 use book::open_book;
 use ends::put_ends;
-use ends::refuse;
-use line::put_refused;
-use plan::read::read_plan;
-use report::put_opened;
+use judge::read::read_plan;
+use lines::put_refused;
+use plan::Answer;
+use told::put_opened;
+use told::show;
 
 // A buffer of this length is always long enough.
 pub const LOG_MOST: usize = 212992;
 
-// What a line of ends.txt says: a task's end at a tick, a task that is dropped, or the code that refuses the line.
-pub enum Entry {
-    End(u32, u32),
-    Drop(u32),
-    Refused(u32),
+// An answer, the book after it, and that book's figure M.
+pub struct Shown {
+    pub answer: Answer,
+    pub book: Book,
+    pub early: u32,
 }
 
 // Nothing is written where the buffer is shorter than LOG_MOST.
 pub fn run_log(plan: &[u8], ends: &[u8], out: &mut [u8]) -> usize
-    ensures { λ r. ⌜ Ran (now (plan .entry)) (now (ends .entry)) (now (out .entry)) (now (out .exit)) r ⌝ }
+    ensures { λ r. ⌜ (r ≡ length (logIn (length (now (out .entry))) (now (plan .entry)) (now (ends .entry)))) × (now (out .exit) ≡ sets (now (out .entry)) 0 (logIn (length (now (out .entry))) (now (plan .entry)) (now (ends .entry)))) × (r ≤ logMost) ⌝ }
 {
     if out.len() < LOG_MOST {
         return 0;
@@ -32,13 +37,24 @@ pub fn run_log(plan: &[u8], ends: &[u8], out: &mut [u8]) -> usize
     let reading = read_plan(plan);
     let answer = reading.answer;
     if answer.code != 0 {
-        return put_refused(out, 0, answer);
+        return put_refused(out, 0, answer.code, answer.first, answer.second);
     }
     if 32768 < ends.len() {
-        return put_refused(out, 0, refuse(1, 0));
+        return put_refused(out, 0, 1, 0, 0);
     }
     let opening = open_book(reading.plan);
-    let book = opening.book;
-    let at = put_opened(out, 0, book);
-    put_ends(out, at, book, ends)
+    let opened = show(opening.answer, opening.book);
+    let at = put_opened(
+        out,
+        opened.book.boards,
+        opened.book.tasks,
+        &opened.book.mark,
+        &opened.book.dropped,
+        &opened.book.board,
+        &opened.book.begin,
+        &opened.book.start,
+        opened.book.clock,
+        opened.early,
+    );
+    put_ends(out, at, opened.book, ends)
 }

@@ -6,8 +6,8 @@ use mathlib.Core.Bool.{true, false}
 use native.Mathlib.Omega.{arith}
 use lib.Dec.{eqb}
 use borrow.Author.Tests.{eqb-true, eqb-false, not-true, not-false}
-use Rattle.laws.specs.Cases.{true-false}
-use Rattle.laws.specs.Scan.{scan-cases, scan-clean, scan-same, Found, Nothing}
+use Rattle.laws.proofs.Cases.{true-false}
+use Rattle.laws.proofs.Scan.{scan-cases, scan-clean, scan-same, Found, Nothing}
 use Rattle.plan.specs.Answer.{refuse, granted, isRefused}
 use Rattle.plan.specs.Task.{Task}
 use Rattle.plan.specs.Pairs.{pairCode, pairAnswer, rowFault, firstFault}

@@ -8,9 +8,10 @@ use lib.Seq.{length-take-le}
 use native.Mathlib.Omega.{arith}
 use native.Mathlib.Nat.{mul-le-mul-left, mul-suc}
 use Rattle.laws.specs.Each.{each, rows}
-use Rattle.laws.specs.Rows.{rows-past, row-of-rows, rows-ext, each-from, each-own}
-use Rattle.laws.specs.Blank.{blank, blank-same, blank-zeros, length-zeros, blank-drop, blank-take, before-blank, blank-after, sets-front}
-use Rattle.laws.specs.Split.{indexOf, free, index-le}
+use Rattle.laws.proofs.Rows.{rows-past, row-of-rows, rows-ext, each-from, each-own}
+use Rattle.laws.proofs.Blank.{blank, blank-same, blank-zeros, length-zeros, blank-drop, blank-take, before-blank, blank-after, sets-front}
+use Rattle.laws.specs.Split.{indexOf}
+use Rattle.laws.proofs.Split.{free, index-le}
 use Rattle.plan.specs.Value.{row, items, blankFrom, isTrimmed}
 
 -- ---- stored in an array of zeros

@@ -7,27 +7,22 @@ use lib.ListN.{length, getD, replicate}
 use lib.Dec.{leb, ltb}
 use borrow.Author.Tests.{leb-true, ltb-true, le-leb}
 use native.Mathlib.Omega.{arith}
-use Rattle.laws.specs.Cases.{and-l, and-r, and-of}
-use Rattle.laws.specs.Conj.{conj-at}
-use Rattle.laws.specs.Each.{each, rows, length-each, length-rows, each-below}
-use Rattle.laws.specs.Every.{every, every-at, every-of}
-use Rattle.laws.specs.Rows.{rows-same, each-same}
-use Rattle.laws.specs.Blank.{length-zeros, rising-room, within-free}
+use Rattle.laws.proofs.Cases.{and-l, and-r, and-of}
+use Rattle.laws.proofs.Conj.{conj-at}
+use Rattle.laws.specs.Each.{each, rows}
+use Rattle.laws.proofs.Each.{length-each, length-rows, each-below}
+use Rattle.laws.specs.Every.{every}
+use Rattle.laws.proofs.Every.{every-at, every-of}
+use Rattle.laws.proofs.Rows.{rows-same, each-same}
+use Rattle.laws.proofs.Blank.{length-zeros, rising-room, within-free}
 use Rattle.laws.specs.Lists.{allOf, rising}
-use Rattle.laws.specs.Split.{free}
+use Rattle.laws.proofs.Split.{free}
 use Rattle.text.specs.Items.{between, driveOf, holdsOk, afterOk}
 use Rattle.plan.specs.Task.{Task, numbersOk, taskOk}
 use Rattle.plan.specs.Value.{row, taskAt, planOf, blankFrom, isTrimmed, keptOk, pastBlank, rangesOk}
 use Rattle.plan.specs.declared.Plan.{Plan}
+pub use Rattle.plan.specs.Sized.{Sized}
 use Rattle.plan.proofs.PlanRows.{RowsMade, each-blank, rows-made, own-places, own-rows}
-
--- the arrays of a plan have their lengths
-pub record Sized (plan : Plan) : Type 0 where
-  pub board : length (plan .board) ≡ 64
-  pub begin : length (plan .begin) ≡ 64
-  pub finish : length (plan .finish) ≡ 64
-  pub holds : length (plan .holds) ≡ 2048
-  pub after : length (plan .after) ≡ 4096
 
 -- ---- what a task has that keeps the ranges and rules
 

@@ -2,7 +2,6 @@ pub mod Answer
 pub mod Task
 pub mod Pairs
 pub mod Value
-pub mod Arrays
+pub mod Sized
 pub mod Read
-pub mod Fields
 pub mod Write

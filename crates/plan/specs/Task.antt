@@ -13,6 +13,10 @@ pub record Task : Type 0 where
   pub holds : List ℕ
   pub after : List ℕ
 
+-- the task of these parts
+abbrev pub taskOf : ℕ → ℕ → ℕ → List ℕ → List ℕ → Task
+taskOf board begin finish holds after = record { board = board; begin = begin; finish = finish; holds = holds; after = after }
+
 -- Board is 1 to B. Planned finish is at least planned start + 1 and at most 1,000,000
 abbrev pub numbersOk : ℕ → Task → Bool
 numbersOk boards task =

@@ -10,7 +10,7 @@ use Rattle.laws.specs.Lists.{allOf}
 use Rattle.laws.specs.Split.{indexOf, before}
 use Rattle.text.specs.Items.{between}
 use Rattle.plan.specs.Answer.{isGranted}
-use Rattle.plan.specs.Task.{Task, taskOk}
+use Rattle.plan.specs.Task.{Task, taskOf, taskOk}
 use Rattle.plan.specs.Pairs.{firstFault}
 use Rattle.plan.specs.declared.Plan.{Plan}
 
@@ -25,33 +25,26 @@ row width l k = take width (drop (width * k) l)
 abbrev pub items : List ℕ → List ℕ
 items l = before 0 l
 
--- the tasks that arrays hold
-abbrev pub tasksIn : List ℕ → List ℕ → List ℕ → List ℕ → List ℕ → ℕ → Task
-tasksIn board begin finish holds after k = record {
-  board = at board k;
-  begin = at begin k;
-  finish = at finish k;
-  holds = items (row 32 holds k);
-  after = items (row 64 after k);
-}
-
+-- task k of a plan, from 0
 abbrev pub taskAt : Plan → ℕ → Task
-taskAt plan = tasksIn (plan .board) (plan .begin) (plan .finish) (plan .holds) (plan .after)
+taskAt plan k =
+    taskOf (at (plan .board) k) (at (plan .begin) k) (at (plan .finish) k)
+    (items (row 32 (plan .holds) k)) (items (row 64 (plan .after) k))
+
+-- the plan of these parts
+abbrev pub planWith : ℕ → ℕ → List ℕ → List ℕ → List ℕ → List ℕ → List ℕ → Plan
+planWith boards tasks board begin finish holds after =
+    record { boards = boards; tasks = tasks; board = board; begin = begin; finish = finish; holds = holds; after = after }
 
 -- the plan of B boards and these T tasks; nothing is kept past its last task or a list's last item
 unfoldable pub planOf : ℕ → ℕ → (ℕ → Task) → Plan
-planOf boards tasks task = record {
-  boards = boards;
-  tasks = tasks;
-  board = each tasks (λ k. task k .board) (replicate 64 0);
-  begin = each tasks (λ k. task k .begin) (replicate 64 0);
-  finish = each tasks (λ k. task k .finish) (replicate 64 0);
-  holds = rows 32 tasks (λ k. task k .holds) (replicate 2048 0);
-  after = rows 64 tasks (λ k. task k .after) (replicate 4096 0);
-}
+planOf boards tasks task =
+    let numbers : (ℕ → ℕ) → List ℕ = λ f. each tasks f (replicate 64 0) in
+    planWith boards tasks (numbers (λ k. task k .board)) (numbers (λ k. task k .begin)) (numbers (λ k. task k .finish))
+    (rows 32 tasks (λ k. task k .holds) (replicate 2048 0)) (rows 64 tasks (λ k. task k .after) (replicate 4096 0))
 
 abbrev pub zeroPlan : Plan
-zeroPlan = planOf 0 0 (λ k. record { board = 0; begin = 0; finish = 0; holds = []; after = [] })
+zeroPlan = planOf 0 0 (λ k. taskOf 0 0 0 [] [])
 
 -- nothing is kept from place n on
 unfoldable pub blankFrom : ℕ → List ℕ → Bool
@@ -69,9 +62,8 @@ keptOk plan k =
 -- nothing is kept past the last task
 abbrev pub pastBlank : Plan → Bool
 pastBlank plan =
-    blankFrom (plan .tasks) (plan .board)
-    && (blankFrom (plan .tasks) (plan .begin)
-    && (blankFrom (plan .tasks) (plan .finish)
+    let past = blankFrom (plan .tasks) in
+    past (plan .board) && (past (plan .begin) && (past (plan .finish)
     && (blankFrom (32 * plan .tasks) (plan .holds) && blankFrom (64 * plan .tasks) (plan .after))))
 
 -- its numbers and lists keep the ranges and rules

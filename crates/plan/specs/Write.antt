@@ -6,30 +6,24 @@ use lib.Dec.{ltb}
 use lib.ListN.{length}
 use lib.Seq.{sets}
 use Rattle.laws.specs.Digits.{digitsOf}
+use Rattle.text.specs.Bytes.{bytes}
 use Rattle.text.specs.Line.{lineText}
-use Rattle.text.specs.Items.{holdsText, afterText}
+use Rattle.text.specs.Items.{listText, holdText}
 use Rattle.plan.specs.Answer.{refuse, granted, isGranted}
 use Rattle.plan.specs.Task.{Task}
 use Rattle.plan.specs.Value.{taskAt, isAccepted}
-use Rattle.plan.specs.Read.{PLAN, TASK, EDITION}
 use Rattle.plan.specs.declared.Answer.{Answer}
 use Rattle.plan.specs.declared.Plan.{Plan}
 use Rattle.plan.specs.declared.Written.{Written}
 
 unfoldable pub sizesText : ℕ → ℕ → List ℕ
-sizesText boards tasks = lineText (PLAN ∷ EDITION ∷ digitsOf boards ∷ digitsOf tasks ∷ [])
+sizesText boards tasks = lineText (bytes "plan" ∷ bytes "1" ∷ digitsOf boards ∷ digitsOf tasks ∷ [])
 
 unfoldable pub taskText : ℕ → Task → List ℕ
 taskText number task =
     lineText
-    (TASK
-    ∷ digitsOf number
-    ∷ digitsOf (task .board)
-    ∷ digitsOf (task .begin)
-    ∷ digitsOf (task .finish)
-    ∷ holdsText (task .holds)
-    ∷ afterText (task .after)
-    ∷ [])
+    (bytes "task" ∷ digitsOf number ∷ digitsOf (task .board) ∷ digitsOf (task .begin) ∷ digitsOf (task .finish)
+    ∷ listText holdText (task .holds) ∷ listText digitsOf (task .after) ∷ [])
 
 -- the lines of the first n tasks
 unfoldable pub taskTexts : (ℕ → Task) → ℕ → List ℕ
@@ -46,10 +40,8 @@ writeAnswer plan room =
     (cond (ltb room (length (textOf plan))) (refuse 16 (length (textOf plan)) 0) granted)
 
 unfoldable pub writtenOf : Plan → ℕ → Written
-writtenOf plan room = record {
-  answer = writeAnswer plan room;
-  length = cond (isGranted (writeAnswer plan room)) (length (textOf plan)) 0;
-}
+writtenOf plan room =
+    let answer = writeAnswer plan room in record { answer = answer; length = cond (isGranted answer) (length (textOf plan)) 0 }
 
 -- A refused writer changes no byte; one that succeeds changes only the bytes of the text
 unfoldable pub bufferAfter : Plan → List ℕ → List ℕ

@@ -1,10 +1,4 @@
 // A plan as a value, and what reading and writing it answer.
-use text::Items;
-
-mod fields;
-mod pairs;
-pub mod ranges;
-pub mod read;
 
 // The refusal number and the table's two numbers; all 0 where nothing is refused.
 #[repr(C)]
@@ -36,38 +30,4 @@ pub struct Reading {
 pub struct Written {
     pub answer: Answer,
     pub length: u32,
-}
-
-// What single fields and lines say: a code, and values that are 0 where it refuses.
-pub(crate) struct Ranged {
-    pub code: u32,
-    pub value: u32,
-}
-
-pub(crate) struct Times {
-    pub code: u32,
-    pub begin: u32,
-    pub finish: u32,
-}
-
-pub(crate) struct Sizes {
-    pub ok: bool,
-    pub boards: u32,
-    pub tasks: u32,
-}
-
-pub(crate) struct Line {
-    pub code: u32,
-    pub board: u32,
-    pub begin: u32,
-    pub finish: u32,
-    pub holds: Items,
-    pub after: Items,
-}
-
-// The task lines read: the first refusal, or the plan they make and how many bytes follow.
-pub(crate) struct Lines {
-    pub answer: Answer,
-    pub left: usize,
-    pub plan: Plan,
 }

@@ -2,31 +2,33 @@
 use Prim.Native.Nat.{ℕ, _+_, _≤_, _<_}
 use mathlib.Core.Path.{_≡_, sym, _∙_}
 use mathlib.Core.Logic.{_↔_}
-use mathlib.Core.Bool.{Bool, true}
+use mathlib.Core.Bool.{true}
 use mathlib.Core.List.{List}
 use lib.ListN.{length}
-use Rattle.theory.specs.Report.{Event}
+use lib.Seq.{sets}
+use Rattle.theory.specs.Events.{Event}
+use Rattle.text.specs.Put.{Put}
 use Rattle.plan.specs.Answer.{granted}
-use Rattle.plan.specs.Value.{isAccepted}
-use Rattle.plan.specs.Read.{readingOf}
+use Rattle.plan.specs.Value.{at, isAccepted}
 use Rattle.plan.specs.Write.{writtenOf, bufferAfter}
 use Rattle.plan.specs.declared.Plan.{Plan}
-use Rattle.plan.specs.declared.Reading.{Reading}
 use Rattle.plan.specs.declared.Written.{Written}
 use Rattle.book.specs.Sound.{isSound}
-use Rattle.book.specs.Open.{openingOf}
 use Rattle.book.specs.Report.{reportedOf}
-use Rattle.book.specs.Drop.{droppedOf}
-use Rattle.book.specs.Early.{figureOf}
 use Rattle.book.specs.declared.Book.{Book}
-use Rattle.book.specs.declared.Opening.{Opening}
-use Rattle.book.specs.declared.Reported.{Reported}
-use Rattle.book.specs.declared.Dropped.{Dropped}
-use Rattle.book.specs.declared.Figure.{Figure}
-use Rattle.book.proofs.Sizes.{SizedPlan, Sized}
-use Rattle.promises.specs.Runs.{Running, Ended, limitOf, runOf, Progress, Finishes}
+use Rattle.lines.specs.Lines.{Lined}
+use Rattle.log.specs.Log.{logIn}
+use Rattle.promises.specs.Runs.{SizedPlan, Sized, acceptedOf, Running, Ended, limitOf, runOf, AllInRange, Progress, Finishes, Reached}
+use Rattle.promises.proofs.InRange as in-range
+use Rattle.promises.proofs.Judged as judged
 use Rattle.promises.proofs.SoundBook as sound-book
-use Rattle.promises.proofs.SoundBook.{Reached}
+
+-- on one board the tasks that i waits for are a first run: with j it waits for every k of j's board that is planned before j
+pub first-run :
+    (plan : Plan) → isAccepted plan ≡ true → (i j k : ℕ) → j < plan .tasks → k < plan .tasks
+    → at (plan .board) k ≡ at (plan .board) j → at (plan .begin) k < at (plan .begin) j
+    → at (plan .finish) j ≤ at (plan .begin) i → at (plan .finish) k ≤ at (plan .begin) i
+first-run = judged.first-run
 
 -- The sound books are exactly the books that an accepted plan and accepted reports and drops give
 pub sound-is-reached : (book : Book) → Sized book → (isSound book ≡ true) ↔ Reached book
@@ -53,35 +55,38 @@ pub every-run-finishes :
     (plan : Plan) → SizedPlan plan → isAccepted plan ≡ true → (events : List Event) → Finishes (runOf plan events)
 every-run-finishes plan size ok events = sound-book.finishes (runOf plan events) (sound-book.on-run plan size ok events .good)
 
--- No second answer meets a contract: those of read_plan, is_accepted, open_book, is_sound, report, drop, minimum_early,
--- and of write_plan with its buffer
-pub one-reading : (text : List ℕ) (r q : Reading) → r ≡ readingOf text → q ≡ readingOf text → r ≡ q
-one-reading text r q e d = e ∙ sym d
+-- what is accepted on a sound book can be handed to the functions: tasks up to 64, ticks up to 1,000,000
+pub accepted-in-range :
+    (book : Book) (events : List Event) → Sized book → isSound book ≡ true → AllInRange (acceptedOf book events)
+accepted-in-range book events size sound = in-range.accepted-in-range book events (record { sized = size; sound = sound })
 
-pub one-judgement : (plan : Plan) (r q : Bool) → r ≡ isAccepted plan → q ≡ isAccepted plan → r ≡ q
-one-judgement plan r q e d = e ∙ sym d
+-- No second answer meets a contract. Most say `r ≡ definition arguments`, or of a part that is handed back `now r ≡ ..`:
+-- docs/PROMISES.md lists them
+pub one-answer : {A : Type 0} (defined r q : A) → r ≡ defined → q ≡ defined → r ≡ q
+one-answer defined r q e d = e ∙ sym d
 
-pub one-opening : (plan : Plan) (r q : Opening) → r ≡ openingOf plan → q ≡ openingOf plan → r ≡ q
-one-opening plan r q e d = e ∙ sym d
+-- `put_byte`, `put_text`, `put_number`, with their bytes
+pub one-put :
+    (out : List ℕ) (at : ℕ) (text written other : List ℕ) (r q : ℕ) → Put out at text written r → Put out at text other q
+    → (r ≡ q) × (written ≡ other)
+one-put out at text written other r q e d = (one-answer _ r q (e .place) (d .place), one-answer _ written other (e .bytes) (d .bytes))
 
-pub one-soundness : (book : Book) (r q : Bool) → r ≡ isSound book → q ≡ isSound book → r ≡ q
-one-soundness book r q e d = e ∙ sym d
+-- the lines of a log, with their bytes
+pub one-line :
+    (out : List ℕ) (from : ℕ) (line : List ℕ) (most : ℕ) (written other : List ℕ) (r q : ℕ)
+    → Lined out from line most written r → Lined out from line most other q → (r ≡ q) × (written ≡ other)
+one-line out from line most written other r q e d =
+    (one-answer _ r q (e .place) (d .place), one-answer _ written other (e .bytes) (d .bytes))
 
-pub one-drop : (self : Book) (task : ℕ) (r q : Dropped) → r ≡ droppedOf self task → q ≡ droppedOf self task → r ≡ q
-one-drop self task r q e d = e ∙ sym d
-
-pub one-report :
-    (self : Book) (task tick : ℕ) (r q : Reported) → r ≡ reportedOf self task tick → q ≡ reportedOf self task tick → r ≡ q
-one-report self task tick r q e d = e ∙ sym d
-
-pub one-figure : (self : Book) (r q : Figure) → r ≡ figureOf self → q ≡ figureOf self → r ≡ q
-one-figure self r q e d = e ∙ sym d
-
+-- `write_plan`, with its bytes
 pub one-writing :
-    (plan : Plan) (out : List ℕ) (r q : Written) → r ≡ writtenOf plan (length out) → q ≡ writtenOf plan (length out)
-    → r ≡ q
-one-writing plan out r q e d = e ∙ sym d
+    (plan : Plan) (out written other : List ℕ) (r q : Written) → r ≡ writtenOf plan (length out) → written ≡ bufferAfter plan out
+    → q ≡ writtenOf plan (length out) → other ≡ bufferAfter plan out → (r ≡ q) × (written ≡ other)
+one-writing plan out written other r q e b d c = (one-answer _ r q e d, one-answer _ written other b c)
 
-pub one-buffer :
-    (plan : Plan) (out exit other : List ℕ) → exit ≡ bufferAfter plan out → other ≡ bufferAfter plan out → exit ≡ other
-one-buffer plan out exit other e d = e ∙ sym d
+-- `run_log`, with its bytes
+pub one-log :
+    (plan ends out written other : List ℕ) (r q : ℕ)
+    → r ≡ length (logIn (length out) plan ends) → written ≡ sets out 0 (logIn (length out) plan ends)
+    → q ≡ length (logIn (length out) plan ends) → other ≡ sets out 0 (logIn (length out) plan ends) → (r ≡ q) × (written ≡ other)
+one-log plan ends out written other r q e b d c = (one-answer _ r q e d, one-answer _ written other b c)

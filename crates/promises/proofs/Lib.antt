@@ -1,9 +1,13 @@
 pub mod RunView
+pub mod InRange
 pub mod SoundBook
 pub mod Told
-pub mod Codes
+pub mod codes
+pub mod Judged
 pub mod Figures
 pub mod Rounds
-pub mod Writer
-pub mod Demands
+pub mod tables
+pub mod Demand1
+pub mod Demand2
+pub mod Demand3
 pub mod Claims

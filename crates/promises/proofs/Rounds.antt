@@ -10,10 +10,10 @@ use Rattle.plan.specs.Read.{textAnswer, readingOf}
 use Rattle.plan.specs.Write.{textOf, writtenOf, bufferAfter}
 use Rattle.plan.specs.declared.Answer.{Answer}
 use Rattle.plan.specs.declared.Plan.{Plan}
-use Rattle.plan.proofs.RoundText.{read-answer, read-accepted, read-back}
-use Rattle.plan.proofs.RoundWrite.{write-text, write-rest, write-back}
-use Rattle.book.proofs.Sizes.{SizedPlan}
-use Rattle.promises.proofs.Codes.{sized-as}
+use Rattle.plan.proofs.ReadOk.{read-answer, read-accepted}
+use Rattle.rounds.proofs.RoundText.{read-back}
+use Rattle.rounds.proofs.RoundWrite.{write-text, write-rest, write-back}
+use Rattle.book.specs.Sized.{SizedPlan}
 
 module _ (text : List ℕ) (z : readingOf text .answer .code ≡ 0) where
   code-zero : textAnswer text .code ≡ 0
@@ -38,7 +38,7 @@ text-written text out z room =
 pub plan-back :
     (plan : Plan) (out : List ℕ) → SizedPlan plan → isAccepted plan ≡ true → length (textOf plan) ≤ length out
     → readingOf (take (writtenOf plan (length out) .length) (bufferAfter plan out)) ≡ record { answer = granted; plan = plan }
-plan-back plan out size ok room = write-back plan out ok room (sized-as plan size)
+plan-back plan out size ok room = write-back plan out ok room size
 
 pub rest-stays :
     (plan : Plan) (out : List ℕ) → isAccepted plan ≡ true → length (textOf plan) ≤ length out

@@ -8,9 +8,10 @@ use mathlib.Core.Logic.{_≢_, ⊎-elim}
 use lib.Dec.{eqb}
 use lib.Seq.{ext-getD}
 use borrow.Author.Tests.{eq-eqb, ne-eqb}
-use Rattle.laws.specs.Cases.{by-eq}
+use Rattle.laws.proofs.Cases.{by-eq}
 use Rattle.theory.specs.Book as theory-book
-use Rattle.theory.specs.Report.{Event, eventCode, run, accepted}
+use Rattle.theory.specs.Events.{Event}
+use Rattle.theory.proofs.Facts.{eventCode, run, accepted}
 use Rattle.theory.proofs.Same.{same-book}
 use Rattle.plan.specs.Answer.{granted, isGranted}
 use Rattle.plan.specs.Value.{at, isAccepted}
@@ -23,7 +24,8 @@ use Rattle.book.specs.Drop.{dropCodeOf, dropAnswer, droppedOf}
 use Rattle.book.specs.Event.{answerTo, bookTold}
 use Rattle.book.specs.declared.Book.{Book}
 use Rattle.book.specs.declared.Opening.{Opening}
-use Rattle.book.proofs.Accepted.{planFor, plan-lawful}
+use Rattle.view.specs.View.{planFor}
+use Rattle.view.proofs.Accepted.{plan-lawful}
 use Rattle.book.proofs.Sizes.{SizedPlan, Sized, sized-opened, plan-opened}
 use Rattle.book.proofs.Soundness.{SoundFacts, is-sound-facts, opened-is-sound}
 use Rattle.book.proofs.ReportLaws.{code-zero, drop-zero}
@@ -38,7 +40,7 @@ pub record Good (book : Book) : Type 0 where
 pub good-event : (book : Book) (event : Event) → Good book → Good (bookTold book event)
 good-event book event g = record {
   sized = event-sized book (g .sound) event (g .sized);
-  sound = event-sound book (g .sound) event (g .sized);
+  sound = event-sound book (g .sound) event;
 }
 
 -- a report or drop as the theory counts tasks is `theoryEvent`; and back
@@ -66,7 +68,7 @@ view-run book (e ∷ es) g =
     view-run c es (good-event book e g)
     ∙ ap (λ (p : Plan). run (planFor p) (bookView c) (map (theoryEvent (p .tasks)) es)) (event-plan book (g .sound) e)
     ∙ ap (λ (b : theory-book.Book). run (planView book) b (map (theoryEvent (book .tasks)) es))
-    (event-view book (g .sound) e (g .sized))
+    (event-view book (g .sound) e)
 
 pub after-append : (book : Book) (es fs : List Event) → bookAfter book (es ++ fs) ≡ bookAfter (bookAfter book es) fs
 unfolding bookAfter
@@ -129,7 +131,7 @@ accepted-seen book (e ∷ es) g =
     accepted-seen c es (good-event book e g)
     ∙ ap (λ (p : Plan). map named (accepted (planFor p) (bookView c) (map (theoryEvent (p .tasks)) es))) (event-plan book (g .sound) e)
     ∙ ap (λ (b : theory-book.Book). map named (accepted (planView book) b (map (theoryEvent (book .tasks)) es)))
-    (event-view book (g .sound) e (g .sized)) in
+    (event-view book (g .sound) e) in
     by-eq (codeIn book e) 0
     (λ z.
     let code = sym (code-seen-by book e) ∙ z in
@@ -220,4 +222,4 @@ module _ (plan : Plan) (ok : isAccepted plan ≡ true) where
   opened-plan = ap (λ (b : Book). planIn b) opened-is ∙ plan-opened plan
 
   pub opened-good : SizedPlan plan → Good (openedBook plan)
-  opened-good s = rw opened-is (record { sized = sized-opened plan s; sound = opened-is-sound plan s ok })
+  opened-good s = rw opened-is (record { sized = sized-opened plan s; sound = opened-is-sound plan ok })

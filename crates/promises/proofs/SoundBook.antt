@@ -6,11 +6,12 @@ use mathlib.Core.List.{List, _++_, map}
 use mathlib.Core.Path.{_≡_, sym, ap, subst, _∙_}
 use mathlib.Core.Logic.{_≢_, _↔_, _⊎_, inl, inr, ⊎-elim}
 use borrow.Author.Tests.{ne-eqb, le-leb, leb-true}
-use Rattle.laws.specs.Latest.{latest-over, latest-met, latest-none}
+use Rattle.laws.proofs.Latest.{latest-over, latest-met, latest-none}
 use Rattle.theory.specs.Plan as theory-plan
 use Rattle.theory.specs.Book as theory-book
 use Rattle.theory.specs.Report as theory-report
-use Rattle.theory.specs.Report.{Event, run}
+use Rattle.theory.specs.Events.{Event}
+use Rattle.theory.proofs.Facts.{Sound, run, accepted}
 use Rattle.theory.specs.Figure.{minimumEarly}
 use Rattle.theory.proofs.Reflect.{all-ended-at, all-ended-of}
 use Rattle.theory.proofs.Task.{waiting-why, started-all, free-started}
@@ -28,12 +29,14 @@ use Rattle.book.specs.Sound.{isSound}
 use Rattle.book.specs.Report.{codeOf, reportedOf}
 use Rattle.book.specs.Early.{figureOf}
 use Rattle.book.specs.declared.Book.{Book}
-use Rattle.book.proofs.Accepted.{planFor, plan-facts, plan-lawful, clash-waits}
-use Rattle.book.proofs.Sizes.{SizedPlan}
+use Rattle.view.specs.View.{planFor}
+use Rattle.view.proofs.Accepted.{plan-facts, plan-lawful, clash-waits}
+use Rattle.book.specs.Sized.{SizedPlan}
 use Rattle.book.proofs.Views.{view-opened}
-use Rattle.book.proofs.Soundness.{SoundFacts, is-sound-facts, past-facts}
+use Rattle.book.proofs.Soundness.{SoundFacts, is-sound-facts}
 use Rattle.book.proofs.Reports.{theoryTask, theoryEvent, code-seen-by}
-use Rattle.promises.specs.Runs.{openedBook, bookAfter, acceptedOf, Waiting, Running, Ended, Started, startOf, endOf, limitOf, WaitsFor, dueOf, AllEnded, InOrder, EarlyBy, runOf, Progress, Finishes}
+use Rattle.promises.specs.Runs.{openedBook, bookAfter, acceptedOf, Waiting, Running, Ended, Started, startOf, endOf, limitOf, WaitsFor, dueOf, AllEnded, InOrder, EarlyBy, runOf, AllInRange, Progress, Finishes, Reached}
+use Rattle.promises.proofs.InRange.{limit-told, accepted-in-range}
 use Rattle.promises.proofs.RunView.{Good, named, good-run, plan-run, view-run, after-append, answer-granted, seen-named, accepted-seen, book-path, opened-is, opened-plan, opened-good}
 
 -- task k + 1 of a report is the theory's k
@@ -48,10 +51,10 @@ module _ (book : Book) (g : Good book) (rs : List Event) where
   view-named = view-run book (map named rs) g ∙ ap (run (planView book) (bookView book)) (seen-named (book .tasks) rs)
 
   pub accepted-named :
-      theory-report.accepted (planView book) (bookView book) rs ≡ rs → acceptedOf book (map named rs) ≡ map named rs
+      accepted (planView book) (bookView book) rs ≡ rs → acceptedOf book (map named rs) ≡ map named rs
   accepted-named e =
       accepted-seen book (map named rs) g
-      ∙ ap (λ (l : List Event). map named (theory-report.accepted (planView book) (bookView book) l)) (seen-named (book .tasks) rs)
+      ∙ ap (λ (l : List Event). map named (accepted (planView book) (bookView book) l)) (seen-named (book .tasks) rs)
       ∙ ap (λ (l : List Event). map named l) e
 
 module _ (book : Book) where
@@ -123,6 +126,7 @@ module _ (book : Book) (g : Good book) where
         runs = p .runs;
         least = p .least;
         taken = least-accepted (p .who) (p .task) (p .runs) (p .least);
+        in-range = limit-told book g (p .who) (p .task) (p .runs);
       }
 
   pub finishes : Finishes book
@@ -133,6 +137,7 @@ module _ (book : Book) (g : Good book) where
       record {
         events = map named rs;
         each-accepted = e;
+        in-range = subst AllInRange e (accepted-in-range book (map named rs) g);
         all-ended = λ i l.
             ap (λ (b : theory-book.Book). b .mark i) (view-named book g rs ∙ f .way .leads) ∙ f .all-done i l;
       }
@@ -152,8 +157,8 @@ module _ (plan : Plan) (size : SizedPlan plan) (ok : isAccepted plan ≡ true) w
   law = plan-lawful plan ok
 
   module _ (book : Book) (on : OnPlan plan book) where
-    sound-on : theory-book.Sound (planFor plan) (bookView book)
-    sound-on = subst (λ (p : Plan). theory-book.Sound (planFor p) (bookView book)) (on .same) (facts book (on .good) .sound)
+    sound-on : Sound (planFor plan) (bookView book)
+    sound-on = subst (λ (p : Plan). Sound (planFor p) (bookView book)) (on .same) (facts book (on .good) .sound)
 
     in-order : (a b : ℕ) → a < plan .tasks → b < plan .tasks → (planFor plan) .waits b a ≡ true → InOrder plan book a b
     in-order a b la lb w = record {
@@ -216,7 +221,7 @@ kept-run plan size ok reports later i l n =
 module _ (plan : Plan) (size : SizedPlan plan) (ok : isAccepted plan ≡ true) where
   nobody-ended : (j : ℕ) → j < openedBook plan .tasks → Ended (openedBook plan) j → ⊥
   nobody-ended j l h =
-      let view = ap (λ (b : Book). bookView b) (opened-is plan ok) ∙ view-opened plan size (plan-facts plan ok .tasks-to) in
+      let view = ap (λ (b : Book). bookView b) (opened-is plan ok) ∙ view-opened plan (plan-facts plan ok .tasks-to) in
       let t : openedBook plan .tasks ≡ plan .tasks = ap (λ (p : Plan). p .tasks) (opened-plan plan ok) in
       opened-none (planFor plan) j (omega arith) (sym (ap (λ (b : theory-book.Book). b .mark j) view) ∙ h)
 
@@ -237,7 +242,7 @@ module _ (plan : Plan) (size : SizedPlan plan) (ok : isAccepted plan ≡ true) w
 -- what is seen of the opened book is the theory's
 module _ (plan : Plan) (size : SizedPlan plan) (ok : isAccepted plan ≡ true) where
   opened-seen : bookView (openedBook plan) ≡ theory-report.opened (planFor plan)
-  opened-seen = ap (λ (b : Book). bookView b) (opened-is plan ok) ∙ view-opened plan size (plan-facts plan ok .tasks-to)
+  opened-seen = ap (λ (b : Book). bookView b) (opened-is plan ok) ∙ view-opened plan (plan-facts plan ok .tasks-to)
 
   module _ (rs : List Event) where
     seen-run : run (planView (openedBook plan)) (bookView (openedBook plan)) rs ≡ run (planFor plan) (theory-report.opened (planFor plan)) rs
@@ -246,33 +251,24 @@ module _ (plan : Plan) (size : SizedPlan plan) (ok : isAccepted plan ≡ true) w
         ∙ ap (λ (b : theory-book.Book). run (planFor plan) b rs) opened-seen
 
     seen-accepted :
-        theory-report.accepted (planFor plan) (theory-report.opened (planFor plan)) rs ≡ rs
-        → theory-report.accepted (planView (openedBook plan)) (bookView (openedBook plan)) rs ≡ rs
+        accepted (planFor plan) (theory-report.opened (planFor plan)) rs ≡ rs
+        → accepted (planView (openedBook plan)) (bookView (openedBook plan)) rs ≡ rs
     seen-accepted e =
-        ap (λ (p : Plan). theory-report.accepted (planFor p) (bookView (openedBook plan)) rs) (opened-plan plan ok)
-        ∙ ap (λ (b : theory-book.Book). theory-report.accepted (planFor plan) b rs) opened-seen
+        ap (λ (p : Plan). accepted (planFor p) (bookView (openedBook plan)) rs) (opened-plan plan ok)
+        ∙ ap (λ (b : theory-book.Book). accepted (planFor plan) b rs) opened-seen
         ∙ e
 
 -- places past the tasks hold nothing, as in the opened book
 past : (book : Book) → Good book → SamePast (planView book) (theory-report.opened (planView book)) (bookView book)
 past book g =
     let o = past-opened (planView book) in
-    let p = past-facts book .0 (facts book g .past) in
+    let p = facts book g .past in
     record {
       marks = λ i l. o .marks i l ∙ sym (p .mark i l);
       starts = λ i l. o .starts i l ∙ sym (p .start i l);
       ends = λ i l. o .ends i l ∙ sym (p .end i l);
       drops = λ i l. o .drops i l ∙ sym (p .dropped i l);
     }
-
--- what accepted reports and drops make of an accepted plan's opened book
-pub record Reached (book : Book) : Type 0 where
-  pub plan : Plan
-  pub sized : SizedPlan plan
-  pub accepted : isAccepted plan ≡ true
-  pub events : List Event
-  pub each-accepted : acceptedOf (openedBook plan) events ≡ events
-  pub leads : runOf plan events ≡ book
 
 -- the sound books are those that are reached
 module _ (book : Book) where
@@ -288,12 +284,14 @@ module _ (book : Book) where
       let way = reachable (planView book) (lawful book g) (bookView book) .0 (facts book g .sound, past book g) in
       let rs = way .events in
       let p = opened-plan plan ok in
+      let each = accepted-named (openedBook plan) o rs (seen-accepted plan size ok rs (way .each-accepted)) in
       record {
         plan = plan;
         sized = size;
         accepted = ok;
         events = map named rs;
-        each-accepted = accepted-named (openedBook plan) o rs (seen-accepted plan size ok rs (way .each-accepted));
+        each-accepted = each;
+        in-range = subst AllInRange each (accepted-in-range (openedBook plan) (map named rs) o);
         leads =
             book-path (runOf plan (map named rs)) book (good-run _ (map named rs) o .sized) (g .sized)
             (plan-run _ (map named rs) o ∙ p)

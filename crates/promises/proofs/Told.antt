@@ -1,76 +1,92 @@
--- What an accepted report and an accepted drop do, in the words of the promises.
+-- What an accepted report or drop does, in the words of the promises.
 use Prim.Native.Nat.{ℕ, _-_, _<_}
 use native.Mathlib.Omega.{arith}
 use mathlib.Core.Bool.{true}
-use mathlib.Core.Path.{_≡_, sym, ap, subst, _∙_}
+use mathlib.Core.List.{List}
+use mathlib.Core.Path.{_≡_, refl, sym, ap, subst, _∙_}
 use mathlib.Core.Logic.{_≢_, _↔_}
-use lib.Seq.{getD-set-same, getD-set-other}
-use borrow.Author.Tests.{leb-true}
+use lib.ListN.{length}
+use lib.Seq.{ext-getD}
+use borrow.Author.Tests.{eq-eqb, ne-eqb, leb-true}
 use Rattle.theory.specs.Book as theory-book
 use Rattle.theory.specs.Report as theory-report
-use Rattle.theory.specs.Report.{Event}
+use Rattle.theory.specs.Events.{Event, Accepts}
+use Rattle.theory.proofs.Facts.{stepTo}
+use Rattle.theory.proofs.Reflect.{after-taken}
 use Rattle.theory.proofs.Task.{skipped-now}
-use Rattle.theory.proofs.Step.{AtTask, next-at, next-clock}
+use Rattle.theory.proofs.Step.{AtTask, next-at, next-clock, next-dropped}
 use Rattle.theory.proofs.Later.{next-ends}
 use Rattle.theory.proofs.Order as order
 use Rattle.theory.proofs.Reach.{drop-waits}
 use Rattle.plan.specs.Value.{at}
+use Rattle.plan.specs.declared.Answer.{Answer}
 use Rattle.plan.specs.declared.Plan.{Plan}
 use Rattle.book.specs.View.{planIn, planView, bookView}
+use Rattle.book.specs.Sized.{Sized}
 use Rattle.book.specs.Sound.{isSound}
-use Rattle.book.specs.Report.{codeOf, nextBook, reportedOf}
-use Rattle.book.specs.Drop.{dropCodeOf, droppedIn, droppedOf}
+use Rattle.book.specs.Report.{codeOf, reportedOf}
+use Rattle.book.specs.Drop.{dropCodeOf, droppedOf}
+use Rattle.book.specs.Event.{bookTold}
 use Rattle.book.specs.declared.Book.{Book}
-use Rattle.book.proofs.Accepted.{planFor, plan-facts}
-use Rattle.book.proofs.Sizes.{Sized, plan-next}
-use Rattle.book.proofs.Views.{view-next}
-use Rattle.book.proofs.Soundness.{is-sound-facts}
-use Rattle.book.proofs.ReportLaws.{code-zero, drop-zero, book-granted, drop-granted-book}
+use Rattle.book.specs.declared.Reported.{Reported}
+use Rattle.view.specs.View.{planFor}
+use Rattle.book.proofs.ReportLaws.{code-zero, drop-zero}
+use Rattle.book.proofs.Reports.{codeIn, theoryTask, theoryEvent, code-seen-by, event-plan, event-view}
 use Rattle.promises.specs.Runs.{Waiting, Ended, Started, Dropped, startOf, endOf, WaitsFor, StartsExactly}
+use Rattle.promises.specs.Says.{ReportSays}
 use Rattle.promises.proofs.RunView.{Good, good-event, answer-code}
-use Rattle.promises.proofs.SoundBook.{facts, few, all-ended}
+use Rattle.promises.proofs.SoundBook.{facts, all-ended}
+use Rattle.promises.proofs.codes.Book.{report-says}
 
--- a report answered with code 0 has code 0
+-- a report or drop answered with code 0 has code 0
 pub code-of :
     (book : Book) (task tick : ℕ) → isSound book ≡ true → reportedOf book task tick .answer .code ≡ 0
     → codeOf book task tick ≡ 0
 code-of book task tick h z = sym (answer-code book h (Event.ends task tick)) ∙ z
 
+pub drop-code-of : (book : Book) (task : ℕ) → isSound book ≡ true → droppedOf book task .answer .code ≡ 0 → dropCodeOf book task ≡ 0
+drop-code-of book task h z = sym (answer-code book h (Event.drops task)) ∙ z
+
+-- what is seen of the book after one that is taken
+view-taken :
+    (book : Book) → Good book → (event : Event) → codeIn book event ≡ 0
+    → bookView (bookTold book event) ≡ stepTo (planView book) (bookView book) (theoryEvent (book .tasks) event)
+view-taken book g event z =
+    event-view book (g .sound) event
+    ∙ after-taken (planView book) (bookView book) (theoryEvent (book .tasks) event) (sym (code-seen-by book event) ∙ z)
+
+task-seen : (tasks task : ℕ) → 0 < task → theoryTask tasks task ≡ task - 1
+task-seen tasks task p = rw (ne-eqb task 0 (λ z. omega (arith, p, z)))
+
 -- a report taken
 module _ (book : Book) (g : Good book) (task tick : ℕ) (z : codeOf book task tick ≡ 0) where
-  ok : theory-report.Accepts (planView book) (bookView book) (task - 1) tick
+  ok : Accepts (planView book) (bookView book) (task - 1) tick
   ok = code-zero book task tick z .1
 
-  view : bookView (nextBook book (task - 1) tick) ≡ theory-report.next (planView book) (bookView book) (task - 1) tick
-  view = view-next book (task - 1) tick (g .sized) (few book g) (omega (arith, few book g, ok .task))
+  pub seen-after : bookView (reportedOf book task tick .book) ≡ theory-report.next (planView book) (bookView book) (task - 1) tick
+  seen-after =
+      view-taken book g (Event.ends task tick) z
+      ∙ ap (λ (k : ℕ). theory-report.next (planView book) (bookView book) k tick) (task-seen (book .tasks) task (code-zero book task tick z .0))
 
-  exact-next :
+  exact-after :
       (i : ℕ) → i < book .tasks → Waiting book i
-      → order.StartsExactly (planView (nextBook book (task - 1) tick)) tick (bookView (nextBook book (task - 1) tick)) i
-  exact-next i l w =
+      → order.StartsExactly (planView (reportedOf book task tick .book)) tick (bookView (reportedOf book task tick .book)) i
+  exact-after i l w =
       let f = order.start-exact (planView book) (bookView book) (task - 1) tick ok (facts book g .sound) i l w in
-      let f′ : order.StartsExactly (planView book) tick (bookView (nextBook book (task - 1) tick)) i = rw view f in
-      subst (λ (p : Plan). order.StartsExactly (planFor p) tick (bookView (nextBook book (task - 1) tick)) i)
-      (sym (plan-next book (task - 1) tick)) f′
+      let f′ : order.StartsExactly (planView book) tick (bookView (reportedOf book task tick .book)) i = rw seen-after f in
+      subst (λ (p : Plan). order.StartsExactly (planFor p) tick (bookView (reportedOf book task tick .book)) i)
+      (sym (event-plan book (g .sound) (Event.ends task tick))) f′
 
-  next-starts : Good (nextBook book (task - 1) tick) → (i : ℕ) → i < book .tasks → Waiting book i → StartsExactly tick (nextBook book (task - 1) tick) i
-  next-starts h i l w =
-      let f = exact-next i l w in
-      let a = all-ended (nextBook book (task - 1) tick) h i in
+  pub report-starts : (i : ℕ) → i < book .tasks → Waiting book i → StartsExactly tick (reportedOf book task tick .book) i
+  report-starts i l w =
+      let f = exact-after i l w in
+      let a = all-ended (reportedOf book task tick .book) (good-event book (Event.ends task tick) g) i in
       record {
         when-free = (λ n. a .0 (f .when-free .0 n), λ n. f .when-free .1 (a .1 n));
         at-tick = f .at-tick;
         runs = f .then-runs;
         skips = f .then-skips;
       }
-
-  pub report-starts : (i : ℕ) → i < book .tasks → Waiting book i → StartsExactly tick (reportedOf book task tick .book) i
-  report-starts i l w =
-      let e = book-granted book task tick (g .sound) z in
-      rw e (next-starts (rw e at (good-event book (Event.ends task tick) g)) i l w)
-
-  seen-after : bookView (reportedOf book task tick .book) ≡ theory-report.next (planView book) (bookView book) (task - 1) tick
-  seen-after = ap (λ (b : Book). bookView b) (book-granted book task tick (g .sound) z) ∙ view
 
   pub report-keeps :
       (i : ℕ) → i < book .tasks → Started book i
@@ -113,37 +129,51 @@ module _ (book : Book) (g : Good book) (task tick : ℕ) (z : codeOf book task t
           let c = ap (λ (x : theory-book.Book). x .mark i) e in
           ((λ h. sym m ∙ sym c ∙ h, λ h. c ∙ m ∙ h), ap (λ (x : theory-book.Book). x .end i) e ∙ v)
 
--- a drop taken marks its task and changes nothing else
-module _ (book : Book) (h : isSound book ≡ true) (task : ℕ) (z : dropCodeOf book task ≡ 0) where
-  after-drop : droppedOf book task .book ≡ droppedIn book (task - 1)
-  after-drop = drop-granted-book book task h z
+-- arrays of one length that are seen as the same are the same
+same-array : (these those : List ℕ) → length these ≡ 64 → length those ≡ 64 → ((j : ℕ) → at these j ≡ at those j) → these ≡ those
+same-array these those l m seen = ext-getD 0 these those (l ∙ sym m) (λ j h. seen j)
 
-  pub drop-marks : Sized book → Dropped (droppedOf book task .book) (task - 1)
-  unfolding droppedIn
-  drop-marks s =
-      let ok = drop-zero book task z .1 in
-      let t = plan-facts (planIn book) (is-sound-facts book .0 h .accepted) .tasks-to in
-      ap (λ (b : Book). at (b .dropped) (task - 1)) after-drop
-      ∙ getD-set-same (book .dropped) (task - 1) 1 0 (omega (arith, s .dropped, ok .task))
+-- a report leaves the drops as they were, taken or refused
+pub report-drops : (book : Book) → Sized book → (task tick : ℕ) → reportedOf book task tick .book .dropped ≡ book .dropped
+report-drops book size task tick = go (report-says book task tick)
+  where
+    go : ReportSays book task tick (reportedOf book task tick) → reportedOf book task tick .book .dropped ≡ book .dropped
+    go (ReportSays.taken h e) =
+        let g : Good book = record { sized = size; sound = h } in
+        let z = code-of book task tick h (ap (λ (x : Answer). x .code) e) in
+        same-array (reportedOf book task tick .book .dropped) (book .dropped)
+        (good-event book (Event.ends task tick) g .sized .dropped) (size .dropped)
+        (λ j.
+        ap (λ (b : theory-book.Book). b .dropped j) (seen-after book g task tick z)
+        ∙ ap (λ (d : ℕ → ℕ). d j) (next-dropped (planView book) (bookView book) (task - 1) tick))
+    go (ReportSays.unsound h e) = ap (λ (x : Reported). x .book .dropped) e
+    go (ReportSays.refused code h l m e) = ap (λ (x : Reported). x .book .dropped) e
+
+-- a drop taken marks its task and changes nothing else
+module _ (book : Book) (g : Good book) (task : ℕ) (z : dropCodeOf book task ≡ 0) where
+  seen-drop : bookView (droppedOf book task .book) ≡ theory-report.dropIt (bookView book) (task - 1)
+  seen-drop =
+      view-taken book g (Event.drops task) z
+      ∙ ap (λ (k : ℕ). theory-report.dropIt (bookView book) k) (task-seen (book .tasks) task (drop-zero book task z .0))
+
+  size-after : Sized (droppedOf book task .book)
+  size-after = good-event book (Event.drops task) g .sized
+
+  pub drop-marks : Dropped (droppedOf book task .book) (task - 1)
+  drop-marks = ap (λ (b : theory-book.Book). b .dropped (task - 1)) seen-drop ∙ rw (eq-eqb (task - 1) (task - 1) refl)
 
   pub drop-others : (i : ℕ) → i ≢ task - 1 → at (droppedOf book task .book .dropped) i ≡ at (book .dropped) i
-  unfolding droppedIn
-  drop-others i n =
-      ap (λ (b : Book). at (b .dropped) i) after-drop ∙ getD-set-other (book .dropped) (task - 1) i 1 0 n
+  drop-others i n = ap (λ (b : theory-book.Book). b .dropped i) seen-drop ∙ rw (ne-eqb i (task - 1) n)
 
   pub drop-rest :
       (droppedOf book task .book .clock ≡ book .clock) × (droppedOf book task .book .mark ≡ book .mark)
       × (droppedOf book task .book .start ≡ book .start) × (droppedOf book task .book .end ≡ book .end)
-  unfolding droppedIn
   drop-rest = (
-    ap (λ (b : Book). b .clock) after-drop,
-    ap (λ (b : Book). b .mark) after-drop,
-    ap (λ (b : Book). b .start) after-drop,
-    ap (λ (b : Book). b .end) after-drop,
+    ap (λ (b : theory-book.Book). b .clock) seen-drop,
+    same-array _ _ (size-after .mark) (g .sized .mark) (λ j. ap (λ (b : theory-book.Book). b .mark j) seen-drop),
+    same-array _ _ (size-after .start) (g .sized .start) (λ j. ap (λ (b : theory-book.Book). b .start j) seen-drop),
+    same-array _ _ (size-after .end) (g .sized .end) (λ j. ap (λ (b : theory-book.Book). b .end j) seen-drop),
   )
-
-pub drop-code-of : (book : Book) (task : ℕ) → isSound book ≡ true → droppedOf book task .answer .code ≡ 0 → dropCodeOf book task ≡ 0
-drop-code-of book task h z = sym (answer-code book h (Event.drops task)) ∙ z
 
 -- a dropped task takes no time
 pub dropped-at-once :

@@ -1,6 +1,3 @@
 pub mod Runs
 pub mod Says
-pub mod PlanA
-pub mod Starred
-pub mod Impostors
-pub mod Listing
+pub mod tables

@@ -3,18 +3,20 @@
 use Prim.Native.Nat.{ℕ, _+_, _≤_, _<_}
 use mathlib.Core.Path.{_≡_}
 use mathlib.Core.Logic.{_≢_, _↔_}
-use mathlib.Core.Bool.{cond}
+use mathlib.Core.Bool.{true, cond}
 use mathlib.Core.List.{List, [], _∷_, List·Memᴰ}
-use Rattle.theory.specs.Report.{Event}
+use Rattle.theory.specs.Events.{Event}
 use Rattle.theory.specs.Book as theory-book
 use Rattle.plan.specs.Answer.{granted, isGranted}
-use Rattle.plan.specs.Value.{at}
+use Rattle.plan.specs.Value.{at, isAccepted}
 use Rattle.plan.specs.declared.Plan.{Plan}
 use Rattle.book.specs.View.{planView, bookView}
 use Rattle.book.specs.Open.{openingOf}
 use Rattle.book.specs.Report.{reportedOf}
 use Rattle.book.specs.Event.{answerTo, bookTold}
 use Rattle.book.specs.declared.Book.{Book}
+-- the arrays have their lengths
+pub use Rattle.book.specs.Sized.{SizedPlan, Sized}
 
 -- the book opened on a plan
 abbrev pub openedBook : Plan → Book
@@ -94,6 +96,14 @@ pub record StartsExactly (tick : ℕ) (after : Book) (i : ℕ) : Type 0 where
   pub runs : Started after i → (Dropped after i → ⊥) → Running after i
   pub skips : Started after i → Dropped after i → Ended after i × (endOf after i ≡ tick)
 
+-- a task and a tick that can be handed to the functions
+abbrev pub InRange : Event → Type 0
+InRange (Event.ends task tick) = (task ≤ 64) × (tick ≤ 1000000)
+InRange (Event.drops task) = task ≤ 64
+
+abbrev pub AllInRange : List Event → Type 0
+AllInRange events = (event : Event) → List·Memᴰ event events → InRange event
+
 -- a running task of least limit, accepted at its limit
 pub record Progress (book : Book) : Type 0 where
   pub who : ℕ
@@ -101,9 +111,21 @@ pub record Progress (book : Book) : Type 0 where
   pub runs : Running book who
   pub least : (j : ℕ) → j < book .tasks → Running book j → limitOf book who ≤ limitOf book j
   pub taken : reportedOf book (who + 1) (limitOf book who) .answer ≡ granted
+  pub in-range : InRange (Event.ends (who + 1) (limitOf book who))
 
 -- accepted reports after which every task has ended
 pub record Finishes (book : Book) : Type 0 where
   pub events : List Event
   pub each-accepted : acceptedOf book events ≡ events
+  pub in-range : AllInRange events
   pub all-ended : (i : ℕ) → i < book .tasks → Ended (bookAfter book events) i
+
+-- what accepted reports and drops make of an accepted plan's opened book
+pub record Reached (book : Book) : Type 0 where
+  pub plan : Plan
+  pub sized : SizedPlan plan
+  pub accepted : isAccepted plan ≡ true
+  pub events : List Event
+  pub each-accepted : acceptedOf (openedBook plan) events ≡ events
+  pub in-range : AllInRange events
+  pub leads : runOf plan events ≡ book

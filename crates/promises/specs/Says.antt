@@ -1,20 +1,21 @@
 -- What each call may answer: the table's numbers, what they say besides, and what a refusal leaves.
-use Prim.Native.Nat.{ℕ, _+_, _≤_, _<_}
+use Prim.Native.Nat.{ℕ, _+_, _-_, _≤_, _<_}
 use mathlib.Core.Path.{_≡_}
-use mathlib.Core.Logic.{_⊎_}
+use mathlib.Core.Logic.{_≢_, _⊎_}
 use mathlib.Core.Bool.{true, false}
 use mathlib.Core.List.{List}
 use lib.ListN.{length}
 use lib.Seq.{sets}
 use Rattle.plan.specs.Answer.{refuse, granted}
 use Rattle.plan.specs.Value.{zeroPlan, isAccepted}
-use Rattle.plan.specs.Read.{tasksOf}
+use Rattle.plan.specs.Pairs.{pairCode}
+use Rattle.plan.specs.Read.{tasksOf, textTask}
 use Rattle.plan.specs.Write.{textOf}
 use Rattle.plan.specs.declared.Plan.{Plan}
 use Rattle.plan.specs.declared.Reading.{Reading}
 use Rattle.plan.specs.declared.Written.{Written}
 use Rattle.book.specs.Sound.{isSound}
-use Rattle.book.specs.Open.{openedOn, zeroBook}
+use Rattle.book.specs.Open.{blankBook, openedOn}
 use Rattle.book.specs.declared.Book.{Book}
 use Rattle.book.specs.declared.Opening.{Opening}
 use Rattle.book.specs.declared.Reported.{Reported}
@@ -25,6 +26,24 @@ use Rattle.book.specs.declared.Figure.{Figure}
 abbrev pub noPlan : ℕ → ℕ → ℕ → Reading
 noPlan code first second = record { answer = refuse code first second; plan = zeroPlan }
 
+-- the code of tasks a and b of a text, counted from 1; 0 where the pair is not faulty
+abbrev pub faultOf : List ℕ → ℕ → ℕ → ℕ
+faultOf text a b = pairCode (textTask text) (a - 1) (b - 1)
+
+-- (x, y) is examined before (a, b): by a, then by b
+abbrev pub Before : ℕ → ℕ → ℕ → ℕ → Type 0
+Before x y a b = (x < a) ⊎ ((x ≡ a) × (y < b))
+
+-- the first faulty pair; (a, a) only for code 8
+pub record FirstFaulty (text : List ℕ) (code a b : ℕ) : Type 0 where
+  pub from : 1 ≤ a
+  pub ordered : a ≤ b
+  pub to : b ≤ tasksOf text
+  pub number : (6 ≤ code) × (code ≤ 8)
+  pub faulty : faultOf text a b ≡ code
+  pub first : (x y : ℕ) → 1 ≤ x → x ≤ y → y ≤ tasksOf text → Before x y a b → faultOf text x y ≡ 0
+  pub two : code ≢ 8 → a < b
+
 pub data ReadingSays (text : List ℕ) (r : Reading) : Type 0 where
   read : r .answer ≡ granted → isAccepted (r .plan) ≡ true → ReadingSays text r
   too-long : r ≡ noPlan 1 0 0 → ReadingSays text r
@@ -33,13 +52,11 @@ pub data ReadingSays (text : List ℕ) (r : Reading) : Type 0 where
       (code line : ℕ) → (code ≡ 3) ⊎ (code ≡ 4) → 2 ≤ line → line ≤ tasksOf text + 1 → r ≡ noPlan code line 0
       → ReadingSays text r
   more-bytes : r ≡ noPlan 5 (tasksOf text + 2) 0 → ReadingSays text r
-  faulty-pair :
-      (code a b : ℕ) → 6 ≤ code → code ≤ 8 → 1 ≤ a → a ≤ b → b ≤ tasksOf text → r ≡ noPlan code a b
-      → ReadingSays text r
+  faulty-pair : (code a b : ℕ) → FirstFaulty text code a b → r ≡ noPlan code a b → ReadingSays text r
 
 pub data OpeningSays (plan : Plan) (r : Opening) : Type 0 where
   opened : isAccepted plan ≡ true → r ≡ record { answer = granted; book = openedOn plan } → OpeningSays plan r
-  refused : isAccepted plan ≡ false → r ≡ record { answer = refuse 9 0 0; book = zeroBook } → OpeningSays plan r
+  refused : isAccepted plan ≡ false → r ≡ record { answer = refuse 9 0 0; book = blankBook zeroPlan } → OpeningSays plan r
 
 pub data ReportSays (book : Book) (task tick : ℕ) (r : Reported) : Type 0 where
   taken : isSound book ≡ true → r .answer ≡ granted → ReportSays book task tick r

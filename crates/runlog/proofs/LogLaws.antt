@@ -1,28 +1,25 @@
 -- The front of a buffer that the whole log was written into.
-use Prim.Native.Nat.{ℕ}
+use Prim.Native.Nat.{ℕ, _≤_}
 use mathlib.Core.Path.{_≡_, _∙_, sym, ap}
-use mathlib.Core.Bool.{true}
 use mathlib.Core.List.{List}
 use native.Mathlib.Omega.{arith}
-use lib.Dec.{leb}
 use lib.ListN.{length, take, drop}
 use lib.Seq.{sets, take-at}
 use borrow.Author.Tests.{le-leb}
-use Rattle.laws.specs.Blank.{sets-front}
-use Rattle.log.specs.Log.{logOf}
-use Rattle.log.specs.Ends.{Ran, logMost}
+use Rattle.laws.proofs.Blank.{sets-front}
+use Rattle.log.specs.Log.{logOf, logMost, logIn}
 
-module _ (plan ends out written : List ℕ) (r : ℕ) (size : length out ≡ 212992) (ran : Ran plan ends out written r) where
-  room : leb logMost (length out) ≡ true
-  room = le-leb logMost (length out) (omega (arith, size))
+module _
+    (plan ends out written : List ℕ) (r : ℕ) (size : length out ≡ 212992) (count : r ≡ length (logIn (length out) plan ends))
+    (bytes : written ≡ sets out 0 (logIn (length out) plan ends)) (small : r ≤ logMost)
+  where
+    all : logIn (length out) plan ends ≡ logOf plan ends
+    all = rw (le-leb logMost (length out) (omega (arith, size)))
 
-  count : r ≡ length (logOf plan ends)
-  count = rw room at (ran .count)
+    count-all : r ≡ length (logOf plan ends)
+    count-all = count ∙ ap length all
 
-  bytes : written ≡ sets out 0 (logOf plan ends)
-  bytes = rw room at (ran .bytes)
-
-  pub ran-front : take r written ≡ logOf plan ends
-  ran-front =
-      ap (take r) (bytes ∙ sets-front (logOf plan ends) out (omega (arith, count, size, ran .small)))
-      ∙ take-at (logOf plan ends) (drop (length (logOf plan ends)) out) r (sym count)
+    pub ran-front : take r written ≡ logOf plan ends
+    ran-front =
+        ap (take r) (bytes ∙ ap (sets out 0) all ∙ sets-front (logOf plan ends) out (omega (arith, count-all, size, small)))
+        ∙ take-at (logOf plan ends) (drop (length (logOf plan ends)) out) r (sym count-all)

@@ -6,9 +6,10 @@ use mathlib.Core.List.{List, _++_}
 use native.Mathlib.Omega.{arith}
 use lib.ListN.{length, drop, replicate}
 use lib.Seq.{sets, sets-eq}
-use Rattle.laws.specs.Cases.{true-false}
+use Rattle.laws.proofs.Cases.{true-false}
 use Rattle.text.specs.declared.Items.{Items}
-use Rattle.text.specs.Items.{holdsOf, holdsText, isHolds, holdsOk, holdsRead, afterOf, afterText, isAfter, afterOk, afterRead, driveOf, itemsOf, someItems}
+use Rattle.text.specs.Items.{holdsOk, holdsRead, afterOk, afterRead, driveOf, itemsOf, someItems}
+use Rattle.text.proofs.ListFields.{holdsOf, holdsText, isHolds, afterOf, afterText, isAfter}
 use Rattle.text.proofs.Rise.{fine-count}
 use Rattle.text.proofs.Lists.{holds-spelt, holds-back, after-spelt, after-back}
 

@@ -3,5 +3,6 @@ pub mod Spell
 pub mod Rise
 pub mod Store
 pub mod Numerals
+pub mod ListFields
 pub mod Lists
 pub mod Answers

@@ -7,12 +7,16 @@ use mathlib.Core.Logic.{⊎-elim}
 use native.Mathlib.Omega.{arith}
 use lib.Dec.{eqb}
 use borrow.Author.Tests.{ne-eqb, eqb-true, eqb-false}
-use Rattle.laws.specs.Cases.{by-bool, and-l, and-r, and-of, or-at, or-l, or-r, true-false}
-use Rattle.laws.specs.Lists.{allOf, all-append, same, same-eq, same-refl}
-use Rattle.laws.specs.Split.{splitOn, joinOn, free, join-split, split-join}
-use Rattle.laws.specs.Digits.{digitsOf, value-digits}
+use Rattle.laws.proofs.Cases.{by-bool, and-l, and-r, and-of, or-at, or-l, or-r, true-false}
+use Rattle.laws.specs.Lists.{allOf, same}
+use Rattle.laws.proofs.Lists.{all-append, same-eq, same-refl}
+use Rattle.laws.specs.Split.{splitOn, joinOn}
+use Rattle.laws.proofs.Split.{free, join-split, split-join}
+use Rattle.laws.specs.Digits.{digitsOf}
+use Rattle.laws.proofs.Digits.{value-digits}
 use Rattle.text.specs.Number.{isNumber, valueOf}
-use Rattle.text.specs.Items.{COMMA, NONE, isList, listOf, listText, isHold, holdOf, holdText, isHolds, holdsOf, holdsText, isAfter, afterOf, afterText, isShared}
+use Rattle.text.specs.Items.{COMMA, NONE, isList, listOf, listText, isHold, holdOf, holdText, isShared}
+use Rattle.text.proofs.ListFields.{isHolds, holdsOf, holdsText, isAfter, afterOf, afterText}
 use Rattle.text.proofs.Parts.{First, first, first-part}
 use Rattle.text.proofs.Numerals.{number-spelt, digits-number, digits-free}
 

@@ -7,10 +7,12 @@ use native.Mathlib.Omega.{arith}
 use lib.ListN.{length}
 use lib.Dec.{eqb, leb}
 use borrow.Author.Tests.{leb-true, le-leb, eqb-false, ne-eqb, not-true}
-use Rattle.laws.specs.Cases.{by-bool, by-le, and-l, and-r, and-of, true-false}
-use Rattle.laws.specs.Lists.{allOf, all-append}
-use Rattle.laws.specs.Split.{free}
-use Rattle.laws.specs.Digits.{digitsOf, valueAfter, digits-small, digits-big, digits-turn, value-digits}
+use Rattle.laws.proofs.Cases.{by-bool, by-le, and-l, and-r, and-of, true-false}
+use Rattle.laws.specs.Lists.{allOf}
+use Rattle.laws.proofs.Lists.{all-append}
+use Rattle.laws.proofs.Split.{free}
+use Rattle.laws.specs.Digits.{digitsOf, valueAfter}
+use Rattle.laws.proofs.Digits.{digits-small, digits-big, digits-turn, value-digits}
 use Rattle.text.specs.declared.Number.the-variants.{Value, Over, Misspelt}
 use Rattle.text.specs.Number.{isDigit, isNumber, valueOf, numberOf}
 use Rattle.text.proofs.Spell.{width-small, width-big}

@@ -9,10 +9,10 @@ use lib.ListN.{length, take, drop, getD, length-drop, drop-of-length-le}
 use lib.Seq.{drop-cons, take-all, length-take-le}
 use lib.Dec.{eqb}
 use borrow.Author.Tests.{eq-eqb, ne-eqb}
-use Rattle.laws.specs.Cases.{by-le}
+use Rattle.laws.proofs.Cases.{by-le}
 use Rattle.laws.specs.Lists.{same}
-use Rattle.laws.specs.Split.{indexOf, before, after, splitOn, consFirst, index-le, split-found, split-none}
-use Rattle.text.specs.Place.{Place}
+use Rattle.laws.specs.Split.{indexOf, before, after, splitOn, consFirst}
+use Rattle.laws.proofs.Split.{index-le, split-found, split-none}
 
 -- ---- a search
 
@@ -29,16 +29,20 @@ module _ (c : ℕ) (s : List ℕ) (i : ℕ) where
   unfolding indexOf
   index-none h = rw (drop-of-length-le s h)
 
-  pub found-here : i < length s → getD s i 0 ≡ c → i + indexOf c (drop i s) ≡ indexOf c s → Place c s i
-  found-here h e p = record { first = omega (arith, index-here h e); within = omega arith }
+  pub found-here : i < length s → getD s i 0 ≡ c → i + indexOf c (drop i s) ≡ indexOf c s → i ≡ indexOf c s
+  found-here h e p = omega (arith, index-here h e)
 
   pub found-next :
       i < length s → (getD s i 0 ≡ c → ⊥) → i + indexOf c (drop i s) ≡ indexOf c s
       → (i + 1 ≤ length s) × (i + 1 + indexOf c (drop (i + 1) s) ≡ indexOf c s)
   found-next h e p = omega (arith, index-next h e)
 
-  pub found-none : length s ≤ i → i ≤ length s → i + indexOf c (drop i s) ≡ indexOf c s → Place c s i
-  found-none h g p = record { first = omega (arith, index-none h); within = g }
+  pub found-none : length s ≤ i → i + indexOf c (drop i s) ≡ indexOf c s → i ≡ indexOf c s
+  found-none h p = omega (arith, index-none h)
+
+-- the place of the first c lies within the text
+pub found-le : (c : ℕ) (s : List ℕ) {r : ℕ} → r ≡ indexOf c s → r ≤ length s
+found-le c s e = rw e (index-le c s)
 
 -- ---- parts
 

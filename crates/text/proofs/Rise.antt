@@ -12,17 +12,18 @@ use lib.Dec.{eqb, leb, ltb}
 use borrow.Author.Tests.{eq-eqb, ne-eqb, leb-true, leb-false, ltb-true, ltb-false, le-leb, lt-leb, lt-ltb, le-ltb, not-true, not-false}
 use types.Run.{OneOf}
 use denote.Enum.Declared
-use Rattle.laws.specs.Cases.{by-bool, and-l, and-r, or-at, or-l, or-r, true-false}
-use Rattle.laws.specs.Lists.{allOf, rising, same}
-use Rattle.laws.specs.Rise.{risesFrom, rises-is}
+use Rattle.laws.proofs.Cases.{by-bool, and-l, and-r, or-at, or-l, or-r, true-false}
+use Rattle.laws.specs.Lists.{allOf, rising, same, risesFrom}
+use Rattle.laws.proofs.Rise.{rises-is}
 use Rattle.laws.specs.Split.{splitOn, before, after}
 use Rattle.laws.specs.Digits.{valueAfter}
 use Rattle.text.specs.declared.Items.{Items}
 use Rattle.text.specs.declared.Number.{Number}
 use Rattle.text.specs.declared.Number.the-variants.{Value, Over, Misspelt}
 use Rattle.text.specs.Number.{isNumber, valueOf, numberOf}
-use Rattle.text.specs.Items.{COMMA, NONE, between, isList, listOf, isHold, holdOf, noItems, itemsOf, holdsOk, holdsRead, isAfter, afterOf, afterOk, afterRead}
-use Rattle.text.specs.Lettered.{isItem, itemOf, digitsIn, itemNumber, keyOf, listOk, itemsRead, listRead}
+use Rattle.text.specs.Items.{COMMA, NONE, between, isList, listOf, isHold, holdOf, noItems, itemsOf, holdsOk, holdsRead, afterOk, afterRead}
+use Rattle.text.proofs.ListFields.{isAfter, afterOf}
+use Rattle.text.specs.private.Lettered.{isItem, itemOf, digitsIn, itemNumber, keyOf, listOk, itemsRead, listRead}
 use Rattle.text.proofs.Number.{the-type}
 use Rattle.text.proofs.Parts.{tail-is, parts-last, parts-more, First, first, first-part}
 

@@ -9,12 +9,14 @@ use lib.ListN.{length, drop, getD, drop-of-length-le, length-append}
 use lib.Seq.{drop-cons}
 use lib.Dec.{eqb, leb, ltb}
 use borrow.Author.Tests.{lt-ltb, eq-eqb, ne-eqb, leb-true, le-leb, lt-leb, not-true, not-false}
-use Rattle.laws.specs.Cases.{and-l, and-r}
-use Rattle.laws.specs.Lists.{allOf, all-turn, all-end}
-use Rattle.laws.specs.Digits.{digitsOf, valueAfter, digits-small, digits-big}
+use Rattle.laws.proofs.Cases.{and-l, and-r}
+use Rattle.laws.specs.Lists.{allOf}
+use Rattle.laws.proofs.Lists.{all-turn, all-end}
+use Rattle.laws.specs.Digits.{digitsOf, valueAfter}
+use Rattle.laws.proofs.Digits.{digits-small, digits-big}
 use Rattle.text.specs.declared.Number.the-variants.{Value, Over, Misspelt}
 use Rattle.text.specs.Number.{isDigit, isNumber, valueOf, numberOf}
-use Rattle.text.specs.Spelling.{startsWell}
+use Rattle.text.specs.private.Spelling.{startsWell}
 
 -- ---- a test of every item, from a place on
 

@@ -9,8 +9,9 @@ use lib.ListN.{length, drop, getD, set, drop-of-length-le}
 use lib.Seq.{drop-cons, sets, set-comm}
 use lib.Dec.{leb}
 use borrow.Author.Tests.{le-leb, lt-leb, leb-true, leb-false, not-true, not-false}
-use Rattle.laws.specs.Cases.{by-le}
-use Rattle.laws.specs.Digits.{digitsOf, digits-small, digits-big}
+use Rattle.laws.proofs.Cases.{by-le}
+use Rattle.laws.specs.Digits.{digitsOf}
+use Rattle.laws.proofs.Digits.{digits-small, digits-big}
 use Rattle.text.specs.Put.{Put}
 use Rattle.text.proofs.Spell.{width-big}
 

@@ -34,9 +34,6 @@ listText text [] = NONE
 listText text (x ∷ l) = joinOn COMMA (map text (x ∷ l))
 
 -- A hold is one number: 2 d for drive d exclusively, 2 d + 1 for drive d shared
-abbrev pub hold : Bool → ℕ → ℕ
-hold shared drive = drive * 2 + cond shared 1 0
-
 abbrev pub driveOf : ℕ → ℕ
 driveOf h = h / 2
 
@@ -50,29 +47,10 @@ isHold (b ∷ s) = (eqb b 101 || eqb b 115) && isNumber s
 
 unfoldable pub holdOf : List ℕ → ℕ
 holdOf [] = 0
-holdOf (b ∷ s) = hold (eqb b 115) (valueOf s)
+holdOf (b ∷ s) = valueOf s * 2 + cond (eqb b 115) 1 0
 
 abbrev pub holdText : ℕ → List ℕ
 holdText h = cond (isShared h) 115 101 ∷ digitsOf (driveOf h)
-
--- the fields holds and after
-abbrev pub isHolds : List ℕ → Bool
-isHolds s = isList isHold s
-
-abbrev pub holdsOf : List ℕ → List ℕ
-holdsOf s = listOf holdOf s
-
-abbrev pub holdsText : List ℕ → List ℕ
-holdsText l = listText holdText l
-
-abbrev pub isAfter : List ℕ → Bool
-isAfter s = isList isNumber s
-
-abbrev pub afterOf : List ℕ → List ℕ
-afterOf s = listOf valueOf s
-
-abbrev pub afterText : List ℕ → List ℕ
-afterText l = listText digitsOf l
 
 -- Drives numbered 1 to 32, drive numbers strictly rising
 unfoldable pub holdsOk : List ℕ → Bool
@@ -93,8 +71,8 @@ abbrev pub itemsOf : Bool → Bool → List ℕ → Items
 itemsOf spelt fine l = cond (not spelt) (noItems 3) (cond (not fine) (noItems 4) (someItems l))
 
 unfoldable pub holdsRead : List ℕ → Items
-holdsRead s = itemsOf (isHolds s) (holdsOk (holdsOf s)) (holdsOf s)
+holdsRead s = itemsOf (isList isHold s) (holdsOk (listOf holdOf s)) (listOf holdOf s)
 
 -- there are never more than 64 tasks to come after
 unfoldable pub afterRead : List ℕ → ℕ → Items
-afterRead s tasks = itemsOf (isAfter s) (afterOk (min tasks 64) (afterOf s)) (afterOf s)
+afterRead s tasks = itemsOf (isList isNumber s) (afterOk (min tasks 64) (listOf valueOf s)) (listOf valueOf s)

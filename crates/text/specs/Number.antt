@@ -29,9 +29,3 @@ most = 1000000
 -- the number reader's answer
 unfoldable pub numberOf : List ℕ → Number
 numberOf s = cond (isNumber s) (cond (leb (valueOf s) most) (Value (valueOf s)) Over) Misspelt
-
--- the refusal number of a line in which the answer stands: misspelt 3, out of range 4
-abbrev pub numberCode : Number → ℕ
-numberCode (Value v) = 0
-numberCode Over = 4
-numberCode Misspelt = 3

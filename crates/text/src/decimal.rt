@@ -5,7 +5,7 @@ ghost use lib.ListN.{length};
 ghost use Rattle.laws.specs.Lists.{allOf};
 ghost use Rattle.laws.specs.Digits.{digitsOf};
 ghost use Rattle.text.specs.Number.{isDigit, isNumber, numberOf};
-ghost use Rattle.text.specs.Spelling.{startsWell};
+ghost use Rattle.text.specs.private.Spelling.{startsWell};
 use crate::Number;
 
 const MOST: u32 = 1000000;

@@ -7,7 +7,7 @@ ghost use Rattle.laws.specs.Lists.{allOf};
 ghost use Rattle.laws.specs.Split.{splitOn};
 ghost use Rattle.text.specs.Number.{valueOf};
 ghost use Rattle.text.specs.Items.{COMMA, noItems, holdsRead, afterRead};
-ghost use Rattle.text.specs.Lettered.{isItem, itemOf, digitsIn, itemNumber, itemsRead, listRead};
+ghost use Rattle.text.specs.private.Lettered.{isItem, itemOf, digitsIn, itemNumber, itemsRead, listRead};
 use crate::Items;
 use crate::Number;
 use crate::decimal::is_number;

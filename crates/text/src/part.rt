@@ -3,9 +3,8 @@ ghost use mathlib.Core.Path.{_≡_};
 ghost use Prim.Native.Nat.{suc};
 ghost use lib.ListN.{length, drop};
 ghost use Rattle.laws.specs.Lists.{same};
-ghost use Rattle.laws.specs.Split.{before, after};
+ghost use Rattle.laws.specs.Split.{indexOf, before, after};
 ghost use Rattle.text.specs.Line.{fields, field};
-ghost use Rattle.text.specs.Place.{Place};
 
 pub const TAB: u8 = 9;
 
@@ -13,7 +12,7 @@ pub const LF: u8 = 10;
 
 // The place of the first c; the length where there is none.
 pub fn find(s: &[u8], c: u8) -> usize
-    ensures { λ r. ⌜ Place c (now (s .entry)) r ⌝ }
+    ensures { λ r. ⌜ r ≡ indexOf c (now (s .entry)) ⌝ }
 {
     let mut i = 0;
     while i < s.len() {

@@ -4,7 +4,7 @@ use mathlib.Core.Logic.{_⊎_, inl, inr}
 use mathlib.Core.Bool.{true}
 use Prim.Native.Nat.{ℕ, _<_}
 use borrow.Author.Tests.{leb-true, le-leb}
-use Rattle.laws.specs.Cases.{by-le}
+use Rattle.laws.proofs.Cases.{by-le}
 use Rattle.theory.specs.Plan.{Lawful, earlyStart}
 
 -- a and b overlap when start a < finish b and start b < finish a

@@ -3,7 +3,7 @@ use mathlib.Core.Path.{_≡_}
 use mathlib.Core.Logic.{_≢_}
 use Prim.Native.Nat.{ℕ, _-_, _≤_, _<_}
 use borrow.Author.Tests.{eq-eqb, eqb-true, ne-eqb}
-use Rattle.laws.specs.Least.{has-least, least-none, least-or-is, least-or-under}
+use Rattle.laws.proofs.Least.{has-least, least-none, least-or-is, least-or-under}
 use Rattle.theory.specs.Plan.{Plan}
 use Rattle.theory.specs.Book.{Book, running}
 use Rattle.theory.specs.Figure.{minimumEarly}

@@ -5,11 +5,13 @@ use mathlib.Core.Bool.{true}
 use mathlib.Core.List.{List}
 use Prim.Native.Nat.{ℕ, zero, suc, _+_, _-_, _≤_, _<_}
 use native.Mathlib.Omega.{arith}
-use Rattle.laws.specs.Cases.{by-eq}
-use Rattle.laws.specs.Latest.{latest-under}
+use Rattle.laws.proofs.Cases.{by-eq}
+use Rattle.laws.proofs.Latest.{latest-under}
 use Rattle.theory.specs.Plan.{Plan, Lawful}
-use Rattle.theory.specs.Book.{Book, Sound}
-use Rattle.theory.specs.Report.{Event, run}
+use Rattle.theory.specs.Book.{Book}
+use Rattle.theory.proofs.Facts.{Sound}
+use Rattle.theory.specs.Events.{Event}
+use Rattle.theory.proofs.Facts.{run}
 use Rattle.theory.specs.Figure.{minimumEarly}
 use Rattle.theory.proofs.Task.{mark-range, waiting-why, ended-within, end-by-clock}
 use Rattle.theory.proofs.Step.{sound-run}

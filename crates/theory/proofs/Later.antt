@@ -5,10 +5,12 @@ use mathlib.Core.List.{List, [], _∷_}
 use Prim.Native.Nat.{ℕ, _≤_, _<_}
 use native.Mathlib.Omega.{arith}
 use borrow.Author.Tests.{eq-eqb, ne-eqb}
-use Rattle.laws.specs.Cases.{by-eq}
+use Rattle.laws.proofs.Cases.{by-eq}
 use Rattle.theory.specs.Plan.{Plan}
 use Rattle.theory.specs.Book.{Book}
-use Rattle.theory.specs.Report.{Accepts, next, dropIt, Event, stepTo, bookAfter, run}
+use Rattle.theory.specs.Report.{next, dropIt}
+use Rattle.theory.specs.Events.{Accepts, Event}
+use Rattle.theory.proofs.Facts.{stepTo, bookAfter, run}
 use Rattle.theory.proofs.Reflect.{Taken, code-taken, Said, said}
 use Rattle.theory.proofs.Step.{AtTask, next-at, next-clock, next-dropped}
 

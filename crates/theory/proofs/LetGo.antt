@@ -4,10 +4,12 @@ use mathlib.Core.Bool.{true, false}
 use Prim.Native.Nat.{ℕ, _≤_, _<_}
 use native.Mathlib.Omega.{arith}
 use borrow.Author.Tests.{eq-eqb}
-use Rattle.laws.specs.Cases.{by-bool, by-eq, true-false, and-of}
-use Rattle.laws.specs.Latest.{latest, latest-same}
+use Rattle.laws.proofs.Cases.{by-bool, by-eq, true-false, and-of}
+use Rattle.laws.specs.Picked.{latest}
+use Rattle.laws.proofs.Latest.{latest-same}
 use Rattle.theory.specs.Plan.{Plan}
-use Rattle.theory.specs.Book.{Book, ended, allEnded, Blocker, TaskOk, Sound}
+use Rattle.theory.specs.Book.{Book, ended, allEnded}
+use Rattle.theory.proofs.Facts.{Blocker, TaskOk, Sound}
 use Rattle.theory.specs.Report.{goes, skips, letGo}
 use Rattle.theory.proofs.Reflect.{blocker}
 use Rattle.theory.proofs.Task.{all-ended-same, ended-same}

@@ -1,3 +1,4 @@
+pub mod Facts
 pub mod Reflect
 pub mod Task
 pub mod Onward

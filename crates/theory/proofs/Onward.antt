@@ -3,10 +3,11 @@ use mathlib.Core.Path.{_≡_, refl, sym, _∙_}
 use mathlib.Core.Logic.{_≢_}
 use mathlib.Core.Bool.{true}
 use Prim.Native.Nat.{ℕ, _≤_, _<_}
-use Rattle.laws.specs.Cases.{by-bool}
-use Rattle.laws.specs.Latest.{latest-is, latest-same}
+use Rattle.laws.proofs.Cases.{by-bool}
+use Rattle.laws.proofs.Latest.{latest-is, latest-same}
 use Rattle.theory.specs.Plan.{Plan}
-use Rattle.theory.specs.Book.{Book, allEnded, due, Blocker, Waiter}
+use Rattle.theory.specs.Book.{Book, allEnded, due}
+use Rattle.theory.proofs.Facts.{Blocker, Waiter}
 use Rattle.theory.proofs.Reflect.{all-ended-at, blocker}
 use Rattle.theory.proofs.Task.{all-ended-more}
 

@@ -4,11 +4,13 @@ use mathlib.Core.Logic.{_⊎_, inl, inr, _≢_, _↔_}
 use mathlib.Core.Bool.{true}
 use Prim.Native.Nat.{ℕ, zero, suc, _≤_, _<_}
 use native.Mathlib.Omega.{arith}
-use Rattle.laws.specs.Cases.{true-false}
-use Rattle.laws.specs.Latest.{latest-over, latest-under}
+use Rattle.laws.proofs.Cases.{true-false}
+use Rattle.laws.proofs.Latest.{latest-over, latest-under}
 use Rattle.theory.specs.Plan.{Plan, Lawful}
-use Rattle.theory.specs.Book.{Book, allEnded, due, Blocker, TaskOk, Sound}
-use Rattle.theory.specs.Report.{Accepts, next}
+use Rattle.theory.specs.Book.{Book, allEnded, due}
+use Rattle.theory.proofs.Facts.{Blocker, TaskOk, Sound}
+use Rattle.theory.specs.Report.{next}
+use Rattle.theory.specs.Events.{Accepts}
 use Rattle.theory.proofs.Reflect.{all-ended-at}
 use Rattle.theory.proofs.Task.{started-all, started-at, ended-within, runs-kept}
 use Rattle.theory.proofs.Step.{sound-next, AtTask, next-at, next-dropped}

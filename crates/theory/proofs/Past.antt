@@ -7,7 +7,9 @@ use native.Mathlib.Omega.{arith}
 use borrow.Author.Tests.{ne-eqb, le-ltb}
 use Rattle.theory.specs.Plan.{Plan}
 use Rattle.theory.specs.Book.{Book}
-use Rattle.theory.specs.Report.{goes, endIt, skipOnce, skipTimes, letGo, next, dropIt, blank, opened, Event, stepTo, bookAfter, run}
+use Rattle.theory.specs.Report.{goes, endIt, skipOnce, skipTimes, letGo, next, dropIt, blank, opened}
+use Rattle.theory.specs.Events.{Event}
+use Rattle.theory.proofs.Facts.{stepTo, bookAfter, run}
 use Rattle.theory.proofs.Reflect.{Taken, code-taken, Said, said}
 
 pub record SamePast (plan : Plan) (book other : Book) : Type 0 where
@@ -36,7 +38,7 @@ past-sym plan book other p = record {
   drops = λ i l. sym (p .drops i l);
 }
 
-past-let-go : (plan : Plan) (book : Book) → SamePast plan (letGo plan book) book
+pub past-let-go : (plan : Plan) (book : Book) → SamePast plan (letGo plan book) book
 unfolding goes
 past-let-go plan book = record {
   marks = λ i l. rw (le-ltb i (plan .tasks) l);
@@ -45,7 +47,7 @@ past-let-go plan book = record {
   drops = λ i l. refl;
 }
 
-past-skip : (plan : Plan) (book : Book) → SamePast plan (skipOnce plan book) book
+pub past-skip : (plan : Plan) (book : Book) → SamePast plan (skipOnce plan book) book
 unfolding goes
 past-skip plan book = record {
   marks = λ i l. rw (le-ltb i (plan .tasks) l);
@@ -54,13 +56,13 @@ past-skip plan book = record {
   drops = λ i l. refl;
 }
 
-past-skips : (n : ℕ) (plan : Plan) (book : Book) → SamePast plan (skipTimes n plan book) book
+pub past-skips : (n : ℕ) (plan : Plan) (book : Book) → SamePast plan (skipTimes n plan book) book
 unfolding skipTimes
 past-skips zero plan book = past-refl plan book
 past-skips (suc n) plan book =
     past-trans plan _ (skipOnce plan book) book (past-skips n plan (skipOnce plan book)) (past-skip plan book)
 
-past-end-it : (plan : Plan) (book : Book) (k tick : ℕ) → k < plan .tasks → SamePast plan (endIt book k tick) book
+pub past-end-it : (plan : Plan) (book : Book) (k tick : ℕ) → k < plan .tasks → SamePast plan (endIt book k tick) book
 past-end-it plan book k tick lk = record {
   marks = λ i l. let n : i ≢ k = omega arith in rw (ne-eqb i k n);
   starts = λ i l. refl;

@@ -5,13 +5,17 @@ use mathlib.Core.Bool.{Bool, not}
 use Prim.Native.Nat.{ℕ, zero, suc, _≤_, _<_}
 use native.Mathlib.Omega.{arith}
 use borrow.Author.Tests.{eqb-true, eqb-false, eq-eqb, ne-eqb, not-true}
-use Rattle.laws.specs.Cases.{by-bool, by-eq}
-use Rattle.laws.specs.Every.{every, every-at, every-fails}
-use Rattle.laws.specs.Least.{has-least}
-use Rattle.laws.specs.Count.{count, count-lt}
+use Rattle.laws.proofs.Cases.{by-bool, by-eq}
+use Rattle.laws.specs.Every.{every}
+use Rattle.laws.proofs.Every.{every-at, every-fails}
+use Rattle.laws.proofs.Least.{has-least}
+use Rattle.laws.specs.Picked.{count}
+use Rattle.laws.proofs.Count.{count-lt}
 use Rattle.theory.specs.Plan.{Plan, Lawful}
-use Rattle.theory.specs.Book.{Book, running, ended, limit, Sound}
-use Rattle.theory.specs.Report.{reportCode, next, Event}
+use Rattle.theory.specs.Book.{Book, running, ended, limit}
+use Rattle.theory.proofs.Facts.{Sound}
+use Rattle.theory.specs.Report.{reportCode, next}
+use Rattle.theory.specs.Events.{Event}
 use Rattle.theory.proofs.Reflect.{code-accepts, accepts-code}
 use Rattle.theory.proofs.Task.{mark-range, waiting-why, runs-on}
 use Rattle.theory.proofs.Step.{sound-next}

@@ -6,13 +6,18 @@ use mathlib.Core.List.{List, []}
 use Prim.Native.Nat.{ℕ, zero, suc, _≤_, _<_}
 use native.Mathlib.Omega.{arith}
 use borrow.Author.Tests.{eqb-true, eqb-false, eq-eqb, ne-eqb, not-true}
-use Rattle.laws.specs.Cases.{by-bool, by-eq, true-false, and-l, and-r, and-of}
-use Rattle.laws.specs.Every.{any, any-of, any-at}
-use Rattle.laws.specs.Least.{has-least}
-use Rattle.laws.specs.Count.{count, count-lt}
+use Rattle.laws.proofs.Cases.{by-bool, by-eq, true-false, and-l, and-r, and-of}
+use Rattle.laws.specs.Every.{any}
+use Rattle.laws.proofs.Every.{any-of, any-at}
+use Rattle.laws.proofs.Least.{has-least}
+use Rattle.laws.specs.Picked.{count}
+use Rattle.laws.proofs.Count.{count-lt}
 use Rattle.theory.specs.Plan.{Plan, Lawful}
-use Rattle.theory.specs.Book.{Book, isDropped, Waiter, Blocker, TaskOk, Sound}
-use Rattle.theory.specs.Report.{AcceptsDrop, next, dropIt, blank, letGo, opened, Event, run}
+use Rattle.theory.specs.Book.{Book, isDropped}
+use Rattle.theory.proofs.Facts.{Waiter, Blocker, TaskOk, Sound}
+use Rattle.theory.specs.Report.{next, dropIt, blank, letGo, opened}
+use Rattle.theory.specs.Events.{AcceptsDrop, Event}
+use Rattle.theory.proofs.Facts.{run}
 use Rattle.theory.proofs.Reflect.{all-ended-at, accepts-code, accepts-drop-code}
 use Rattle.theory.proofs.Task.{drop-range}
 use Rattle.theory.proofs.LetGo.{LetGoAt, let-go-at}

@@ -6,12 +6,16 @@ use Prim.Native.Nat.{ℕ, _≤_, _<_}
 use native.Mathlib.Omega.{arith}
 use lib.Dec.{leb, ltb, eqb, lit<}
 use borrow.Author.Tests.{eqb-true, eqb-false, leb-true, leb-false, ltb-true, ltb-false, eq-eqb, ne-eqb, le-leb, lt-leb, lt-ltb, le-ltb, not-true, not-false}
-use Rattle.laws.specs.Cases.{by-bool, by-eq, and-l, and-r, and-of, implies, implies-at, implies-of, implies-fails, guard-passed, or-no}
-use Rattle.laws.specs.Every.{every, every-at, every-of, every-fails, any-at, any-of}
+use Rattle.laws.proofs.Cases.{by-bool, by-eq, and-l, and-r, and-of, implies-at, implies-of, implies-fails, guard-passed, or-no}
+use Rattle.laws.specs.Every.{implies, every, any}
+use Rattle.laws.proofs.Every.{every-at, every-of, every-fails, any-at, any-of}
 use Rattle.theory.specs.Plan.{Plan}
-use Rattle.theory.specs.Book.{Book, ended, running, waiting, isDropped, waitsAtAll, limit, allEnded, due, lastEnd, Blocker, Waiter, TaskOk, Sound}
+use Rattle.theory.specs.Book.{Book, ended, running, waiting, isDropped, limit, allEnded, due, lastEnd}
+use Rattle.theory.proofs.Facts.{Blocker, Waiter, TaskOk, Sound}
 use Rattle.theory.specs.Book.{taskTest, soundTest, waitingOk, runningOk, endedOk, skippedOk}
-use Rattle.theory.specs.Report.{nonePast, reportCode, Accepts, dropCode, AcceptsDrop, Event, eventCode, stepTo, bookAfter}
+use Rattle.theory.specs.Report.{nonePast, reportCode, dropCode}
+use Rattle.theory.specs.Events.{Accepts, AcceptsDrop, Event}
+use Rattle.theory.proofs.Facts.{eventCode, stepTo, bookAfter}
 
 module _ (plan : Plan) (mark : ℕ → ℕ) (i : ℕ) where
   pub all-ended-at : allEnded plan mark i ≡ true → (j : ℕ) → j < plan .tasks → plan .waits i j ≡ true → mark j ≡ 2
@@ -39,10 +43,10 @@ module _ (plan : Plan) (mark : ℕ → ℕ) (i : ℕ) where
 
 -- it waits for somebody
 module _ (plan : Plan) (i : ℕ) where
-  waiter : waitsAtAll plan i ≡ true → Waiter plan i
+  waiter : any (plan .tasks) (plan .waits i) ≡ true → Waiter plan i
   waiter h = let r = any-at (plan .tasks) (plan .waits i) h in record { who = r .0; task = r .1; held = r .2 }
 
-  waits-of : Waiter plan i → waitsAtAll plan i ≡ true
+  waits-of : Waiter plan i → any (plan .tasks) (plan .waits i) ≡ true
   waits-of w = any-of (plan .tasks) (plan .waits i) (w .who) (w .task) (w .held)
 
 -- Sound, as facts and as a test
@@ -125,7 +129,7 @@ module _ (plan : Plan) (book : Book) where
       (i : ℕ) → book .mark i ≡ 2 → book .dropped i ≡ 1 → skippedOk plan book i ≡ true
       → TaskOk (Blocker plan (book .mark)) plan book i
   skipped-at i m d h =
-      let p = and-r (waitsAtAll plan i) _ h in
+      let p = and-r (any (plan .tasks) (plan .waits i)) _ h in
       let q = and-r (allEnded plan (book .mark) i) _ p in
       let r = and-r (eqb (book .start i) (due plan (book .end) i)) _ q in
       TaskOk.was-skipped m d (waiter plan i (and-l _ _ h)) (and-l _ _ p) (eqb-true _ _ (and-l _ _ q))

@@ -5,7 +5,8 @@ use mathlib.Core.List.{List, [], _∷_, List·Memᴰ, List·Memᴰ·not-nil}
 use borrow.Author.Tests.{eq-eqb, ne-eqb}
 use Rattle.theory.specs.Plan.{Plan}
 use Rattle.theory.specs.Book.{Book}
-use Rattle.theory.specs.Report.{Event, eventCode, stepTo, run, accepted}
+use Rattle.theory.specs.Events.{Event}
+use Rattle.theory.proofs.Facts.{eventCode, stepTo, run, accepted}
 use Rattle.theory.proofs.Reflect.{after-taken, after-refused}
 
 pub run-none : (plan : Plan) (book : Book) → run plan book [] ≡ book

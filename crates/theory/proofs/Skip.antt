@@ -6,12 +6,15 @@ use Prim.Native.Nat.{ℕ, zero, suc, _≤_, _<_}
 use native.Mathlib.Omega.{arith}
 use lib.Dec.{ltb}
 use borrow.Author.Tests.{eqb-true, eq-eqb, ne-eqb, lt-ltb, ltb-true}
-use Rattle.laws.specs.Cases.{by-bool, true-false, and-l, and-r, and-of}
-use Rattle.laws.specs.Every.{any, any-at, any-of}
-use Rattle.laws.specs.Count.{count, count-lt, count-all, count-some}
-use Rattle.laws.specs.Latest.{latest, latest-more}
+use Rattle.laws.proofs.Cases.{by-bool, true-false, and-l, and-r, and-of}
+use Rattle.laws.specs.Every.{any}
+use Rattle.laws.proofs.Every.{any-at, any-of}
+use Rattle.laws.specs.Picked.{count, latest}
+use Rattle.laws.proofs.Count.{count-lt, count-all, count-some}
+use Rattle.laws.proofs.Latest.{latest-more}
 use Rattle.theory.specs.Plan.{Plan}
-use Rattle.theory.specs.Book.{Book, ended, waiting, isDropped, allEnded, lastEnd, TaskOk}
+use Rattle.theory.specs.Book.{Book, ended, waiting, isDropped, allEnded, lastEnd}
+use Rattle.theory.proofs.Facts.{TaskOk}
 use Rattle.theory.specs.Report.{goes, skips, skipOnce, skipTimes}
 use Rattle.theory.proofs.Task.{end-by-clock, all-ended-more}
 use Rattle.theory.proofs.Onward.{FreeNow, Onward, onward-all, onward-due, onward-free}

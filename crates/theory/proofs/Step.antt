@@ -7,12 +7,16 @@ use mathlib.Core.List.{List, [], _∷_}
 use Prim.Native.Nat.{ℕ, _≤_, _<_}
 use native.Mathlib.Omega.{arith}
 use borrow.Author.Tests.{eq-eqb, ne-eqb}
-use Rattle.laws.specs.Cases.{by-eq, and-no}
-use Rattle.laws.specs.Latest.{latest, latest-is, latest-none}
+use Rattle.laws.proofs.Cases.{by-eq, and-no}
+use Rattle.laws.specs.Picked.{latest}
+use Rattle.laws.proofs.Latest.{latest-is, latest-none}
 use Rattle.theory.specs.Plan.{Plan}
-use Rattle.theory.specs.Book.{Book, ended, limit, allEnded, Blocker, Waiter, TaskOk, Sound}
-use Rattle.theory.specs.Report.{Accepts, AcceptsDrop, goes, endIt, skipTimes, letGo, next, dropIt, blank, opened}
-use Rattle.theory.specs.Report.{Event, stepTo, bookAfter, run}
+use Rattle.theory.specs.Book.{Book, ended, limit, allEnded}
+use Rattle.theory.proofs.Facts.{Blocker, Waiter, TaskOk, Sound}
+use Rattle.theory.specs.Report.{goes, endIt, skipTimes, letGo, next, dropIt, blank, opened}
+use Rattle.theory.specs.Events.{Accepts, AcceptsDrop}
+use Rattle.theory.specs.Events.{Event}
+use Rattle.theory.proofs.Facts.{stepTo, bookAfter, run}
 use Rattle.theory.proofs.Reflect.{Taken, code-taken, Said, said}
 use Rattle.theory.proofs.Task.{end-by-clock, waiting-why, no-start, no-end}
 use Rattle.theory.proofs.Onward.{FreeNow, Onward, onward-all, onward-due, onward-since}

@@ -5,9 +5,10 @@ use mathlib.Core.Bool.{true}
 use Prim.Native.Nat.{ℕ, _≤_, _<_}
 use native.Mathlib.Omega.{arith}
 use borrow.Author.Tests.{eqb-true, eq-eqb}
-use Rattle.laws.specs.Cases.{same-test}
+use Rattle.laws.proofs.Cases.{same-test}
 use Rattle.theory.specs.Plan.{Plan}
-use Rattle.theory.specs.Book.{Book, ended, limit, allEnded, due, Blocker, TaskOk}
+use Rattle.theory.specs.Book.{Book, ended, limit, allEnded, due}
+use Rattle.theory.proofs.Facts.{Blocker, TaskOk}
 use Rattle.theory.proofs.Reflect.{all-ended-at, all-ended-of}
 
 module _ {Waits : ℕ → Type 0} {plan : Plan} {book : Book} {i : ℕ} where

@@ -1,13 +1,10 @@
 -- A book: who waits, runs or has ended, since when and at what tick; and when it is sound.
-use mathlib.Core.Path.{_≡_}
-use mathlib.Core.Logic.{_≢_}
-use mathlib.Core.Bool.{Bool, true, not, cond, _&&_}
-use Prim.Native.Nat.{ℕ, _+_, _≤_, _<_}
+use mathlib.Core.Bool.{Bool, not, cond, _&&_}
+use Prim.Native.Nat.{ℕ, _+_, _-_}
 use lib.Dec.{leb, ltb, eqb}
-use Rattle.laws.specs.Cases.{implies}
-use Rattle.laws.specs.Every.{every, any}
-use Rattle.laws.specs.Latest.{latest}
-use Rattle.theory.specs.Plan.{Plan, taskLength}
+use Rattle.laws.specs.Every.{implies, every, any}
+use Rattle.laws.specs.Picked.{latest}
+use Rattle.theory.specs.Plan.{Plan}
 
 -- mark: 0 waiting, 1 running, 2 ended; dropped: 1 for a dropped task, 0 for any other
 pub record Book : Type 0 where
@@ -16,6 +13,10 @@ pub record Book : Type 0 where
   pub end : ℕ → ℕ
   pub dropped : ℕ → ℕ
   pub clock : ℕ
+
+-- the book of these parts
+abbrev pub bookOf : (ℕ → ℕ) → (ℕ → ℕ) → (ℕ → ℕ) → (ℕ → ℕ) → ℕ → Book
+bookOf mark start end dropped clock = record { mark = mark; start = start; end = end; dropped = dropped; clock = clock }
 
 abbrev pub waiting : (ℕ → ℕ) → ℕ → Bool
 waiting mark i = eqb (mark i) 0
@@ -29,13 +30,9 @@ ended mark i = eqb (mark i) 2
 abbrev pub isDropped : (ℕ → ℕ) → ℕ → Bool
 isDropped dropped i = eqb (dropped i) 1
 
--- it waits for somebody
-abbrev pub waitsAtAll : Plan → ℕ → Bool
-waitsAtAll plan i = any (plan .tasks) (plan .waits i)
-
--- its limit is its start + length
+-- its limit is its start + length; the length of a task is planned finish − planned start
 abbrev pub limit : Plan → Book → ℕ → ℕ
-limit plan book i = book .start i + taskLength plan i
+limit plan book i = book .start i + (plan .finish i - plan .begin i)
 
 -- all it waits for have ended
 unfoldable pub allEnded : Plan → (ℕ → ℕ) → ℕ → Bool
@@ -53,29 +50,25 @@ lastEnd plan book = latest (plan .tasks) (ended (book .mark)) (book .end)
 abbrev pub waitingOk : Plan → Book → ℕ → Bool
 waitingOk plan book i = not (allEnded plan (book .mark) i) && (eqb (book .start i) 0 && eqb (book .end i) 0)
 
+-- whose start is known: all it waits for have ended, its start is the latest of their ends, and more
+abbrev pub startedOk : Plan → Book → ℕ → Bool → Bool
+startedOk plan book i more = allEnded plan (book .mark) i && (eqb (book .start i) (due plan (book .end) i) && more)
+
 abbrev pub runningOk : Plan → Book → ℕ → Bool
 runningOk plan book i =
-    eqb (book .dropped i) 0
-    && (allEnded plan (book .mark) i
-    && (eqb (book .start i) (due plan (book .end) i)
-    && (eqb (book .end i) 0 && leb (book .clock) (limit plan book i))))
+    eqb (book .dropped i) 0 && startedOk plan book i (eqb (book .end i) 0 && leb (book .clock) (limit plan book i))
 
 abbrev pub endedOk : Plan → Book → ℕ → Bool
 endedOk plan book i =
     eqb (book .dropped i) 0
-    && (allEnded plan (book .mark) i
-    && (eqb (book .start i) (due plan (book .end) i)
-    && (ltb (book .start i) (book .end i)
-    && (leb (book .end i) (limit plan book i) && leb (book .end i) (book .clock)))))
+    && startedOk plan book i
+    (ltb (book .start i) (book .end i) && (leb (book .end i) (limit plan book i) && leb (book .end i) (book .clock)))
 
--- a dropped task is one that waits for somebody, its limit is its start, and once its start is known it has ended, its end
--- being its start
+-- a dropped task is one that waits for somebody, and once its start is known it has ended, its end being its start
 abbrev pub skippedOk : Plan → Book → ℕ → Bool
 skippedOk plan book i =
-    waitsAtAll plan i
-    && (allEnded plan (book .mark) i
-    && (eqb (book .start i) (due plan (book .end) i)
-    && (eqb (book .end i) (book .start i) && leb (book .end i) (book .clock))))
+    any (plan .tasks) (plan .waits i)
+    && startedOk plan book i (eqb (book .end i) (book .start i) && leb (book .end i) (book .clock))
 
 -- a task has a mark of the three, and is dropped or not
 unfoldable pub taskTest : Plan → Book → ℕ → Bool
@@ -88,37 +81,3 @@ taskTest plan book i =
 -- A book is sound when each task is and the clock is the greatest end, or 0
 unfoldable pub soundTest : Plan → Book → Bool
 soundTest plan book = every (plan .tasks) (taskTest plan book) && eqb (book .clock) (lastEnd plan book)
-
--- The same as facts: one it waits for that has not ended
-pub record Blocker (plan : Plan) (mark : ℕ → ℕ) (i : ℕ) : Type 0 where
-  pub who : ℕ
-  pub task : who < plan .tasks
-  pub held : plan .waits i who ≡ true
-  pub still : mark who ≢ 2
-
--- one that it waits for
-pub record Waiter (plan : Plan) (i : ℕ) : Type 0 where
-  pub who : ℕ
-  pub task : who < plan .tasks
-  pub held : plan .waits i who ≡ true
-
--- a task's state, over what it asks of a waiting task
-pub data TaskOk (Waits : ℕ → Type 0) (plan : Plan) (book : Book) (i : ℕ) : Type 0 where
-  is-waiting :
-      book .mark i ≡ 0 → book .dropped i ≤ 1 → Waits i → book .start i ≡ 0 → book .end i ≡ 0 → TaskOk Waits plan book i
-  is-running :
-      book .mark i ≡ 1 → book .dropped i ≡ 0 → allEnded plan (book .mark) i ≡ true
-      → book .start i ≡ due plan (book .end) i → book .end i ≡ 0 → book .clock ≤ limit plan book i
-      → TaskOk Waits plan book i
-  has-ended :
-      book .mark i ≡ 2 → book .dropped i ≡ 0 → allEnded plan (book .mark) i ≡ true
-      → book .start i ≡ due plan (book .end) i → book .start i < book .end i → book .end i ≤ limit plan book i
-      → book .end i ≤ book .clock → TaskOk Waits plan book i
-  was-skipped :
-      book .mark i ≡ 2 → book .dropped i ≡ 1 → Waiter plan i → allEnded plan (book .mark) i ≡ true
-      → book .start i ≡ due plan (book .end) i → book .end i ≡ book .start i → book .end i ≤ book .clock
-      → TaskOk Waits plan book i
-
-pub record Sound (plan : Plan) (book : Book) : Type 0 where
-  pub task : (i : ℕ) → i < plan .tasks → TaskOk (Blocker plan (book .mark)) plan book i
-  pub clock-is : book .clock ≡ lastEnd plan book

@@ -1,7 +1,7 @@
 -- Minimum early, M.
 use mathlib.Core.Option.{Option·getD}
 use Prim.Native.Nat.{ℕ, _-_}
-use Rattle.laws.specs.Least.{least}
+use Rattle.laws.specs.Picked.{least}
 use Rattle.theory.specs.Plan.{Plan}
 use Rattle.theory.specs.Book.{Book, running}
 

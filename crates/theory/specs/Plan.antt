@@ -1,7 +1,7 @@
 -- A plan of planned times with any relation of who waits for whom. Tasks are 0 .. tasks - 1.
 use mathlib.Core.Path.{_≡_}
 use mathlib.Core.Bool.{Bool, true}
-use Prim.Native.Nat.{ℕ, _-_, _≤_, _<_}
+use Prim.Native.Nat.{ℕ, _≤_, _<_}
 use lib.Dec.{leb}
 
 pub record Plan : Type 0 where
@@ -17,13 +17,4 @@ pub record Lawful (plan : Plan) : Type 0 where
 
 -- Early Start: task i waits for each task j with planned finish j ≤ planned start i, on any board
 abbrev pub earlyStart : ℕ → (ℕ → ℕ) → (ℕ → ℕ) → Plan
-earlyStart tasks begin finish = record {
-  tasks = tasks;
-  begin = begin;
-  finish = finish;
-  waits = λ i j. leb (finish j) (begin i);
-}
-
--- The length of a task is planned finish − planned start
-abbrev pub taskLength : Plan → ℕ → ℕ
-taskLength plan i = plan .finish i - plan .begin i
+earlyStart tasks begin finish = record { tasks = tasks; begin = begin; finish = finish; waits = λ i j. leb (finish j) (begin i) }

@@ -6,9 +6,9 @@ use native.Mathlib.Omega.{arith}
 use lib.ListN.{length, length-append}
 use lib.Seq.{sets, length-sets}
 use borrow.Author.Tests.{le-leb}
-use Rattle.laws.specs.Sets.{sets-append}
+use Rattle.laws.proofs.Sets.{sets-append}
 use Rattle.text.specs.Put.{Put}
-use Rattle.writer.specs.WriteParts.{Room, Wrote}
+use Rattle.writer.specs.private.WriteParts.{Room, Wrote}
 
 -- ---- a run of writes
 

@@ -9,18 +9,19 @@ use lib.ListN.{length, getD, take, drop, drop-of-length-le, length-append, lengt
 use lib.Seq.{length-sets, drop-cons}
 use lib.Dec.{leb}
 use borrow.Author.Tests.{leb-true, le-ltb, lt-ltb, not-true, not-false}
-use Rattle.laws.specs.Cases.{by-eq, and-l, and-r}
+use Rattle.laws.proofs.Cases.{by-eq, and-l, and-r}
 use Rattle.laws.specs.Digits.{digitsOf}
 use Rattle.laws.specs.Every.{every}
 use Rattle.laws.specs.Split.{indexOf, joinOn}
-use Rattle.text.specs.Items.{COMMA, NONE, between, isShared, listText, holdsText, afterText}
+use Rattle.text.specs.Items.{COMMA, NONE, between, isShared, listText}
+use Rattle.text.proofs.ListFields.{holdsText, afterText}
 use Rattle.text.specs.Line.{TAB, LF}
 use Rattle.plan.specs.Answer.{isGranted}
 use Rattle.plan.specs.Task.{Task}
 use Rattle.plan.specs.Pairs.{firstFault}
 use Rattle.plan.specs.Value.{row, items, taskAt, keptOk, pastBlank, rangesOk, isAccepted}
 use Rattle.plan.specs.Write.{sizesText, taskText, taskTexts, textOf, writeAnswer, writtenOf, bufferAfter}
-use Rattle.writer.specs.WriteParts.{itemText, numberField, listField, numbersText, Measured, Room, Wrote, answered}
+use Rattle.writer.specs.private.WriteParts.{itemText, numberField, listField, numbersText, Measured, Room, Wrote, answered}
 use Rattle.plan.specs.declared.Plan.{Plan}
 use Rattle.plan.specs.declared.Written.{Written}
 use Rattle.writer.proofs.RunLaws.{Left, joined, two, all-left, next-room, turn, parted, done}

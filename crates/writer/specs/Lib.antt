@@ -1,1 +1,1 @@
-pub mod WriteParts
+pub mod private

@@ -1,8 +1,8 @@
 // Writing a plan text. Its length comes first, so that a buffer that is too short is left as it is.
+use judge::ranges::is_accepted;
 use plan::Answer;
 use plan::Plan;
 use plan::Written;
-use plan::ranges::is_accepted;
 use text::decimal::width;
 use text::part::LF;
 use text::part::TAB;
@@ -17,9 +17,10 @@ ghost use Prim.Native.Nat.{_+_, _*_, _<_, _≤_};
 ghost use lib.ListN.{length, take, drop};
 ghost use Rattle.laws.specs.Digits.{digitsOf};
 ghost use Rattle.text.specs.Items.{COMMA, isShared, listText};
-ghost use Rattle.plan.specs.Value.{items, tasksIn};
+ghost use Rattle.plan.specs.Value.{items};
+ghost use Rattle.judge.specs.private.Arrays.{tasksIn};
 ghost use Rattle.plan.specs.Write.{sizesText, taskText, taskTexts, writtenOf, bufferAfter};
-ghost use Rattle.writer.specs.WriteParts.{itemText, numberField, listField, numbersText, Measured, Room, Wrote, answered};
+ghost use Rattle.writer.specs.private.WriteParts.{itemText, numberField, listField, numbersText, Measured, Room, Wrote, answered};
 
 const COMMA: u8 = b',';
 

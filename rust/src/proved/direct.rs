@@ -95,7 +95,8 @@ fn address_of(function: Function) -> *const () {
 unsafe extern "C" fn nothing() {}
 
 unsafe extern "C" fn known_frame() {
-    std::hint::black_box([1u8; 20_000]);
+    // lent, since an array by value would stand there twice in a debug build
+    std::hint::black_box(&mut [1u8; 20_000]);
 }
 
 /// Calls the function with one value in memory and three registers, on a stack of our own.

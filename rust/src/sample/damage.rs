@@ -125,13 +125,14 @@ fn make_waiting(book: &mut Book, i: usize) {
 fn mutate_plan_of(rng: &mut Rng, book: &mut Book) {
     let mut plan = book.plan();
     mutate_plan_once(rng, &mut plan);
-    book.boards = plan.boards;
-    book.tasks = plan.tasks;
-    book.board = plan.board;
-    book.begin = plan.begin;
-    book.finish = plan.finish;
-    book.holds = plan.holds;
-    book.after = plan.after;
+    *book = Book {
+        clock: book.clock,
+        start: book.start,
+        end: book.end,
+        mark: book.mark,
+        dropped: book.dropped,
+        ..Book::on(&plan)
+    };
 }
 
 /// Mostly a task's index, sometimes one past the last task.

@@ -29,7 +29,7 @@ pub fn wild_plan(rng: &mut Rng) -> Plan {
 pub fn wild_book(rng: &mut Rng, sound: &Book) -> Book {
     if rng.chance(20) {
         let plan = wild_plan(rng);
-        return with_wild_morning(rng, &on_plan(&plan));
+        return with_wild_morning(rng, &Book::on(&plan));
     }
     with_wild_morning(rng, sound)
 }
@@ -118,19 +118,6 @@ fn put_past_the_last_task(rng: &mut Rng, plan: &mut Plan) {
         3 => plan.finish[i] = 1,
         4 => plan.holds[HOLD_PLACES * i + rng.index(HOLD_PLACES)] = 2,
         _ => plan.after[AFTER_PLACES * i + rng.index(AFTER_PLACES)] = 1,
-    }
-}
-
-fn on_plan(plan: &Plan) -> Book {
-    Book {
-        boards: plan.boards,
-        tasks: plan.tasks,
-        board: plan.board,
-        begin: plan.begin,
-        finish: plan.finish,
-        holds: plan.holds,
-        after: plan.after,
-        ..Book::ZERO
     }
 }
 

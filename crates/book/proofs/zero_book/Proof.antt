@@ -1,4 +1,5 @@
-use Rattle.book.specs.Open.{blankBook}
+use Rattle.book.specs.View.{layOut}
+use Rattle.view.specs.View.{laid}
 use Rattle.plan.specs.Value.{planOf}
 use Rattle.laws.specs.Each.{each, rows}
 use mathlib.Core.Path.{refl}
@@ -6,7 +7,7 @@ use Rattle.book.proofs.zero_book.Statement.{statement}
 use Rattle.book.proofs.zero_book.Tie as tie
 
 returns : tie.Need-returns
-unfolding blankBook planOf each rows
+unfolding layOut laid planOf each rows
 returns c = refl
 
 pub zero-book-spec : {M : Type 1} → statement M

@@ -1,7 +1,8 @@
 -- `log::run_log` meets its contract: each return by the tests that led there.
-use borrow.Author.Needs.{needs}
+use Prim.{tt}
 use native.Mathlib.Omega.{arith}
-use Rattle.log.proofs.LogLaws.{ran-short, ran-refused, ran-long, opened-few, ends-fit, ran-ends}
+use Rattle.log.proofs.LogLaws.{ran-short, ran-refused, ran-long, opened-few, opening-sound, ends-fit, ran-ends}
+use borrow.Author.Needs.{needs}
 use Rattle.log.proofs.run_log.Statement.{statement}
 use Rattle.log.proofs.run_log.Tie as tie
 
@@ -9,43 +10,43 @@ returns : tie.Need-returns
 returns c = ran-short (c .before .before .before .before .args .plan .now) (c .before .before .before .before .args .ends .now) (c .before .before .before .before .args .out .now) (c .if1 .taken)
 
 read-plan-requires : tie.Need-read-plan-requires
-read-plan-requires c κs = search needs
+read-plan-requires c κs = tt
 
 put-refused-requires : tie.Need-put-refused-requires
-put-refused-requires c κs = search needs
-
-same-length : tie.Need-same-length
-same-length c = search needs
+put-refused-requires c κs = tt
 
 returns-2 : tie.Need-returns-2
 returns-2 c = ran-refused (c .before .before .before .before .before .before .before .before .before .before .before .before .args .plan .now) (c .before .before .before .before .before .before .before .before .before .before .before .before .args .ends .now) (c .before .before .before .before .before .before .before .before .before .before .before .before .args .out .now) (c .before .before .before .before .before .before .before .before .if1 .left) (c .before .before .before .before .before .before .before .read-plan .ensures) (c .before .before .before .before .if2 .taken) (c .before .before .put-refused .ensures)
 
-refuse-requires : tie.Need-refuse-requires
-refuse-requires c κs = search needs
+same-length : tie.Need-same-length
+same-length c = search needs
 
 put-refused-requires-2 : tie.Need-put-refused-requires-2
-put-refused-requires-2 c κs = search needs
+put-refused-requires-2 c κs = tt
+
+returns-3 : tie.Need-returns-3
+returns-3 c = ran-long (c .before .before .before .before .before .before .before .before .before .before .before .before .before .args .plan .now) (c .before .before .before .before .before .before .before .before .before .before .before .before .before .args .ends .now) (c .before .before .before .before .before .before .before .before .before .before .before .before .before .args .out .now) (c .before .before .before .before .before .before .before .before .before .if1 .left) (c .before .before .before .before .before .before .before .before .read-plan .ensures) (c .before .before .before .before .before .if2 .left) (c .before .before .before .before .if3 .taken) (c .before .before .put-refused2 .ensures)
 
 same-length-2 : tie.Need-same-length-2
 same-length-2 c = search needs
 
-returns-3 : tie.Need-returns-3
-returns-3 c = ran-long (c .before .before .before .before .before .before .before .before .before .before .before .before .before .before .args .plan .now) (c .before .before .before .before .before .before .before .before .before .before .before .before .before .before .args .ends .now) (c .before .before .before .before .before .before .before .before .before .before .before .before .before .before .args .out .now) (c .before .before .before .before .before .before .before .before .before .before .if1 .left) (c .before .before .before .before .before .before .before .before .before .read-plan .ensures) (c .before .before .before .before .before .before .if2 .left) (c .before .before .before .before .before .if3 .taken) (c .before .before .before .refuse .ensures) (c .before .before .put-refused2 .ensures)
-
 open-book-requires : tie.Need-open-book-requires
-open-book-requires c κs = search needs
+open-book-requires c κs = tt
+
+show-requires : tie.Need-show-requires
+show-requires c κs = opening-sound (c .before .before .before .before .before .before .before .before .before .before .args .plan .now) (c .before .before .before .before .before .before .before .before .before .before .args .ends .now) (c .before .before .before .before .before .before .before .before .before .before .args .out .now) (c .before .before .before .before .before .before .if1 .left) (c .before .before .before .before .before .read-plan .ensures) (c .before .before .if2 .left) (c .open-book .ensures)
 
 put-opened-requires : tie.Need-put-opened-requires
-put-opened-requires c κs = (opened-few (c .before .before .before .before .before .before .before .before .before .before .before .before .args .plan .now) (c .before .before .before .before .before .before .before .before .before .before .before .before .args .ends .now) (c .before .before .before .before .before .before .before .before .before .before .before .before .args .out .now) (c .before .before .before .before .before .before .before .before .if1 .left) (c .before .before .before .before .before .before .before .read-plan .ensures) (c .before .before .before .before .if2 .left) (c .before .before .before .if3 .left) (c .before .before .open-book .ensures), omega arith)
+put-opened-requires c κs = (opened-few (c .before .before .before .before .before .before .before .before .before .before .before .before .before .before .before .before .before .before .args .plan .now) (c .before .before .before .before .before .before .before .before .before .before .before .before .before .before .before .before .before .before .args .ends .now) (c .before .before .before .before .before .before .before .before .before .before .before .before .before .before .before .before .before .before .args .out .now) (c .before .before .before .before .before .before .before .before .before .before .before .before .before .before .if1 .left) (c .before .before .before .before .before .before .before .before .before .before .before .before .before .read-plan .ensures) (c .before .before .before .before .before .before .before .before .before .before .if2 .left) (c .before .before .before .before .before .before .before .before .before .if3 .left) (c .before .before .before .before .before .before .before .before .open-book .ensures) (c .before .before .before .before .before .before .before .show .ensures), omega (arith, c .before .before .before .before .before .before .before .before .before .before .before .before .before .before .if1 .left))
 
 put-ends-requires : tie.Need-put-ends-requires
-put-ends-requires c κs = ends-fit (c .before .before .before .before .before .before .before .before .before .before .before .before .before .before .before .before .args .plan .now) (c .before .before .before .before .before .before .before .before .before .before .before .before .before .before .before .before .args .ends .now) (c .before .before .before .before .before .before .before .before .before .before .before .before .before .before .before .before .args .out .now) (c .before .before .before .before .before .before .before .before .before .before .before .before .if1 .left) (c .before .before .before .before .before .before .before .before .before .before .before .read-plan .ensures) (c .before .before .before .before .before .before .before .before .if2 .left) (c .before .before .before .before .before .before .before .if3 .left) (c .before .before .before .before .before .before .open-book .ensures) (c .before .before .before .put-opened .ensures)
+put-ends-requires c κs = ends-fit (c .before .before .before .before .before .before .before .before .before .before .before .before .before .before .before .before .before .before .before .before .before .before .before .args .plan .now) (c .before .before .before .before .before .before .before .before .before .before .before .before .before .before .before .before .before .before .before .before .before .before .before .args .ends .now) (c .before .before .before .before .before .before .before .before .before .before .before .before .before .before .before .before .before .before .before .before .before .before .before .args .out .now) (c .before .before .before .before .before .before .before .before .before .before .before .before .before .before .before .before .before .before .before .if1 .left) (c .before .before .before .before .before .before .before .before .before .before .before .before .before .before .before .before .before .before .read-plan .ensures) (c .before .before .before .before .before .before .before .before .before .before .before .before .before .before .before .if2 .left) (c .before .before .before .before .before .before .before .before .before .before .before .before .before .before .if3 .left) (c .before .before .before .before .before .before .before .before .before .before .before .before .before .open-book .ensures) (c .before .before .before .before .before .before .before .before .before .before .before .before .show .ensures) (c .before .before .before .before .put-opened .ensures)
+
+returns-4 : tie.Need-returns-4
+returns-4 c = ran-ends (c .before .before .before .before .before .before .before .before .before .before .before .before .before .before .before .before .before .before .before .before .before .before .before .before .before .before .args .plan .now) (c .before .before .before .before .before .before .before .before .before .before .before .before .before .before .before .before .before .before .before .before .before .before .before .before .before .before .args .ends .now) (c .before .before .before .before .before .before .before .before .before .before .before .before .before .before .before .before .before .before .before .before .before .before .before .before .before .before .args .out .now) (c .before .before .before .before .before .before .before .before .before .before .before .before .before .before .before .before .before .before .before .before .before .before .if1 .left) (c .before .before .before .before .before .before .before .before .before .before .before .before .before .before .before .before .before .before .before .before .before .read-plan .ensures) (c .before .before .before .before .before .before .before .before .before .before .before .before .before .before .before .before .before .before .if2 .left) (c .before .before .before .before .before .before .before .before .before .before .before .before .before .before .before .before .before .if3 .left) (c .before .before .before .before .before .before .before .before .before .before .before .before .before .before .before .before .open-book .ensures) (c .before .before .before .before .before .before .before .before .before .before .before .before .before .before .before .show .ensures) (c .before .before .before .before .before .before .before .put-opened .ensures) (c .before .before .put-ends .ensures)
 
 same-length-3 : tie.Need-same-length-3
 same-length-3 c = search needs
-
-returns-4 : tie.Need-returns-4
-returns-4 c = ran-ends (c .before .before .before .before .before .before .before .before .before .before .before .before .before .before .before .before .before .before .before .args .plan .now) (c .before .before .before .before .before .before .before .before .before .before .before .before .before .before .before .before .before .before .before .args .ends .now) (c .before .before .before .before .before .before .before .before .before .before .before .before .before .before .before .before .before .before .before .args .out .now) (c .before .before .before .before .before .before .before .before .before .before .before .before .before .before .before .if1 .left) (c .before .before .before .before .before .before .before .before .before .before .before .before .before .before .read-plan .ensures) (c .before .before .before .before .before .before .before .before .before .before .before .if2 .left) (c .before .before .before .before .before .before .before .before .before .before .if3 .left) (c .before .before .before .before .before .before .before .before .before .open-book .ensures) (c .before .before .before .before .before .before .put-opened .ensures) (c .before .before .put-ends .ensures)
 
 pub run-log-spec : {M : Type 1} → statement M
 run-log-spec =
@@ -56,11 +57,11 @@ run-log-spec =
     put-refused-requires
     same-length
     returns-2
-    refuse-requires
     put-refused-requires-2
     same-length-2
     returns-3
     open-book-requires
+    show-requires
     put-opened-requires
     put-ends-requires
     same-length-3

@@ -11,8 +11,9 @@ run-log-requires c κs = search needs
 
 returns : tie.Need-returns
 returns c =
+    let s = c .before .before .before .before .args in
     let ran = c .run-log .ensures in
-    (counts _ _ (omega (arith, ran .small)), ran-front _ _ _ _ _ (search needs) ran)
+    (counts _ _ (omega (arith, ran .2)), ran-front (s .plan .now) (s .ends .now) (s .out .now) _ _ (search needs) (ran .0) (ran .1) (ran .2))
 
 pub put-log-spec : {M : Type 1} → statement M
 put-log-spec = tie.close (tie.spec run-log-requires returns)

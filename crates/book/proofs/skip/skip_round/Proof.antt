@@ -1,24 +1,26 @@
-use Rattle.book.proofs.SkipLaws.{round-none, round-skips, round-stays}
-use Rattle.book.specs.Table.{Skipped}
+use Rattle.book.proofs.SkipLaws.{round-none, round-skips, round-stays, some-picked, some-passed}
+use Rattle.book.specs.private.Table.{skipsByRow, roundBy}
+use Rattle.laws.specs.Every.{any}
 use mathlib.Core.Logic.{⊎-elim}
 use native.Mathlib.Omega.{arith}
-use mathlib.Core.Path.{_≡_, sym, _∙_}
+use mathlib.Core.Path.{_≡_, refl, sym, _∙_}
 use Prim.Native.Nat.{_-_, _≤_}
 use borrow.Author.Needs.{needs}
 use Rattle.book.proofs.skip.skip_round.Statement.{statement}
 use Rattle.book.proofs.skip.skip_round.Tie as tie
 
 abbrev Inv-loop : tie.InvT-loop
-Inv-loop clock tasks mark dropped last next₀ i₀ next i = (i ≤ tasks) × Skipped mark (next₀ .start) (next₀ .end) dropped last clock i next
+Inv-loop dropped clock tasks last mark next₀ some₀ i₀ next some i = (i ≤ tasks) × (next ≡ roundBy dropped last clock i next₀) × (some ≡ any i (skipsByRow (next₀ .mark) dropped last))
 
 abbrev μ-loop : tie.MeasureT-loop
-μ-loop clock tasks mark dropped last next₀ i₀ next i = tasks - i
+μ-loop dropped clock tasks last mark next₀ some₀ i₀ next some i = tasks - i
 
 loop-holds : tie.Need-loop-holds Inv-loop μ-loop
-loop-holds c = (omega arith, round-none _ _ _ _ _ _)
+unfolding any
+loop-holds c = (omega arith, round-none _ _ _ _, refl)
 
-array-read-may-skip : tie.Need-array-read-may-skip Inv-loop μ-loop
-array-read-may-skip c = search needs
+element-copy-out-may-skip : tie.Need-element-copy-out-may-skip Inv-loop μ-loop
+element-copy-out-may-skip c = search needs
 
 mul-may-skip : tie.Need-mul-may-skip Inv-loop μ-loop
 mul-may-skip c = search needs
@@ -27,7 +29,7 @@ array-copy-out-may-skip : tie.Need-array-copy-out-may-skip Inv-loop μ-loop
 array-copy-out-may-skip c = search needs
 
 may-skip-requires : tie.Need-may-skip-requires Inv-loop μ-loop
-may-skip-requires c κs = (omega arith, λ z. c .before .before .before .before .pre .1 (c .before .before .before .loop .i) (omega arith) z)
+may-skip-requires c κs = (omega arith, λ z. c .before .before .before .before .before .before .pre .1 (c .before .before .before .before .loop .i) (omega arith) z)
 
 element-write-next : tie.Need-element-write-next Inv-loop μ-loop
 element-write-next c = search needs
@@ -52,12 +54,12 @@ loop-less c = search needs
 
 loop-again : tie.Need-loop-again Inv-loop μ-loop
 loop-again c = ⊎-elim
-    (λ w. (omega arith, rw (w .1) (round-skips _ _ _ _ _ _ _ (c .before .before .before .before .before .loop .inv .1) (sym (c .before .may-skip .ensures) ∙ w .0 .taken))))
-    (λ w. (omega arith, rw (w .1) (round-stays _ _ _ _ _ _ _ (c .before .before .before .before .before .loop .inv .1) (sym (c .before .may-skip .ensures) ∙ w .0 .left))))
+    (λ w. (omega arith, w .1 ∙ round-skips _ _ _ _ _ (c .before .before .before .before .before .before .loop .inv .1) (sym (c .before .may-skip .ensures) ∙ w .0 .taken), w .2 ∙ some-picked _ _ (sym (c .before .may-skip .ensures) ∙ w .0 .taken)))
+    (λ w. (omega arith, w .1 ∙ round-stays _ _ _ _ _ (c .before .before .before .before .before .before .loop .inv .1) (sym (c .before .may-skip .ensures) ∙ w .0 .left), w .2 ∙ some-passed _ _ (c .before .before .before .before .before .before .loop .inv .2) (sym (c .before .may-skip .ensures) ∙ w .0 .left)))
     (c .if1 .came)
 
 returns : tie.Need-returns Inv-loop μ-loop
-returns c = let e : c .before .loop .i ≡ c .before .before .args .tasks = omega arith in rw e at (c .before .loop .inv .1)
+returns c = let e : c .before .loop .i ≡ c .before .before .before .args .tasks = omega arith in (rw e at (c .before .loop .inv .1), rw e at (c .before .loop .inv .2))
 
 pub skip-round-spec : {M : Type 1} → statement M
 skip-round-spec =
@@ -66,7 +68,7 @@ skip-round-spec =
     Inv-loop
     μ-loop
     loop-holds
-    array-read-may-skip
+    element-copy-out-may-skip
     mul-may-skip
     array-copy-out-may-skip
     may-skip-requires

@@ -1,7 +1,8 @@
-use Rattle.book.proofs.SoundLaws.{every-passed}
-use Rattle.book.specs.Table.{hasEnded, rowEnded}
+use Rattle.view.proofs.Turns.{every-passed}
+use Rattle.book.specs.private.Table.{hasEnded, rowEnded}
 use Rattle.plan.specs.Value.{at}
-use Rattle.laws.specs.Every.{every, every-not}
+use Rattle.laws.specs.Every.{every}
+use Rattle.laws.proofs.Every.{every-not}
 use borrow.Author.Tests.{not-true, not-false}
 use mathlib.Core.Bool.{true}
 use native.Mathlib.Omega.{arith}

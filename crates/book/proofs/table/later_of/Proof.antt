@@ -1,4 +1,4 @@
-use Rattle.laws.specs.Last.{later-first, later-more, later-less}
+use Rattle.laws.proofs.Last.{later-first, later-more, later-less}
 use borrow.Author.Needs.{needs}
 use Rattle.book.proofs.table.later_of.Statement.{statement}
 use Rattle.book.proofs.table.later_of.Tie as tie

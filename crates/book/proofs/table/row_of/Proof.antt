@@ -1,9 +1,9 @@
 use Rattle.book.proofs.TableLaws.{row-none, row-passed, row-taken, row-small}
 use borrow.Author.Tests.{le-leb, lt-leb}
-use Rattle.book.specs.Table.{RowTo}
+use Rattle.book.specs.private.Table.{RowTo}
 use Rattle.plan.specs.Value.{at}
 use lib.ListN.{length, length-set, getD-replicate}
-use Rattle.book.specs.View.{planSeen}
+use Rattle.view.specs.View.{planSeen}
 use mathlib.Core.Logic.{⊎-elim}
 use native.Mathlib.Omega.{arith}
 use mathlib.Core.Path.{_≡_}

@@ -1,6 +1,9 @@
-use lib.ListN.{length}
+use Prim.{tt}
 use native.Mathlib.Omega.{arith}
-use Rattle.log.proofs.EndsLaws.{Walk, walk-start, walk-end, walk-stop, walk-used, walk-turn}
+use lib.ListN.{length}
+use Rattle.lines.proofs.WriteLaws.{wrote-length}
+use Rattle.log.proofs.ReportLaws.{told-names}
+use Rattle.log.proofs.EndsLaws.{Walk, walk-start, walk-end, walk-stops, walk-less, walk-goes}
 use borrow.Author.Needs.{needs}
 use Rattle.log.proofs.ends.put_ends.Statement.{statement}
 use Rattle.log.proofs.ends.put_ends.Tie as tie
@@ -12,46 +15,43 @@ abbrev μ-loop : tie.MeasureT-loop
 μ-loop out₀ at ends book₀ place₀ line₀ rest₀ out book place line rest = length rest
 
 loop-holds : tie.Need-loop-holds Inv-loop μ-loop
-loop-holds c = walk-start (c .before .before .pre .whole)
+loop-holds c = walk-start (c .before .before .pre .sized)
 
 next-entry-requires : tie.Need-next-entry-requires Inv-loop μ-loop
-next-entry-requires c κs = search needs
+next-entry-requires c κs = tt
 
-enum-known-entry : tie.Need-enum-known-entry Inv-loop μ-loop
-enum-known-entry c = search needs
+tell-requires : tie.Need-tell-requires Inv-loop μ-loop
+tell-requires c κs = tt
 
-refuse-requires : tie.Need-refuse-requires Inv-loop μ-loop
-refuse-requires c κs = search needs
+put-told-requires : tie.Need-put-told-requires Inv-loop μ-loop
+put-told-requires c κs = let w = c .before .before .before .before .before .before .before .before .before .before .before .before .before .before .before .loop .inv in (omega (arith, w .kept, w .room, c .before .before .before .before .before .before .before .before .before .before .before .before .before .before .before .before .before .before .pre .room), told-names _ _ _ (c .before .before .before .before .before .before .before .before .before .before .before .before .tell .ensures))
 
-put-refused-requires : tie.Need-put-refused-requires Inv-loop μ-loop
-put-refused-requires c κs = search needs
-
-same-length : tie.Need-same-length Inv-loop μ-loop
-same-length c = search needs
+entry-code-requires : tie.Need-entry-code-requires Inv-loop μ-loop
+entry-code-requires c κs = tt
 
 returns : tie.Need-returns Inv-loop μ-loop
-returns c = walk-stop (c .before .before .before .before .before .before .before .before .before .before .loop .inv) (c .before .before .before .before .before .before .before .before .before .loop-test .taken) (c .before .before .before .before .before .before .before .before .next-entry .ensures) (c .before .before .before .before .before .before .entry .given .1) (rw (c .before .before .before .refuse .ensures) at (c .before .before .put-refused .ensures))
+returns c = walk-stops (c .before .before .before .before .before .before .before .before .before .before .before .before .before .before .before .before .before .before .before .before .loop .inv) (c .before .before .before .before .before .before .before .before .before .before .before .before .before .before .before .before .before .before .next-entry .ensures) (c .before .before .before .before .before .before .before .before .before .before .before .before .before .before .before .before .before .before .before .loop-test .taken) (c .before .before .before .before .before .before .before .before .before .before .before .before .before .before .before .before .before .tell .ensures) (c .before .before .before .before .put-told .ensures) (c .before .entry-code .ensures) (c .if1 .taken)
 
-put-entry-requires : tie.Need-put-entry-requires Inv-loop μ-loop
-put-entry-requires c κs = let w = c .before .before .before .before .loop .inv in let p = c .before .before .before .before .before .before .before .pre in (omega (arith, w .kept, w .room, p .room), w .whole)
+same-length : tie.Need-same-length Inv-loop μ-loop
+same-length c = wrote-length (returns c)
 
 part-after-requires : tie.Need-part-after-requires Inv-loop μ-loop
-part-after-requires c κs = search needs
+part-after-requires c κs = tt
 
 add-line : tie.Need-add-line Inv-loop μ-loop
-add-line c = search needs
+add-line c = omega (arith, c .before .before .before .before .before .before .before .before .before .before .before .before .before .before .before .before .before .before .before .before .before .before .loop .inv .lines, c .before .before .before .before .before .before .before .before .before .before .before .before .before .before .before .before .before .before .before .before .before .before .before .before .before .pre .short, c .before .before .before .before .before .before .before .before .before .before .before .before .before .before .before .before .before .before .before .before .before .loop-test .taken)
 
 loop-less : tie.Need-loop-less Inv-loop μ-loop
-loop-less c = walk-used (c .before .before .before .before .before .before .before .before .before .loop .inv) (c .before .before .before .before .before .before .before .before .loop-test .taken) (c .before .before .before .before .before .before .before .next-entry .ensures) (c .before .before .before .before .before .before .match .keys2) (c .part-after .ensures)
+loop-less c = walk-less (c .before .before .before .before .before .before .before .before .before .before .before .before .before .before .before .before .before .before .before .before .before .before .loop .inv) (c .before .before .before .before .before .before .before .before .before .before .before .before .before .before .before .before .before .before .before .before .next-entry .ensures) (c .before .before .before .entry-code .ensures) (c .before .before .if1 .left) (c .part-after .ensures)
 
 loop-again : tie.Need-loop-again Inv-loop μ-loop
-loop-again c = walk-turn (c .before .before .before .before .before .before .before .before .before .loop .inv) (c .before .before .before .before .before .before .before .before .loop-test .taken) (c .before .before .before .before .before .before .before .next-entry .ensures) (c .before .before .before .before .before .before .match .keys2) (c .before .before .before .before .put-entry .ensures) (c .part-after .ensures)
-
-same-length-2 : tie.Need-same-length-2 Inv-loop μ-loop
-same-length-2 c = search needs
+loop-again c = walk-goes (c .before .before .before .before .before .before .before .before .before .before .before .before .before .before .before .before .before .before .before .before .before .before .loop .inv) (c .before .before .before .before .before .before .before .before .before .before .before .before .before .before .before .before .before .before .before .before .next-entry .ensures) (c .before .before .before .before .before .before .before .before .before .before .before .before .before .before .before .before .before .before .before .before .before .loop-test .taken) (c .before .before .before .before .before .before .before .before .before .before .before .before .before .before .before .before .before .before .before .tell .ensures) (c .before .before .before .before .before .before .put-told .ensures) (c .before .before .before .entry-code .ensures) (c .before .before .if1 .left) (c .part-after .ensures)
 
 returns-2 : tie.Need-returns-2 Inv-loop μ-loop
 returns-2 c = walk-end (c .before .loop .inv) (c .loop-test .left)
+
+same-length-2 : tie.Need-same-length-2 Inv-loop μ-loop
+same-length-2 c = wrote-length (returns-2 c)
 
 pub put-ends-spec : {M : Type 1} → statement M
 put-ends-spec =
@@ -61,12 +61,11 @@ put-ends-spec =
     μ-loop
     loop-holds
     next-entry-requires
-    enum-known-entry
-    refuse-requires
-    put-refused-requires
+    tell-requires
+    put-told-requires
+    entry-code-requires
     same-length
     returns
-    put-entry-requires
     part-after-requires
     add-line
     loop-less

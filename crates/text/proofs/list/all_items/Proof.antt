@@ -5,7 +5,7 @@ use lib.ListN.{length}
 use Rattle.laws.specs.Lists.{allOf}
 use Rattle.laws.specs.Split.{splitOn}
 use Rattle.text.specs.Items.{COMMA}
-use Rattle.text.specs.Lettered.{isItem}
+use Rattle.text.specs.private.Lettered.{isItem}
 use Rattle.text.proofs.Parts.{after-less, past-part}
 use Rattle.text.proofs.Rise.{parts-stop, parts-end, parts-next}
 use Rattle.text.proofs.list.all_items.Statement.{statement}

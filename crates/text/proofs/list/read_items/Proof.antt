@@ -8,7 +8,7 @@ use lib.ListN.{length, length-set}
 use Rattle.laws.specs.Lists.{allOf}
 use Rattle.laws.specs.Split.{splitOn}
 use Rattle.text.specs.Items.{COMMA}
-use Rattle.text.specs.Lettered.{isItem}
+use Rattle.text.specs.private.Lettered.{isItem}
 use Rattle.text.proofs.Parts.{after-less, past-part}
 use Rattle.text.proofs.Rise.{itemsLeft, speltRead, items-start, all-spelt, refused-is, refuse, keep-last, keep-more, number-spelt, value-item, value-is, over-is, refuse-over, passed, item-digits, first-passes, parts-next, parts-end}
 use Rattle.text.proofs.list.read_items.Statement.{statement}

@@ -33,7 +33,7 @@ loop-again : tie.Need-loop-again Inv-loop μ-loop
 loop-again c = found-next _ _ _ (c .before .before .loop-test .taken) (c .if1 .left) (c .before .before .before .loop .inv .1)
 
 returns-2 : tie.Need-returns-2 Inv-loop μ-loop
-returns-2 c = found-none _ _ _ (c .loop-test .left) (c .before .loop .inv .0) (c .before .loop .inv .1)
+returns-2 c = found-none _ _ _ (c .loop-test .left) (c .before .loop .inv .1)
 
 pub find-spec : {M : Type 1} → statement M
 find-spec =

@@ -13,7 +13,7 @@ past-requires : tie.Need-past-requires
 past-requires c κs = search needs
 
 returns : tie.Need-returns
-returns c = c .past .ensures ∙ ap (λ n. drop (suc n) (c .before .before .before .args .s .now)) (c .before .find .ensures .first)
+returns c = c .past .ensures ∙ ap (λ n. drop (suc n) (c .before .before .before .args .s .now)) (c .before .find .ensures)
 
 pub part-after-spec : {M : Type 1} → statement M
 part-after-spec = tie.close (tie.spec find-requires past-requires returns)

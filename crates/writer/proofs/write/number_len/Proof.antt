@@ -1,5 +1,5 @@
 use native.Mathlib.Omega.{arith}
-use Rattle.laws.specs.Width.{ten-digits}
+use Rattle.laws.proofs.Width.{ten-digits}
 use borrow.Author.Needs.{needs}
 use Rattle.writer.proofs.write.number_len.Statement.{statement}
 use Rattle.writer.proofs.write.number_len.Tie as tie

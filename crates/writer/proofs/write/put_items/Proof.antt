@@ -3,7 +3,7 @@ use Rattle.text.specs.Items.{NONE}
 use Prim.Native.Nat.{_-_}
 use mathlib.Core.Path.{_∙_}
 use lib.ListN.{length, getD, drop}
-use Rattle.writer.specs.WriteParts.{itemText}
+use Rattle.writer.specs.private.WriteParts.{itemText}
 use Rattle.writer.proofs.RunLaws.{Left, one, two, all-left, next-room, put, turn, done-at, done, wrote-length}
 use Rattle.writer.proofs.WriteLaws.{laterText, list-none, list-some, next-item, later-end}
 use borrow.Author.Needs.{needs}

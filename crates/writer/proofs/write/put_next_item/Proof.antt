@@ -1,6 +1,6 @@
 use mathlib.Core.List.{[], _∷_}
 use Rattle.text.specs.Items.{COMMA}
-use Rattle.writer.specs.WriteParts.{itemText}
+use Rattle.writer.specs.private.WriteParts.{itemText}
 use Rattle.writer.proofs.RunLaws.{two, all-left, next-room, put, turn, done}
 use borrow.Author.Needs.{needs}
 use Rattle.writer.proofs.write.put_next_item.Statement.{statement}

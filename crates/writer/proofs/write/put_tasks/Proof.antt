@@ -1,8 +1,8 @@
 use Prim.Native.Nat.{_-_, _≤_}
 use native.Mathlib.Omega.{arith}
-use Rattle.plan.specs.Value.{tasksIn}
+use Rattle.judge.specs.private.Arrays.{tasksIn}
 use Rattle.plan.specs.Write.{taskTexts}
-use Rattle.writer.specs.WriteParts.{Wrote}
+use Rattle.writer.specs.private.WriteParts.{Wrote}
 use Rattle.writer.proofs.RunLaws.{also, wrote-length}
 use Rattle.writer.proofs.WriteLaws.{texts-turn, task-room, all-written, none-written}
 use borrow.Author.Needs.{needs}

@@ -1,6 +1,6 @@
 use Prim.Native.Nat.{_+_}
 use native.Mathlib.Omega.{arith}
-use Rattle.plan.specs.Value.{tasksIn}
+use Rattle.judge.specs.private.Arrays.{tasksIn}
 use Rattle.writer.proofs.WriteLaws.{few-items, task-length}
 use borrow.Author.Needs.{needs}
 use Rattle.writer.proofs.write.task_len.Statement.{statement}

@@ -2,7 +2,7 @@ use Prim.Native.Nat.{_-_, _*_, _≤_}
 use mathlib.Core.Path.{_≡_, refl}
 use native.Mathlib.Omega.{arith}
 use lib.ListN.{length}
-use Rattle.plan.specs.Value.{tasksIn}
+use Rattle.judge.specs.private.Arrays.{tasksIn}
 use Rattle.plan.specs.Write.{taskTexts}
 use Rattle.writer.proofs.WriteLaws.{texts-length, all-length}
 use borrow.Author.Needs.{needs}

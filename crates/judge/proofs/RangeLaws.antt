@@ -1,0 +1,96 @@
+-- What is kept of a task, in the two halves that are tested.
+use Prim.Native.Nat.{ℕ, _≤_}
+use mathlib.Core.Path.{_≡_, refl, sym, _∙_}
+use mathlib.Core.Bool.{Bool, true, false, not, _&&_}
+use mathlib.Core.List.{List}
+use lib.Dec.{leb}
+use borrow.Author.Tests.{not-true, not-false, leb-true}
+use Rattle.laws.proofs.Cases.{and-l, and-r}
+use Rattle.laws.specs.Lists.{risesFrom, allOf, rising}
+use Rattle.laws.proofs.Rise.{rises-is}
+use Rattle.laws.specs.Every.{every}
+use Rattle.laws.proofs.Every.{every-at}
+use Rattle.text.specs.Items.{between, driveOf, holdsOk, afterOk}
+use Rattle.text.specs.private.Lettered.{keyOf}
+use Rattle.plan.specs.Answer.{isGranted}
+use Rattle.plan.specs.Task.{Task, numbersOk, taskOk}
+use Rattle.plan.specs.Pairs.{firstFault}
+use Rattle.plan.specs.Value.{row, items, planWith, isTrimmed, keptOk, pastBlank, rangesOk, isAccepted, taskAt}
+use Rattle.judge.specs.private.Arrays.{numbersIn, listsIn, RowRises, RowsRise}
+use Rattle.plan.specs.declared.Plan.{Plan}
+
+regroup : (numbers holds after one two : Bool) → ((numbers && (holds && after)) && (one && two)) ≡ (numbers && ((holds && one) && (after && two)))
+regroup false holds after one two = refl
+regroup true false after one two = refl
+regroup true true true true two = refl
+regroup true true true false two = refl
+regroup true true false true two = refl
+regroup true true false false two = refl
+
+pub kept-is :
+    (boards tasks : ℕ) (board begin finish holds after : List ℕ) (k : ℕ)
+    → keptOk (planWith boards tasks board begin finish holds after) k
+    ≡ (numbersIn boards board begin finish k && listsIn tasks holds after k)
+unfolding keptOk holdsOk afterOk keyOf
+kept-is boards tasks board begin finish holds after k =
+    rw (rises-is driveOf 32 (items (row 32 holds k)), rises-is (λ n. n) tasks (items (row 64 after k)))
+    (regroup
+    (numbersIn boards board begin finish k)
+    (risesFrom driveOf 32 0 (items (row 32 holds k)))
+    (risesFrom (λ n. n) tasks 0 (items (row 64 after k)))
+    (isTrimmed (row 32 holds k))
+    (isTrimmed (row 64 after k)))
+
+-- acceptance in the order in which it is tested: the sizes, the ranges, the pairs
+regroup-all : (boards tasks ranges pairs : Bool) → ((boards && (tasks && ranges)) && pairs) ≡ ((boards && tasks) && (ranges && pairs))
+regroup-all false tasks ranges pairs = refl
+regroup-all true false ranges pairs = refl
+regroup-all true true ranges pairs = refl
+
+pub few-tasks : (boards tasks : ℕ) → not (between 1 8 boards && between 1 64 tasks) ≡ false → tasks ≤ 64
+few-tasks boards tasks h =
+    leb-true tasks 64
+    (and-r (leb 1 tasks) (leb tasks 64) (and-r (between 1 8 boards) (between 1 64 tasks) (not-false (between 1 8 boards && between 1 64 tasks) h)))
+
+-- the holds of a task that keeps the rules rise
+pub task-rises : (boards tasks : ℕ) (task : Task) → taskOk boards tasks task ≡ true → rising driveOf (task .holds) ≡ true
+unfolding holdsOk
+task-rises boards tasks task h =
+    let lists = and-r (numbersOk boards task) (holdsOk (task .holds) && afterOk tasks (task .after)) h in
+    let holds = and-l (holdsOk (task .holds)) (afterOk tasks (task .after)) lists in
+    and-r (allOf (λ x. between 1 32 (driveOf x)) (task .holds)) (rising driveOf (task .holds)) holds
+
+row-rises : (plan : Plan) (k : ℕ) → keptOk plan k ≡ true → RowRises (plan .holds) k
+unfolding keptOk
+row-rises plan k h =
+    task-rises (plan .boards) (plan .tasks) (taskAt plan k)
+    (and-l (taskOk (plan .boards) (plan .tasks) (taskAt plan k)) (isTrimmed (row 32 (plan .holds) k) && isTrimmed (row 64 (plan .after) k)) h)
+
+module _ (plan : Plan) where
+  abbrev sizes : Bool
+  sizes = between 1 8 (plan .boards) && between 1 64 (plan .tasks)
+
+  abbrev ranges : Bool
+  ranges = every (plan .tasks) (keptOk plan) && pastBlank plan
+
+  accepted-is : isAccepted plan ≡ (sizes && (ranges && isGranted (firstFault (plan .tasks) (taskAt plan))))
+  unfolding isAccepted rangesOk
+  accepted-is = regroup-all (between 1 8 (plan .boards)) (between 1 64 (plan .tasks)) ranges _
+
+  pub refused-sizes : not sizes ≡ true → false ≡ isAccepted plan
+  refused-sizes h = rw (accepted-is, not-true sizes h)
+
+  module _ (s : not sizes ≡ false) {kept past : Bool} (k : kept ≡ every (plan .tasks) (keptOk plan)) (p : past ≡ pastBlank plan) where
+    pub refused-ranges : not (kept && past) ≡ true → false ≡ isAccepted plan
+    refused-ranges h =
+        let r : ranges ≡ false = rw (k, p) at (not-true (kept && past) h) in rw (accepted-is, not-false sizes s, r)
+
+    pub judged-by-pairs : not (kept && past) ≡ false → isGranted (firstFault (plan .tasks) (taskAt plan)) ≡ isAccepted plan
+    judged-by-pairs h =
+        let r : ranges ≡ true = rw (k, p) at (not-false (kept && past) h) in rw (accepted-is, not-false sizes s, r)
+
+    -- the holds of what is kept rise
+    pub kept-rises : not (kept && past) ≡ false → plan .tasks ≤ 64 → RowsRise (plan .holds) (plan .tasks)
+    kept-rises h few =
+        let all : every (plan .tasks) (keptOk plan) ≡ true = sym k ∙ and-l kept past (not-false (kept && past) h) in
+        record { few = few; rise = λ j l. row-rises plan j (every-at (plan .tasks) (keptOk plan) all j l) }

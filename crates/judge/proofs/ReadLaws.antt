@@ -1,0 +1,73 @@
+-- A whole reading: its lines, then its pairs.
+use Prim.Native.Nat.{ℕ, _<_}
+use mathlib.Core.Path.{_≡_, refl, sym, ap, _∙_}
+use mathlib.Core.Logic.{_≢_}
+use mathlib.Core.Bool.{true, cond}
+use mathlib.Core.List.{List}
+use native.Mathlib.Omega.{arith}
+use borrow.Author.Tests.{eq-eqb, ne-eqb}
+use Rattle.plan.specs.Answer.{isRefused}
+use Rattle.plan.specs.Task.{Task}
+use Rattle.plan.specs.Pairs.{firstFault}
+use Rattle.plan.specs.Value.{planOf, zeroPlan, taskAt}
+use Rattle.plan.specs.Read.{boardsOf, tasksOf, formAnswer, textTask, textAnswer, textPlan, linesOf, readingOf}
+use Rattle.plan.specs.declared.Answer.{Answer}
+use Rattle.plan.specs.declared.Reading.{Reading}
+use Rattle.plan.proofs.FirstFault.{fault-granted}
+use Rattle.plan.proofs.ReadOk.{FormOk, form-ok, ok-form, form-tasks, form-ranges, form-task, form-fault}
+use Rattle.judge.specs.private.Arrays.{RowsRise}
+use Rattle.judge.proofs.RangeLaws.{task-rises}
+
+lines-answer : (s : List ℕ) → linesOf s .answer ≡ formAnswer s
+unfolding linesOf
+lines-answer s = refl
+
+module _ (s : List ℕ) {lines : Reading} (l : lines ≡ linesOf s) where
+  says : lines .answer ≡ formAnswer s
+  says = ap (λ (x : Reading). x .answer) l ∙ lines-answer s
+
+  answer-line : lines .answer .code ≢ 0 → textAnswer s ≡ formAnswer s
+  unfolding textAnswer
+  answer-line n = rw (ne-eqb (formAnswer s .code) 0 (rw says at n))
+
+  pub reading-line : lines .answer .code ≢ 0 → lines ≡ readingOf s
+  unfolding readingOf linesOf
+  reading-line n = l ∙ rw (answer-line n)
+
+  module _ (clean : lines .answer .code ≡ 0) where
+    form : FormOk s
+    form = form-ok s (rw says at clean)
+
+    plan-is : lines .plan ≡ textPlan s
+    unfolding linesOf
+    plan-is = rw (l, eq-eqb (formAnswer s .code) 0 (rw says at clean))
+
+    tasks-are : lines .plan .tasks ≡ tasksOf s
+    unfolding planOf
+    tasks-are = rw plan-is
+
+    -- the holds of what was read rise
+    pub read-rises : RowsRise (lines .plan .holds) (lines .plan .tasks)
+    read-rises = record {
+      few = omega (arith, form-tasks s form .1, tasks-are);
+      rise = λ k h.
+          let low : k < tasksOf s = omega (arith, tasks-are) in
+          rw (plan-is, ap (λ (t : Task). t .holds) (form-task s form k low))
+          (task-rises (boardsOf s) (tasksOf s) (textTask s k) (form-ranges s form k low));
+    }
+
+    module _ {fault : Answer} (f : fault ≡ firstFault (lines .plan .tasks) (taskAt (lines .plan))) where
+      answer-pairs : textAnswer s ≡ fault
+      unfolding textAnswer
+      answer-pairs =
+          rw (eq-eqb (formAnswer s .code) 0 (rw says at clean)) (sym (f ∙ rw (tasks-are, plan-is) (form-fault s form)))
+
+      pub reading-pair : fault .code ≢ 0 → _≡_ {A = Reading} (record { answer = fault; plan = zeroPlan }) (readingOf s)
+      unfolding readingOf
+      reading-pair n = rw (answer-pairs, ne-eqb (fault .code) 0 n)
+
+      pub reading-in : fault .code ≡ 0 → lines ≡ readingOf s
+      unfolding readingOf linesOf
+      reading-in z =
+          let g = f ∙ fault-granted (lines .plan .tasks) (taskAt (lines .plan)) (ap (λ (x : Answer). x .code) (sym f) ∙ z) in
+          l ∙ rw (ok-form s form, answer-pairs, g)

@@ -1,0 +1,38 @@
+use mathlib.Core.Path.{_∙_}
+use Rattle.judge.proofs.ReadLaws.{reading-line, read-rises, reading-pair, reading-in}
+use borrow.Author.Needs.{needs}
+use Rattle.judge.proofs.read.read_plan.Statement.{statement}
+use Rattle.judge.proofs.read.read_plan.Tie as tie
+
+read-lines-requires : tie.Need-read-lines-requires
+read-lines-requires c κs = search needs
+
+returns : tie.Need-returns
+returns c = reading-line _ (c .before .before .before .read-lines .ensures) (c .if1 .taken)
+
+cast-first-fault : tie.Need-cast-first-fault
+cast-first-fault c = search needs
+
+first-fault-requires : tie.Need-first-fault-requires
+first-fault-requires c κs = read-rises _ (c .before .before .before .before .before .before .before .before .before .before .read-lines .ensures) (c .before .before .before .before .before .before .before .if1 .left)
+
+refused-requires : tie.Need-refused-requires
+refused-requires c κs = search needs
+
+returns-2 : tie.Need-returns-2
+returns-2 c = c .refused .ensures ∙ reading-pair _ (c .before .before .before .before .before .before .before .before .before .before .before .before .before .before .read-lines .ensures) (c .before .before .before .before .before .before .before .before .before .before .before .if1 .left) (c .before .before .before .first-fault .ensures) (c .before .if2 .taken)
+
+returns-3 : tie.Need-returns-3
+returns-3 c = reading-in _ (c .before .before .before .before .before .before .before .before .before .before .before .before .before .read-lines .ensures) (c .before .before .before .before .before .before .before .before .before .before .if1 .left) (c .before .before .first-fault .ensures) (c .if2 .left)
+
+pub read-plan-spec : {M : Type 1} → statement M
+read-plan-spec =
+    tie.close
+    (tie.spec
+    read-lines-requires
+    returns
+    cast-first-fault
+    first-fault-requires
+    refused-requires
+    returns-2
+    returns-3)

@@ -1,0 +1,66 @@
+-- Tests over the items of a list, each turn by turn at a place i of the list.
+use Prim.Native.Nat.{ℕ, zero, suc, _+_, _<_, _≤_}
+use mathlib.Core.List.{List, [], _∷_, _++_}
+use mathlib.Core.Bool.{Bool, true, false, _&&_, _||_}
+use mathlib.Core.Path.{_≡_, refl}
+use lib.ListN.{length, getD, drop, drop-of-length-le}
+use lib.Seq.{drop-cons}
+use lib.Dec.{eqb}
+use borrow.Author.Tests.{eqb-true, eq-eqb}
+use native.Mathlib.Omega.{arith}
+use native.Mathlib.Numerals.{add-one}
+use Rattle.laws.specs.Lists.{allOf, anyOf, same}
+use Rattle.laws.proofs.Cases.{and-l, and-r, and-of, true-false}
+
+module _ {A : Type 0} (p : A → Bool) where
+  module _ (l : List A) (i : ℕ) (d : A) where
+    pub all-turn : i < length l → allOf p (drop i l) ≡ (p (getD l i d) && allOf p (drop (i + 1) l))
+    unfolding allOf
+    all-turn h = rw (add-one, drop-cons l i d)
+
+    pub any-of-turn : i < length l → anyOf p (drop i l) ≡ (p (getD l i d) || anyOf p (drop (i + 1) l))
+    unfolding anyOf
+    any-of-turn h = rw (add-one, drop-cons l i d)
+
+  pub all-end : (l : List A) (i : ℕ) → length l ≤ i → allOf p (drop i l) ≡ true
+  unfolding allOf
+  all-end l i h = rw (drop-of-length-le l h)
+
+  pub any-of-end : (l : List A) (i : ℕ) → length l ≤ i → anyOf p (drop i l) ≡ false
+  unfolding anyOf
+  any-of-end l i h = rw (drop-of-length-le l h)
+
+  pub all-at : (l : List A) → allOf p l ≡ true → (i : ℕ) (d : A) → i < length l → p (getD l i d) ≡ true
+  unfolding allOf
+  all-at [] h i d k = absurd (omega arith)
+  all-at (x ∷ l) h zero d k = and-l (p x) (allOf p l) h
+  all-at (x ∷ l) h (suc i) d k = all-at l (and-r (p x) (allOf p l) h) i d (omega arith)
+
+  pub all-of : (l : List A) (d : A) → ((i : ℕ) → i < length l → p (getD l i d) ≡ true) → allOf p l ≡ true
+  unfolding allOf
+  all-of [] d f = refl
+  all-of (x ∷ l) d f = and-of (f 0 (omega arith)) (all-of l d (λ i h. f (suc i) (omega arith)))
+
+  pub all-append : (k l : List A) → allOf p (k ++ l) ≡ (allOf p k && allOf p l)
+  unfolding allOf
+  all-append [] l = refl
+  all-append (x ∷ k) l = rw (all-append k l) (assoc (p x) (allOf p k) (allOf p l))
+    where
+      assoc : (a b c : Bool) → (a && (b && c)) ≡ ((a && b) && c)
+      assoc true b c = refl
+      assoc false b c = refl
+
+pub same-refl : (s : List ℕ) → same s s ≡ true
+unfolding same
+same-refl [] = refl
+same-refl (a ∷ s) = and-of (eq-eqb a a refl) (same-refl s)
+
+pub same-eq : (s t : List ℕ) → same s t ≡ true → s ≡ t
+unfolding same
+same-eq [] [] e = refl
+same-eq [] (b ∷ t) e = true-false e refl
+same-eq (a ∷ s) [] e = true-false e refl
+same-eq (a ∷ s) (b ∷ t) e =
+    let x : a ≡ b = eqb-true a b (and-l (eqb a b) (same s t) e) in
+    let y : s ≡ t = same-eq s t (and-r (eqb a b) (same s t) e) in
+    cc

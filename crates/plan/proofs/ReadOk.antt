@@ -1,0 +1,187 @@
+-- What an accepted text keeps, and the plan that it reads as.
+use Prim.Native.Nat.{ℕ, _+_, _-_, _<_, _≤_}
+use mathlib.Core.List.{List}
+use mathlib.Core.Bool.{Bool, true, false, not, cond, _&&_}
+use mathlib.Core.Path.{_≡_, refl, sym, ap, _∙_}
+use mathlib.Core.Logic.{_≢_}
+use native.Mathlib.Omega.{arith}
+use lib.ListN.{length}
+use lib.Dec.{ltb, eqb}
+use borrow.Author.Tests.{ltb-false, le-ltb, eqb-true, eq-eqb, not-false}
+use Rattle.laws.proofs.Cases.{and-l, and-r, and-of, guard-passed}
+use Rattle.laws.proofs.Scan.{scan-clean, scan-none}
+use Rattle.text.specs.Number.{valueOf}
+use Rattle.text.specs.Line.{hasLine, skip, lineAt, field}
+use Rattle.plan.specs.Answer.{refuse, granted, isGranted, isRefused}
+use Rattle.plan.specs.Task.{Task, taskOk}
+use Rattle.plan.specs.Pairs.{firstFault}
+use Rattle.plan.specs.Value.{taskAt, planOf, rangesOk, isAccepted}
+use Rattle.plan.specs.Read.{sizesOk, boardsOf, tasksOf, lineTask, codeFor, lineCode}
+use Rattle.plan.specs.Read.{lineAnswer, linesAnswer, textTask, formAnswer, textAnswer, textPlan, readingOf}
+use Rattle.plan.specs.declared.Answer.{Answer}
+use Rattle.plan.proofs.FirstFault.{refused-code, passed-code, fault-granted, fault-same}
+use Rattle.plan.proofs.PlanTasks.{Sized, planOf-sized, made-task, made-ranges}
+use Rattle.plan.proofs.LineCodes.{isTaskLine, line-code-is}
+use Rattle.plan.proofs.TextLines.{number-range, sizes-test}
+
+-- ---- what an accepted text keeps
+
+-- line k + 1 is there, is well formed, carries number k + 1, and its task keeps the ranges
+pub record LineOk (s : List ℕ) (k : ℕ) : Type 0 where
+  pub there : hasLine (skip (k + 1) s) ≡ true
+  pub formed : isTaskLine (lineAt s (k + 1)) ≡ true
+  pub number : valueOf (field (lineAt s (k + 1)) 1) ≡ k + 1
+  pub ranges : taskOk (boardsOf s) (tasksOf s) (textTask s k) ≡ true
+
+pub record FormOk (s : List ℕ) : Type 0 where
+  pub short : length s ≤ 32768
+  pub first : hasLine s ≡ true
+  pub sizes : sizesOk (lineAt s 0) ≡ true
+  pub lines : (k : ℕ) → k < tasksOf s → LineOk s k
+  pub ends : length (skip (tasksOf s + 1) s) ≡ 0
+
+pub record TextOk (s : List ℕ) : Type 0 where
+  pub form : FormOk s
+  pub pairs : firstFault (tasksOf s) (textTask s) ≡ granted
+
+-- B and T are small where the first line is as stated
+few-boards : (s : List ℕ) → sizesOk (lineAt s 0) ≡ true → (1 ≤ boardsOf s) × (boardsOf s ≤ 8)
+few-boards s h = let r = number-range 1 8 (field (lineAt s 0) 2) (sizes-test (lineAt s 0) h 3 (omega arith)) in (r .1, r .2)
+
+few-tasks : (s : List ℕ) → sizesOk (lineAt s 0) ≡ true → (1 ≤ tasksOf s) × (tasksOf s ≤ 64)
+few-tasks s h = let r = number-range 1 64 (field (lineAt s 0) 3) (sizes-test (lineAt s 0) h 4 (omega arith)) in (r .1, r .2)
+
+module _ (s : List ℕ) (sizes : sizesOk (lineAt s 0) ≡ true) (k : ℕ) (below : k < tasksOf s) where
+  code-is :
+      lineCode (boardsOf s) (tasksOf s) (lineAt s (k + 1)) (k + 1)
+      ≡ codeFor (isTaskLine (lineAt s (k + 1)))
+      (eqb (valueOf (field (lineAt s (k + 1)) 1)) (k + 1) && taskOk (boardsOf s) (tasksOf s) (textTask s k))
+  code-is =
+      let b = few-boards s sizes in
+      let t = few-tasks s sizes in
+      line-code-is (boardsOf s) (tasksOf s) (lineAt s (k + 1)) (k + 1) (omega arith) (omega arith)
+
+  pub line-ok : lineAnswer s (k + 1) .code ≡ 0 → LineOk s k
+  unfolding lineAnswer
+  line-ok z =
+      let line : List ℕ = lineAt s (k + 1) in
+      let right : Bool = eqb (valueOf (field line 1)) (k + 1) in
+      let fine : Bool = taskOk (boardsOf s) (tasksOf s) (lineTask line) in
+      let a = guard-passed (not (hasLine (skip (k + 1) s))) 3 (lineCode (boardsOf s) (tasksOf s) line (k + 1)) (omega arith) z in
+      let b = guard-passed (not (isTaskLine line)) 3 (cond (not (right && fine)) 4 0) (omega arith) (sym code-is ∙ a .1) in
+      let c = not-false (right && fine) (guard-passed (not (right && fine)) 4 0 (omega arith) (b .1) .0) in
+      record {
+        there = not-false (hasLine (skip (k + 1) s)) (a .0);
+        formed = not-false (isTaskLine line) (b .0);
+        number = eqb-true (valueOf (field line 1)) (k + 1) (and-l right fine c);
+        ranges = and-r right fine c;
+      }
+
+  line-passed : LineOk s k → lineAnswer s (k + 1) .code ≡ 0
+  unfolding lineAnswer
+  line-passed r =
+      rw (r .there, code-is, r .formed, eq-eqb (valueOf (field (lineAt s (k + 1)) 1)) (k + 1) (r .number), r .ranges)
+
+answer-passed : (g : Bool) (x r : Answer) → (g ≡ true → x .code ≢ 0) → cond g x r .code ≡ 0 → (g ≡ false) × (r .code ≡ 0)
+answer-passed true x r n z = absurd (n refl z)
+answer-passed false x r n z = (refl, z)
+
+lines-ok :
+    (s : List ℕ) → sizesOk (lineAt s 0) ≡ true → isRefused (linesAnswer s) ≡ false → (k : ℕ) → k < tasksOf s → LineOk s k
+unfolding linesAnswer
+lines-ok s sizes p k h =
+    line-ok s sizes k h
+    (passed-code (lineAnswer s (k + 1))
+    (scan-clean isRefused granted (lineAnswer s) 1 (tasksOf s + 1) p (k + 1) (omega arith) (omega arith)))
+
+pub form-ok : (s : List ℕ) → formAnswer s .code ≡ 0 → FormOk s
+unfolding formAnswer
+form-ok s z =
+    let more : Bool = ltb 0 (length (skip (tasksOf s + 1) s)) in
+    let r4 : Answer = cond more (refuse 5 (tasksOf s + 2) 0) granted in
+    let r3 : Answer = cond (isRefused (linesAnswer s)) (linesAnswer s) r4 in
+    let first : Bool = hasLine s && sizesOk (lineAt s 0) in
+    let r2 : Answer = cond (not first) (refuse 2 1 0) r3 in
+    let p1 = answer-passed (ltb 32768 (length s)) (refuse 1 0 0) r2 (λ t e. omega arith) z in
+    let p2 = answer-passed (not first) (refuse 2 1 0) r3 (λ t e. omega arith) (p1 .1) in
+    let p3 = answer-passed (isRefused (linesAnswer s)) (linesAnswer s) r4 (refused-code (linesAnswer s)) (p2 .1) in
+    let p4 = answer-passed more (refuse 5 (tasksOf s + 2) 0) granted (λ t e. omega arith) (p3 .1) in
+    let f = not-false first (p2 .0) in
+    let over = ltb-false 0 (length (skip (tasksOf s + 1) s)) (p4 .0) in
+    record {
+      short = ltb-false 32768 (length s) (p1 .0);
+      first = and-l (hasLine s) (sizesOk (lineAt s 0)) f;
+      sizes = and-r (hasLine s) (sizesOk (lineAt s 0)) f;
+      lines = lines-ok s (and-r (hasLine s) (sizesOk (lineAt s 0)) f) (p3 .0);
+      ends = omega arith;
+    }
+
+pub text-ok : (s : List ℕ) → textAnswer s .code ≡ 0 → TextOk s
+unfolding textAnswer
+text-ok s z =
+    let fault : Answer = firstFault (tasksOf s) (textTask s) in
+    let p = answer-passed (isRefused (formAnswer s)) (formAnswer s) fault (refused-code (formAnswer s)) z in
+    record {
+      form = form-ok s (passed-code (formAnswer s) (p .0));
+      pairs = fault-granted (tasksOf s) (textTask s) (p .1);
+    }
+
+-- and a text that keeps it is accepted
+lines-passed : (s : List ℕ) → sizesOk (lineAt s 0) ≡ true → ((k : ℕ) → k < tasksOf s → LineOk s k) → linesAnswer s ≡ granted
+unfolding linesAnswer
+lines-passed s sizes f =
+    scan-none isRefused granted (lineAnswer s) 1 (tasksOf s + 1)
+    (λ j h l.
+    let e : j - 1 + 1 ≡ j = omega arith in
+    let z : lineAnswer s j .code ≡ 0 = rw e at (line-passed s sizes (j - 1) (omega arith) (f (j - 1) (omega arith))) in
+    ap not (eq-eqb (lineAnswer s j .code) 0 z))
+
+pub ok-form : (s : List ℕ) → FormOk s → formAnswer s ≡ granted
+unfolding formAnswer
+ok-form s r =
+    let over = le-ltb 0 (length (skip (tasksOf s + 1) s)) (omega (arith, r .ends)) in
+    rw (le-ltb 32768 (length s) (r .short), r .first, r .sizes, lines-passed s (r .sizes) (r .lines), over)
+
+pub ok-text : (s : List ℕ) → TextOk s → textAnswer s ≡ granted
+unfolding textAnswer
+ok-text s r = rw (ok-form s (r .form)) (r .pairs)
+
+-- ---- the plan that it reads as
+
+pub read-answer : (s : List ℕ) → readingOf s .answer ≡ textAnswer s
+unfolding readingOf
+read-answer s = refl
+
+module _ (s : List ℕ) (f : FormOk s) where
+  pub form-tasks : (1 ≤ tasksOf s) × (tasksOf s ≤ 64)
+  form-tasks = few-tasks s (f .sizes)
+
+  pub form-ranges : (k : ℕ) → k < tasksOf s → taskOk (boardsOf s) (tasksOf s) (textTask s k) ≡ true
+  form-ranges k h = f .lines k h .ranges
+
+  -- the tasks of the plan are those of the lines
+  pub form-task : (k : ℕ) → k < tasksOf s → taskAt (textPlan s) k ≡ textTask s k
+  form-task = made-task (boardsOf s) (tasksOf s) (textTask s) (form-tasks .1) form-ranges
+
+  pub form-fault : firstFault (tasksOf s) (taskAt (textPlan s)) ≡ firstFault (tasksOf s) (textTask s)
+  form-fault = fault-same (tasksOf s) (taskAt (textPlan s)) (textTask s) form-task
+
+  form-kept : rangesOk (textPlan s) ≡ true
+  form-kept =
+      made-ranges (boardsOf s) (tasksOf s) (textTask s) (form-tasks .1) form-ranges (few-boards s (f .sizes) .0) (few-boards s (f .sizes) .1) (form-tasks .0)
+
+module _ (s : List ℕ) (z : textAnswer s .code ≡ 0) where
+  pub read-plan : readingOf s .plan ≡ textPlan s
+  unfolding readingOf
+  read-plan = rw (eq-eqb (textAnswer s .code) 0 z)
+
+  -- its arrays have their lengths
+  pub read-sized : Sized (readingOf s .plan)
+  read-sized = rw read-plan (planOf-sized (boardsOf s) (tasksOf s) (textTask s))
+
+  -- a read plan is accepted
+  pub read-accepted : isAccepted (readingOf s .plan) ≡ true
+  unfolding isAccepted planOf
+  read-accepted =
+      let f = text-ok s z .form in
+      rw read-plan (and-of (form-kept s f) (ap isGranted (form-fault s f ∙ text-ok s z .pairs)))

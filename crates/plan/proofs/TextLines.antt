@@ -1,0 +1,48 @@
+-- The lines of a text, and what a first line keeps.
+use Prim.Native.Nat.{ℕ, zero, suc, _+_, _<_, _≤_}
+use mathlib.Core.List.{List, [], _∷_}
+use mathlib.Core.Bool.{Bool, true}
+use mathlib.Core.Path.{_≡_, refl}
+use native.Mathlib.Numerals.{add-one}
+use lib.ListN.{length, getD}
+use lib.Dec.{eqb}
+use Rattle.laws.proofs.Cases.{and-l, and-r}
+use Rattle.laws.proofs.Conj.{conj-at}
+use Rattle.laws.specs.Digits.{digitsOf}
+use Rattle.laws.specs.Lists.{same}
+use Rattle.laws.specs.Split.{after}
+use Rattle.text.proofs.Numerals.{number-spelt}
+use Rattle.text.specs.Bytes.{bytes}
+use Rattle.text.specs.Number.{isNumber, valueOf}
+use Rattle.text.specs.Line.{LF, skip, fields, field}
+use Rattle.text.specs.Items.{between}
+use Rattle.plan.specs.Read.{ranged, sizesOk}
+use Rattle.plan.proofs.PlanTasks.{between-facts}
+
+pub skip-suc : (n : ℕ) (s : List ℕ) → skip (suc n) s ≡ after LF (skip n s)
+unfolding skip
+skip-suc zero s = refl
+skip-suc (suc n) s = skip-suc n (after LF s)
+
+pub skip-turn : (n : ℕ) (s : List ℕ) → skip (n + 1) s ≡ after LF (skip n s)
+skip-turn n s = rw add-one (skip-suc n s)
+
+abbrev sizesTests : List ℕ → List Bool
+sizesTests line =
+    eqb (length (fields line)) 4
+    ∷ same (field line 0) (bytes "plan")
+    ∷ same (field line 1) (bytes "1")
+    ∷ ranged 1 8 (field line 2)
+    ∷ ranged 1 64 (field line 3)
+    ∷ []
+
+pub sizes-test : (line : List ℕ) → sizesOk line ≡ true → (i : ℕ) → i < 5 → getD (sizesTests line) i true ≡ true
+unfolding sizesOk
+sizes-test line h i l = conj-at (sizesTests line) h i l
+
+pub number-range :
+    (low high : ℕ) (s : List ℕ) → ranged low high s ≡ true
+    → (digitsOf (valueOf s) ≡ s) × (low ≤ valueOf s) × (valueOf s ≤ high)
+number-range low high s h =
+    let r = between-facts low high (valueOf s) (and-r (isNumber s) (between low high (valueOf s)) h) in
+    (number-spelt s (and-l (isNumber s) (between low high (valueOf s)) h), r .0, r .1)

@@ -1,0 +1,95 @@
+-- DEMAND 1. Every call answers one of its table's numbers, says what the table says, and leaves what document 01 says.
+-- Tasks are counted from 0: a report or drop names task i by i + 1.
+use Prim.Native.Nat.{ℕ, _≤_, _<_}
+use mathlib.Core.Path.{_≡_}
+use mathlib.Core.Logic.{_↔_, _⊎_}
+use mathlib.Core.Bool.{true}
+use mathlib.Core.List.{List}
+use lib.ListN.{length}
+use Rattle.plan.specs.Pairs.{pairCode}
+use Rattle.plan.specs.Value.{taskAt, rangesOk, isAccepted}
+use Rattle.plan.specs.Read.{readingOf}
+use Rattle.plan.specs.Write.{writtenOf, bufferAfter}
+use Rattle.plan.specs.declared.Plan.{Plan}
+use Rattle.book.specs.Open.{openingOf}
+use Rattle.book.specs.Report.{reportedOf}
+use Rattle.book.specs.Drop.{droppedOf}
+use Rattle.book.specs.Early.{figureOf}
+use Rattle.book.specs.declared.Book.{Book}
+use Rattle.promises.specs.Runs.{SizedPlan, Sized}
+use Rattle.promises.specs.Says.{FirstFaulty, ReadingSays, OpeningSays, ReportSays, DropSays, FigureSays, WriteSays}
+use Rattle.promises.proofs.Judged as judged
+use Rattle.promises.proofs.codes.Reading as read-codes
+use Rattle.promises.proofs.codes.Book as book-codes
+use Rattle.promises.proofs.codes.Writing as write-codes
+
+pub reading-code : (text : List ℕ) → readingOf text .answer .code ≤ 8
+reading-code = read-codes.reading-code
+
+pub reading-says : (text : List ℕ) → ReadingSays text (readingOf text)
+reading-says = read-codes.reading-says
+
+-- refused with 6, 7 or 8 it names the first faulty pair, by a, then by b
+pub reading-pair :
+    (text : List ℕ) → 6 ≤ readingOf text .answer .code
+    → FirstFaulty text (readingOf text .answer .code) (readingOf text .answer .first) (readingOf text .answer .second)
+reading-pair = read-codes.reading-pair
+
+-- a plan is accepted exactly when its ranges are kept and no pair is faulty
+pub plan-accepted :
+    (plan : Plan)
+    → (isAccepted plan ≡ true)
+    ↔ ((rangesOk plan ≡ true) × ((a b : ℕ) → a ≤ b → b < plan .tasks → pairCode (taskAt plan) a b ≡ 0))
+plan-accepted = judged.plan-accepted
+
+pub opening-code : (plan : Plan) → (openingOf plan .answer .code ≡ 0) ⊎ (openingOf plan .answer .code ≡ 9)
+opening-code = book-codes.opening-code
+
+pub opening-says : (plan : Plan) → OpeningSays plan (openingOf plan)
+opening-says = book-codes.opening-says
+
+pub report-code :
+    (book : Book) (task tick : ℕ)
+    → (reportedOf book task tick .answer .code ≡ 0)
+    ⊎ ((9 ≤ reportedOf book task tick .answer .code) × (reportedOf book task tick .answer .code ≤ 15))
+report-code = book-codes.report-code
+
+pub report-says : (book : Book) (task tick : ℕ) → ReportSays book task tick (reportedOf book task tick)
+report-says = book-codes.report-says
+
+pub drop-code :
+    (book : Book) (task : ℕ)
+    → (droppedOf book task .answer .code ≡ 0)
+    ⊎ ((droppedOf book task .answer .code ≡ 9) ⊎ ((droppedOf book task .answer .code ≡ 10) ⊎ (droppedOf book task .answer .code ≡ 19)))
+drop-code = book-codes.drop-code
+
+pub drop-says : (book : Book) (task : ℕ) → DropSays book task (droppedOf book task)
+drop-says = book-codes.drop-says
+
+pub figure-code : (book : Book) → (figureOf book .answer .code ≡ 0) ⊎ (figureOf book .answer .code ≡ 9)
+figure-code = book-codes.figure-code
+
+pub figure-says : (book : Book) → FigureSays book (figureOf book)
+figure-says = book-codes.figure-says
+
+pub write-code :
+    (plan : Plan) (out : List ℕ)
+    → (writtenOf plan (length out) .answer .code ≡ 0)
+    ⊎ ((writtenOf plan (length out) .answer .code ≡ 9) ⊎ (writtenOf plan (length out) .answer .code ≡ 16))
+write-code = write-codes.write-code
+
+pub write-says : (plan : Plan) (out : List ℕ) → WriteSays plan out (writtenOf plan (length out)) (bufferAfter plan out)
+write-says = write-codes.write-says
+
+-- what is handed out has the arrays' lengths
+pub reading-sized : (text : List ℕ) → SizedPlan (readingOf text .plan)
+reading-sized = read-codes.reading-sized
+
+pub opening-sized : (plan : Plan) → SizedPlan plan → Sized (openingOf plan .book)
+opening-sized = book-codes.opening-sized
+
+pub report-sized : (book : Book) (task tick : ℕ) → Sized book → Sized (reportedOf book task tick .book)
+report-sized = book-codes.reported-sized
+
+pub drop-sized : (book : Book) (task : ℕ) → Sized book → Sized (droppedOf book task .book)
+drop-sized = book-codes.dropped-sized

@@ -1,0 +1,49 @@
+-- DEMAND 3. Of an accepted plan, its opened book and any list of reports, drops among them.
+-- Tasks are counted from 0: a report or drop names task i by i + 1.
+use Prim.Native.Nat.{ℕ, _≤_, _<_}
+use mathlib.Core.Path.{_≡_}
+use mathlib.Core.Logic.{_≢_, _⊎_}
+use mathlib.Core.Bool.{true}
+use mathlib.Core.List.{List, _++_}
+use Rattle.theory.specs.Events.{Event}
+use Rattle.plan.specs.Pairs.{clash}
+use Rattle.plan.specs.Value.{at, taskAt, isAccepted}
+use Rattle.plan.specs.declared.Plan.{Plan}
+use Rattle.book.specs.Early.{figureOf}
+use Rattle.promises.specs.Runs.{SizedPlan, openedBook, runOf, acceptedOf, SameEvents, Running, Ended, Started, startOf}
+use Rattle.promises.specs.Runs.{InOrder, EarlyBy}
+use Rattle.promises.proofs.RunView as run-view
+use Rattle.promises.proofs.SoundBook as sound-book
+
+module _ (plan : Plan) (size : SizedPlan plan) (ok : isAccepted plan ≡ true) where
+  module _ (events : List Event) where
+    -- clashing tasks stand in plan order, and the later one starts no sooner than the earlier one has ended
+    pub clashing-in-order :
+        (a b : ℕ) → a < plan .tasks → b < plan .tasks → a ≢ b → clash (taskAt plan) a b ≡ true
+        → InOrder plan (runOf plan events) a b ⊎ InOrder plan (runOf plan events) b a
+    clashing-in-order = sound-book.clash-order plan size ok (runOf plan events) (sound-book.on-run plan size ok events)
+
+    -- and never run at once
+    pub clashing-never-at-once :
+        (a b : ℕ) → a < plan .tasks → b < plan .tasks → a ≢ b → clash (taskAt plan) a b ≡ true
+        → Running (runOf plan events) a → Running (runOf plan events) b → ⊥
+    clashing-never-at-once = sound-book.never-both plan size ok (runOf plan events) (sound-book.on-run plan size ok events)
+
+    -- no task starts after its planned start
+    pub nobody-late :
+        (i : ℕ) → i < plan .tasks → Started (runOf plan events) i → startOf (runOf plan events) i ≤ at (plan .begin) i
+    nobody-late = sound-book.not-late plan size ok (runOf plan events) (sound-book.on-run plan size ok events)
+
+    -- the figure shown is kept: every task not ended then, so every one not started then, starts and ends at least that early,
+    -- and so does one that is dropped later
+    pub figure-kept :
+        (later : List Event) (i : ℕ) → i < plan .tasks → (Ended (runOf plan events) i → ⊥)
+        → EarlyBy plan (figureOf (runOf plan events) .early) (runOf plan (events ++ later)) i
+    figure-kept = sound-book.kept-run plan size ok events
+
+  -- the same accepted reports and the same accepted drops, in whatever order, leave the same book
+  pub same-book :
+      (events others : List Event)
+      → SameEvents (acceptedOf (openedBook plan) events) (acceptedOf (openedBook plan) others)
+      → runOf plan events ≡ runOf plan others
+  same-book events others same = run-view.same-after (openedBook plan) events others (run-view.opened-good plan ok size) same

@@ -1,0 +1,39 @@
+-- What an accepted plan says: its ranges and its pairs, and that tasks of one board stand in a row.
+use Prim.Native.Nat.{ℕ, _≤_, _<_}
+use native.Mathlib.Omega.{arith}
+use mathlib.Core.Bool.{true}
+use mathlib.Core.Path.{_≡_, sym}
+use mathlib.Core.Logic.{_↔_, ⊎-elim}
+use borrow.Author.Tests.{eq-eqb, eqb-true, leb-true}
+use Rattle.laws.proofs.Cases.{and-l, and-r, and-of}
+use Rattle.plan.specs.Pairs.{pairCode}
+use Rattle.plan.specs.Value.{at, taskAt, rangesOk, isAccepted}
+use Rattle.plan.specs.declared.Plan.{Plan}
+use Rattle.plan.proofs.FirstFault.{fault-none}
+use Rattle.view.proofs.Accepted.{plan-facts}
+use Rattle.book.proofs.Fits.{plan-turns}
+
+pub plan-accepted :
+    (plan : Plan)
+    → (isAccepted plan ≡ true)
+    ↔ ((rangesOk plan ≡ true) × ((a b : ℕ) → a ≤ b → b < plan .tasks → pairCode (taskAt plan) a b ≡ 0))
+unfolding isAccepted
+plan-accepted plan =
+    let none = fault-none (plan .tasks) (taskAt plan) in (
+      λ ok. (and-l _ _ ok, none .0 (eqb-true _ 0 (and-r (rangesOk plan) _ ok))),
+      λ r. and-of (r .0) (eq-eqb _ 0 (none .1 (r .1))),
+    )
+
+pub first-run :
+    (plan : Plan) → isAccepted plan ≡ true → (i j k : ℕ) → j < plan .tasks → k < plan .tasks
+    → at (plan .board) k ≡ at (plan .board) j → at (plan .begin) k < at (plan .begin) j
+    → at (plan .finish) j ≤ at (plan .begin) i → at (plan .finish) k ≤ at (plan .begin) i
+first-run plan ok i j k lj lk same sooner waits =
+    let lasts = plan-facts plan ok .task j lj .lasts in
+    ⊎-elim
+    (λ w. let f = leb-true (at (plan .finish) k) (at (plan .begin) j) w in omega (arith, f, lasts, waits))
+    (λ w. let f = leb-true (at (plan .finish) j) (at (plan .begin) k) w in absurd (omega (arith, f, lasts, sooner)))
+    (plan-turns plan ok j k lj lk (λ e. differ e) (sym same))
+  where
+    differ : j ≡ k → ⊥
+    differ e = let q : at (plan .begin) k < at (plan .begin) k = rw e at sooner in omega (arith, q)

@@ -1,0 +1,191 @@
+-- What a reading answers, case by case.
+use Prim.Native.Nat.{ℕ, _+_, _-_, _≤_}
+use native.Mathlib.Omega.{arith}
+use mathlib.Core.Bool.{true, not, _&&_, _||_}
+use mathlib.Core.List.{List}
+use mathlib.Core.Path.{_≡_, refl, sym, ap, _∙_}
+use mathlib.Core.Logic.{_≢_, _⊎_, inl, inr, ⊎-elim}
+use lib.Dec.{eqb, ltb}
+use lib.ListN.{length}
+use borrow.Author.Tests.{eq-eqb, ne-eqb}
+use Rattle.laws.proofs.Cases.{by-bool, by-eq}
+use Rattle.laws.proofs.Scan.{Found, Nothing, scan-cases}
+use Rattle.laws.specs.Lists.{anyOf, same}
+use Rattle.text.specs.Bytes.{bytes}
+use Rattle.text.specs.Line.{hasLine, skip, lineAt, fields, field}
+use Rattle.plan.specs.Answer.{refuse, granted, isGranted, isRefused}
+use Rattle.plan.specs.Task.{Task}
+use Rattle.plan.specs.Pairs.{overlap, sameBoard, clashByDrive, breaksAfter, pairCode, firstFault}
+use Rattle.plan.specs.Value.{zeroPlan}
+use Rattle.plan.specs.Read.{sizesOk, boardsOf, tasksOf, worst, lineCode, lineAnswer, linesAnswer, textTask, formAnswer, textAnswer, readingOf}
+use Rattle.plan.specs.declared.Answer.{Answer}
+use Rattle.plan.specs.declared.Reading.{Reading}
+use Rattle.plan.proofs.FirstFault.{FirstPair, refused-code, fault-first, fault-granted}
+use Rattle.plan.proofs.PlanTasks.{planOf-sized}
+use Rattle.plan.proofs.ReadOk.{read-accepted}
+use Rattle.book.specs.Sized.{SizedPlan}
+use Rattle.promises.specs.Says.{FirstFaulty, ReadingSays}
+
+abbrev LineNumber : ℕ → Type 0
+LineNumber code = (code ≡ 0) ⊎ ((code ≡ 3) ⊎ (code ≡ 4))
+
+worst-number : (codes : List ℕ) → LineNumber (worst codes)
+unfolding worst
+worst-number codes =
+    by-bool (anyOf (eqb 3) codes) (λ e. rw e (inr (inl refl)))
+    (λ e. by-bool (anyOf (eqb 4) codes) (λ f. rw (e, f) (inr (inr refl))) (λ f. rw (e, f) (inl refl)))
+
+line-number : (s : List ℕ) (k : ℕ) → LineNumber (lineAnswer s k .code)
+unfolding lineAnswer lineCode
+line-number s k =
+    by-bool (not (hasLine (skip k s))) (λ e. rw e (inr (inl refl)))
+    (λ e.
+    by-bool (not (eqb (length (fields (lineAt s k))) 7 && same (field (lineAt s k) 0) (bytes "task"))) (λ f. rw (e, f) (inr (inl refl)))
+    (λ f. rw (e, f) (worst-number _)))
+
+line-says : (s : List ℕ) (k : ℕ) → lineAnswer s k ≡ refuse (lineAnswer s k .code) (k + 1) 0
+unfolding lineAnswer
+line-says s k = refl
+
+abbrev PairNumber : ℕ → Type 0
+PairNumber code = (code ≡ 0) ⊎ ((6 ≤ code) × (code ≤ 8))
+
+pair-number : (task : ℕ → Task) (a b : ℕ) → PairNumber (pairCode task a b)
+unfolding pairCode
+pair-number task a b =
+    by-bool ((not (eqb a b) && overlap (task a) (task b)) && sameBoard (task a) (task b))
+    (λ e. rw e (inr (omega arith, omega arith)))
+    (λ e.
+    by-bool ((not (eqb a b) && overlap (task a) (task b)) && clashByDrive (task a .holds) (task b .holds))
+    (λ f. rw (e, f) (inr (omega arith, omega arith)))
+    (λ f.
+    by-bool (breaksAfter task a b || breaksAfter task b a)
+    (λ h. rw (e, f, h) (inr (omega arith, omega arith)))
+    (λ h. rw (e, f, h) (inl refl))))
+
+-- a pair (a, a) has code 8 or none
+self-number : (task : ℕ → Task) (a : ℕ) → (pairCode task a a ≡ 0) ⊎ (pairCode task a a ≡ 8)
+unfolding pairCode
+self-number task a =
+    let same = eq-eqb a a refl in
+    by-bool (breaksAfter task a a || breaksAfter task a a) (λ h. rw (same, h) (inr refl)) (λ h. rw (same, h) (inl refl))
+
+module _ (s : List ℕ) where
+  refused-reading : (x : Answer) → textAnswer s ≡ x → x .code ≢ 0 → readingOf s ≡ record { answer = x; plan = zeroPlan }
+  unfolding readingOf
+  refused-reading x e n = rw (e, ne-eqb (x .code) 0 n)
+
+  abbrev Says : Type 0
+  Says = ReadingSays s (readingOf s)
+
+  lines-say : isRefused (linesAnswer s) ≡ true → textAnswer s ≡ linesAnswer s → Says
+  unfolding linesAnswer
+  lines-say r e = go (scan-cases isRefused granted (lineAnswer s) 1 (tasksOf s + 1))
+    where
+      go : Found isRefused granted (lineAnswer s) 1 (tasksOf s + 1) ⊎ Nothing isRefused granted (lineAnswer s) 1 (tasksOf s + 1) → Says
+      go (inl f) =
+          let n = refused-code (lineAnswer s (f .place)) (f .stops) in
+          let is = e ∙ f .is ∙ line-says s (f .place) in
+          ⊎-elim (λ z. absurd (n z))
+          (λ c. ReadingSays.task-line (lineAnswer s (f .place) .code) (f .place + 1) c (omega (arith, f .from)) (omega (arith, f .below)) (refused-reading _ is n))
+          (line-number s (f .place))
+      go (inr f) = let z : _≡_ {A = ℕ} 0 1 = cc (rw (f .is) at r) in absurd (omega arith)
+
+  -- what the search finds, with tasks counted from 1
+  named :
+      (f : FirstPair (tasksOf s) (textTask s))
+      → (6 ≤ pairCode (textTask s) (f .a) (f .b)) × (pairCode (textTask s) (f .a) (f .b) ≤ 8)
+      → FirstFaulty s (pairCode (textTask s) (f .a) (f .b)) (f .a + 1) (f .b + 1)
+  named f c =
+      let a : f .a + 1 - 1 ≡ f .a = omega arith in
+      let b : f .b + 1 - 1 ≡ f .b = omega arith in
+      record {
+        from = omega arith;
+        ordered = omega (arith, f .ordered);
+        to = omega (arith, f .below);
+        number = c;
+        faulty = rw (a, b);
+        first = λ x y p h l w.
+            f .earlier (x - 1) (y - 1) (omega (arith, h)) (omega (arith, l, h, p))
+            (⊎-elim (λ m. inl (omega (arith, m, p))) (λ m. inr (omega (arith, m .0), omega (arith, m .1, h, p))) w);
+        two = λ n.
+            by-eq (f .a) (f .b)
+            (λ same.
+            let code : pairCode (textTask s) (f .a) (f .a) ≡ pairCode (textTask s) (f .a) (f .b) =
+            ap (pairCode (textTask s) (f .a)) same in
+            ⊎-elim (λ z. absurd (f .faulty (sym code ∙ z))) (λ z. absurd (n (sym code ∙ z))) (self-number (textTask s) (f .a)))
+            (λ differ. omega (arith, f .ordered, differ));
+      }
+
+  pairs-say : textAnswer s ≡ firstFault (tasksOf s) (textTask s) → Says
+  unfolding readingOf
+  pairs-say e =
+      by-eq (firstFault (tasksOf s) (textTask s) .code) 0
+      (λ z.
+      let is = e ∙ fault-granted (tasksOf s) (textTask s) z in
+      ReadingSays.read is (read-accepted s (ap (λ (x : Answer). x .code) is)))
+      (λ n.
+      let f = fault-first (tasksOf s) (textTask s) n in
+      ⊎-elim (λ z. absurd (f .faulty z))
+      (λ c. ReadingSays.faulty-pair _ _ _ (named f c) (refused-reading _ (e ∙ f .is) (f .faulty)))
+      (pair-number (textTask s) (f .a) (f .b)))
+
+  form-refused : (x : Answer) → formAnswer s ≡ x → isRefused x ≡ true → textAnswer s ≡ x
+  unfolding textAnswer
+  form-refused x e r = rw (e, r)
+
+  form-passed : formAnswer s ≡ granted → textAnswer s ≡ firstFault (tasksOf s) (textTask s)
+  unfolding textAnswer
+  form-passed e = rw e
+
+  pub reading-says : Says
+  unfolding formAnswer
+  reading-says =
+      by-bool (ltb 32768 (length s)) (λ a. ReadingSays.too-long (refused-reading (refuse 1 0 0) (form-refused _ (rw a) refl) (λ z. omega arith)))
+      (λ a.
+      by-bool (not (hasLine s && sizesOk (lineAt s 0)))
+      (λ b. ReadingSays.first-line (refused-reading (refuse 2 1 0) (form-refused _ (rw (a, b)) refl) (λ z. omega arith)))
+      (λ b.
+      by-bool (isRefused (linesAnswer s)) (λ c. lines-say c (form-refused _ (rw (a, b, c)) c))
+      (λ c.
+      by-bool (ltb 0 (length (skip (tasksOf s + 1) s)))
+      (λ d. ReadingSays.more-bytes (refused-reading (refuse 5 (tasksOf s + 2) 0) (form-refused _ (rw (a, b, c, d)) refl) (λ z. omega arith)))
+      (λ d. pairs-say (form-passed (rw (a, b, c, d)))))))
+
+pub reading-code : (s : List ℕ) → readingOf s .answer .code ≤ 8
+reading-code s = go (readingOf s) (reading-says s)
+  where
+    go : (r : Reading) → ReadingSays s r → r .answer .code ≤ 8
+    go r (ReadingSays.read e a) = rw e (omega arith)
+    go r (ReadingSays.too-long e) = rw e (omega arith)
+    go r (ReadingSays.first-line e) = rw e (omega arith)
+    go r (ReadingSays.task-line code line c l h e) = rw e (⊎-elim (λ q. omega arith) (λ q. omega arith) c)
+    go r (ReadingSays.more-bytes e) = rw e (omega arith)
+    go r (ReadingSays.faulty-pair code a b f e) = rw e (f .number .1)
+
+-- a reading refused with 6, 7 or 8 names the first faulty pair
+pub reading-pair :
+    (s : List ℕ) → 6 ≤ readingOf s .answer .code
+    → FirstFaulty s (readingOf s .answer .code) (readingOf s .answer .first) (readingOf s .answer .second)
+reading-pair s h = go (readingOf s) (reading-says s) h
+  where
+    go :
+        (r : Reading) → ReadingSays s r → 6 ≤ r .answer .code
+        → FirstFaulty s (r .answer .code) (r .answer .first) (r .answer .second)
+    go r (ReadingSays.read e a) h = let z : 6 ≤ 0 = rw e at h in absurd (omega arith)
+    go r (ReadingSays.too-long e) h = let z : 6 ≤ 1 = rw e at h in absurd (omega arith)
+    go r (ReadingSays.first-line e) h = let z : 6 ≤ 2 = rw e at h in absurd (omega arith)
+    go r (ReadingSays.task-line code line c l m e) h =
+        let z : 6 ≤ code = rw e at h in ⊎-elim (λ q. absurd (omega arith)) (λ q. absurd (omega arith)) c
+    go r (ReadingSays.more-bytes e) h = let z : 6 ≤ 5 = rw e at h in absurd (omega arith)
+    go r (ReadingSays.faulty-pair code a b f e) h = rw e f
+
+pub zero-sized : SizedPlan zeroPlan
+zero-sized = planOf-sized 0 0 _
+
+pub reading-sized : (s : List ℕ) → SizedPlan (readingOf s .plan)
+unfolding readingOf
+reading-sized s =
+    by-bool (isGranted (textAnswer s))
+    (λ e. rw e (planOf-sized (boardsOf s) (tasksOf s) (textTask s)))
+    (λ e. rw e zero-sized)

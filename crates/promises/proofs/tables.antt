@@ -1,0 +1,6 @@
+pub mod Computing
+pub mod Starred
+pub mod Listing
+pub mod Impostors
+pub mod Writer
+pub mod Weaker

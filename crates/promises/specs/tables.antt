@@ -1,0 +1,5 @@
+pub mod PlanA
+pub mod Starred
+pub mod Listing
+pub mod Impostors
+pub mod Weaker

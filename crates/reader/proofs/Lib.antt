@@ -1,0 +1,4 @@
+pub mod FieldLaws
+pub mod LineLaws
+pub mod FormLaws
+pub mod TaskLaws

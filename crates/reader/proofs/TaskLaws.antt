@@ -1,0 +1,284 @@
+-- The task lines read one after another: what each adds, the first refusal, the end.
+use Prim.Native.Nat.{ℕ, suc, _+_, _-_, _*_, _≤_, _<_}
+use mathlib.Core.Path.{_≡_, refl, sym, ap, _∙_}
+use mathlib.Core.Logic.{_≢_}
+use mathlib.Core.Bool.{true, false, not, cond}
+use mathlib.Core.List.{List}
+use native.Mathlib.Omega.{arith}
+use lib.Dec.{ltb, leb, eqb}
+use lib.ListN.{length, take, drop, set, replicate, length-replicate}
+use lib.Seq.{sets, take-at, length-take-le}
+use borrow.Author.Tests.{le-ltb, lt-ltb, le-leb, eq-eqb, ne-eqb, eqb-true}
+use Rattle.laws.proofs.Cases.{by-bool, guard-passed}
+use Rattle.laws.specs.Each.{each, rows}
+use Rattle.laws.proofs.Each.{each-turn, rows-turn, length-each, length-rows}
+use Rattle.laws.specs.Scan.{scanTo}
+use Rattle.laws.proofs.Scan.{scan-turn, scan-hit, scan-end}
+use Rattle.laws.specs.Split
+use Rattle.laws.specs.Split.{indexOf, before}
+use Rattle.text.specs.Line.{LF, hasLine, skip, lineAt}
+use Rattle.text.proofs.Parts.{found-le}
+use Rattle.text.specs.Items.{someItems}
+use Rattle.text.specs.declared.Items.{Items}
+use Rattle.text.proofs.Answers.{items-kept}
+use Rattle.plan.specs.Answer.{refuse, granted, isRefused}
+use Rattle.plan.specs.Task.{Task}
+use Rattle.plan.specs.Value.{planOf}
+use Rattle.plan.specs.Read.{boardsOf, tasksOf, lineTask, lineCode, lineAnswer, linesAnswer, textTask, formAnswer, linesOf}
+use Rattle.reader.specs.private.Fields.{noLine, lineRead, nextLine, FirstRead, ListFits}
+use Rattle.reader.specs.declared.Line.{Line}
+use Rattle.plan.proofs.PlanTasks.{TaskFits, task-fits}
+use Rattle.plan.proofs.TextLines.{skip-turn}
+use Rattle.plan.proofs.ReadOk.{LineOk, line-ok}
+use Rattle.plan.specs.declared.Reading.{Reading}
+use Rattle.reader.proofs.FormLaws.{refusedReading, reading-refused, answer-lines}
+
+-- a column of 64 numbers and a grid of rows, the first n made, the rest 0
+unfoldable pub column : (ℕ → ℕ) → ℕ → List ℕ
+column f n = each n f (replicate 64 0)
+
+unfoldable pub grid : ℕ → ℕ → (ℕ → List ℕ) → ℕ → List ℕ
+grid width places f n = rows width n f (replicate places 0)
+
+pub column-start : (f : ℕ → ℕ) → replicate 64 0 ≡ column f 0
+unfolding column each
+column-start f = refl
+
+pub column-turn : (f : ℕ → ℕ) (n v : ℕ) → v ≡ f n → set (column f n) n v ≡ column f (n + 1)
+unfolding column
+column-turn f n v e = ap (set (each n f (replicate 64 0)) n) e ∙ sym (each-turn n f (replicate 64 0))
+
+pub column-length : (f : ℕ → ℕ) (n : ℕ) → length (column f n) ≡ 64
+unfolding column
+column-length f n = length-each n f (replicate 64 0) ∙ length-replicate {A = ℕ} 64 0
+
+pub grid-start : (width places : ℕ) (f : ℕ → List ℕ) → replicate places 0 ≡ grid width places f 0
+unfolding grid rows
+grid-start width places f = refl
+
+pub grid-turn : (width places : ℕ) (f : ℕ → List ℕ) (n : ℕ) (row : List ℕ) → row ≡ f n
+    → sets (grid width places f n) (width * n) row ≡ grid width places f (n + 1)
+unfolding grid
+grid-turn width places f n row e =
+    ap (sets (rows width n f (replicate places 0)) (width * n)) e ∙ sym (rows-turn width n f (replicate places 0))
+
+pub grid-length : (width places : ℕ) (f : ℕ → List ℕ) (n : ℕ) → length (grid width places f n) ≡ places
+unfolding grid
+grid-length width places f n = length-rows width n f (replicate places 0) ∙ length-replicate {A = ℕ} places 0
+
+pub plan-made : (boards tasks : ℕ) (task : ℕ → Task)
+    → planOf boards tasks task
+    ≡ record {
+      boards = boards;
+      tasks = tasks;
+      board = column (λ k. task k .board) tasks;
+      begin = column (λ k. task k .begin) tasks;
+      finish = column (λ k. task k .finish) tasks;
+      holds = grid 32 2048 (λ k. task k .holds) tasks;
+      after = grid 64 4096 (λ k. task k .after) tasks;
+    }
+unfolding planOf column grid
+plan-made boards tasks task = refl
+
+-- the line that begins the text
+module _ (boards tasks : ℕ) (s : List ℕ) (k : ℕ) {r : ℕ} (p : r ≡ indexOf LF s) where
+  pub next-missing : r ≡ length s → noLine 3 ≡ nextLine boards tasks s k
+  unfolding nextLine
+  next-missing e = rw (le-ltb (indexOf LF s) (length s) (omega arith))
+
+  pub next-there : (r ≡ length s → ⊥) → lineRead boards tasks (before LF s) k ≡ nextLine boards tasks s k
+  unfolding nextLine
+  next-there n = rw (lt-ltb (indexOf LF s) (length s) (omega (arith, found-le LF s p, n)))
+
+pub past-line : (s : List ℕ) {r : ℕ} {more : List ℕ} → r ≡ indexOf LF s → more ≡ drop (suc r) s → more ≡ Split.after LF s
+past-line s p q = q ∙ ap (λ (n : ℕ). drop (suc n) s) p
+
+line-code : (boards tasks : ℕ) (line : List ℕ) (k : ℕ) → lineRead boards tasks line k .code ≡ lineCode boards tasks line k
+unfolding lineRead
+line-code boards tasks line k = by-bool (eqb (lineCode boards tasks line k) 0)
+    (λ e. rw e (sym (eqb-true (lineCode boards tasks line k) 0 e)))
+    (λ e. rw e)
+
+next-code : (boards tasks : ℕ) (s : List ℕ) (k : ℕ) → nextLine boards tasks s k .code ≡ cond (not (hasLine s)) 3 (lineCode boards tasks (before LF s) k)
+unfolding nextLine
+next-code boards tasks s k = by-bool (hasLine s) (λ e. rw e (line-code boards tasks (before LF s) k)) (λ e. rw e)
+
+-- what a granted line says is the text's task
+pub record LineSays (line : Line) (task : Task) : Type 0 where
+  pub board : line .board ≡ task .board
+  pub begin : line .begin ≡ task .begin
+  pub finish : line .finish ≡ task .finish
+  pub holds : line .holds ≡ someItems (task .holds)
+  pub after : line .after ≡ someItems (task .after)
+
+read-says : (boards tasks : ℕ) (s : List ℕ) (k : ℕ) → lineCode boards tasks s k ≡ 0 → LineSays (lineRead boards tasks s k) (lineTask s)
+unfolding lineRead lineTask
+read-says boards tasks s k z =
+    let e : eqb (lineCode boards tasks s k) 0 ≡ true = eq-eqb (lineCode boards tasks s k) 0 z in
+    record { board = rw e; begin = rw e; finish = rw e; holds = rw e; after = rw e }
+
+next-says : (boards tasks : ℕ) (s : List ℕ) (k : ℕ) → hasLine s ≡ true → lineCode boards tasks (before LF s) k ≡ 0 → LineSays (nextLine boards tasks s k) (lineTask (before LF s))
+unfolding nextLine
+next-says boards tasks s k h z = rw h (read-says boards tasks (before LF s) k z)
+
+-- the items of a list that has at most 64 are what is taken of its places
+pub items-back : (l : List ℕ) → length l ≤ 64 → take (someItems l .count) (someItems l .items) ≡ l
+items-back l h = ap (take (length l)) (items-kept l h) ∙ take-at l (replicate (64 - length l) 0) (length l) refl
+
+-- a list put where it fits
+pub list-put : (out : List ℕ) (at : ℕ) (list : Items) {written : List ℕ} → ListFits out at list → length (list .items) ≡ 64
+    → written
+    ≡ cond (leb (at + length (take (list .count) (list .items))) (length out)) (sets out at (take (list .count) (list .items))) out
+    → written ≡ sets out at (take (list .count) (list .items))
+list-put out at list f l e =
+    let n : length (take (list .count) (list .items)) ≡ list .count = length-take-le (list .count) (list .items) (omega (arith, f .few)) in
+    e ∙ rw (le-leb (at + length (take (list .count) (list .items))) (length out) (omega (arith, f .fits)))
+
+-- k lines are read: what is known of them, and of the rest
+pub record Going (s : List ℕ) (k : ℕ) (board begin finish holds after rest : List ℕ) : Type 0 where
+  pub rest-is : rest ≡ skip (k + 1) s
+  pub passed : linesAnswer s ≡ scanTo isRefused granted (lineAnswer s) (k + 1) (tasksOf s + 1)
+  pub board-is : board ≡ column (λ i. textTask s i .board) k
+  pub begin-is : begin ≡ column (λ i. textTask s i .begin) k
+  pub finish-is : finish ≡ column (λ i. textTask s i .finish) k
+  pub holds-is : holds ≡ grid 32 2048 (λ i. textTask s i .holds) k
+  pub after-is : after ≡ grid 64 4096 (λ i. textTask s i .after) k
+
+pub going-start : (s : List ℕ) {rest : List ℕ} → rest ≡ Split.after LF s
+    → Going s 0 (replicate 64 0) (replicate 64 0) (replicate 64 0) (replicate 2048 0) (replicate 4096 0) rest
+unfolding skip linesAnswer
+going-start s e = record {
+  rest-is = e;
+  passed = refl;
+  board-is = column-start _;
+  begin-is = column-start _;
+  finish-is = column-start _;
+  holds-is = grid-start 32 2048 _;
+  after-is = grid-start 64 4096 _;
+}
+
+module _ (s : List ℕ) (k : ℕ) {board begin finish holds after rest : List ℕ} (g : Going s k board begin finish holds after rest) where
+  pub holds-whole : 2048 ≡ length holds
+  holds-whole = sym (ap length (g .holds-is) ∙ grid-length 32 2048 _ k)
+
+  pub after-whole : 4096 ≡ length after
+  after-whole = sym (ap length (g .after-is) ∙ grid-length 64 4096 _ k)
+
+  module _ {boards tasks : ℕ} (first : FirstRead s boards tasks) (e : k ≡ tasks) where
+    all : k ≡ tasksOf s
+    all = e ∙ first .tasks-are
+
+    faultless : linesAnswer s ≡ granted
+    faultless = g .passed ∙ scan-end _ _ _ (k + 1) (tasksOf s + 1) (omega (arith, all))
+
+    rest-end : rest ≡ skip (tasksOf s + 1) s
+    rest-end = g .rest-is ∙ ap (λ (n : ℕ). skip (n + 1) s) all
+
+    pub going-more : length rest ≢ 0 → refusedReading (refuse 5 (tasks + 2) 0) ≡ linesOf s
+    going-more n =
+        let left : length rest ≡ length (skip (tasksOf s + 1) s) = ap length rest-end in
+        let more : ltb 0 (length (skip (tasksOf s + 1) s)) ≡ true = lt-ltb 0 (length (skip (tasksOf s + 1) s)) (omega (arith, left, n)) in
+        let t = first .tasks-are in
+        reading-refused s (answer-lines s first ∙ rw (faultless, more, t)) (omega arith)
+
+    pub going-end :
+        length rest ≡ 0
+        → _≡_ {A = Reading} (record {
+          answer = granted;
+          plan = record { boards = boards; tasks = tasks; board = board; begin = begin; finish = finish; holds = holds; after = after };
+        }) (linesOf s)
+    unfolding linesOf
+    going-end z =
+        let left : length rest ≡ length (skip (tasksOf s + 1) s) = ap length rest-end in
+        let done : ltb 0 (length (skip (tasksOf s + 1) s)) ≡ false = le-ltb 0 (length (skip (tasksOf s + 1) s)) (omega (arith, left)) in
+        let answer : formAnswer s ≡ granted = answer-lines s first ∙ rw (faultless, done) in
+        rw (answer, plan-made (boardsOf s) (tasksOf s) (textTask s))
+        (λ i. record {
+          answer = granted;
+          plan = record {
+            boards = (first .boards-are) i;
+            tasks = (first .tasks-are) i;
+            board = (g .board-is ∙ ap (column (λ j. textTask s j .board)) all) i;
+            begin = (g .begin-is ∙ ap (column (λ j. textTask s j .begin)) all) i;
+            finish = (g .finish-is ∙ ap (column (λ j. textTask s j .finish)) all) i;
+            holds = (g .holds-is ∙ ap (grid 32 2048 (λ j. textTask s j .holds)) all) i;
+            after = (g .after-is ∙ ap (grid 64 4096 (λ j. textTask s j .after)) all) i;
+          };
+        })
+
+  module _ {boards tasks : ℕ} (first : FirstRead s boards tasks) (before-last : k < tasks) {line : Line} (said : line ≡ nextLine boards tasks rest (k + 1)) where
+    below : k < tasksOf s
+    below = omega (arith, first .tasks-are)
+
+    l : line ≡ nextLine (boardsOf s) (tasksOf s) rest (k + 1)
+    l = said ∙ rw (first .boards-are, first .tasks-are)
+
+    the-code : line .code ≡ lineAnswer s (k + 1) .code
+    unfolding lineAnswer
+    the-code = rw (l, g .rest-is) (next-code (boardsOf s) (tasksOf s) (skip (k + 1) s) (k + 1))
+
+    the-answer : lineAnswer s (k + 1) ≡ refuse (line .code) (k + 2) 0
+    unfolding lineAnswer
+    the-answer = let e : k + 1 + 1 ≡ k + 2 = omega arith in λ i. refuse (sym the-code i) (e i) 0
+
+    pub going-refused : line .code ≢ 0 → refusedReading (refuse (line .code) (k + 2) 0) ≡ linesOf s
+    going-refused n =
+        let stops : isRefused (lineAnswer s (k + 1)) ≡ true = rw (the-answer, ne-eqb (line .code) 0 n) in
+        let hit : linesAnswer s ≡ refuse (line .code) (k + 2) 0 =
+        g .passed ∙ scan-hit _ _ _ (k + 1) (tasksOf s + 1) (omega (arith, below)) stops ∙ the-answer in
+        reading-refused s (answer-lines s first ∙ rw (hit, ne-eqb (line .code) 0 n)) n
+
+    module _ (z : line .code ≡ 0) where
+      line-there : LineOk s k
+      line-there = line-ok s (first .sizes) k below (sym the-code ∙ z)
+
+      line-clean : lineCode (boardsOf s) (tasksOf s) (lineAt s (k + 1)) (k + 1) ≡ 0
+      unfolding lineAnswer
+      line-clean =
+          guard-passed (not (hasLine (skip (k + 1) s))) 3 (lineCode (boardsOf s) (tasksOf s) (lineAt s (k + 1)) (k + 1)) (omega arith)
+          (sym the-code ∙ z) .1
+
+      pub says : LineSays line (textTask s k)
+      says = rw (l, g .rest-is) (next-says (boardsOf s) (tasksOf s) (skip (k + 1) s) (k + 1) (line-there .there) line-clean)
+
+      pub fits : TaskFits (boardsOf s) (tasksOf s) (textTask s k)
+      fits = task-fits (boardsOf s) (tasksOf s) (textTask s k) (line-there .ranges)
+
+      pub board-small : line .board < 256
+      board-small = omega (arith, says .board, fits .board .1, first .few-boards, first .boards-are)
+
+      pub holds-room : ListFits holds (32 * k) (line .holds)
+      holds-room =
+          let n : line .holds .count ≡ length (textTask s k .holds) = ap (λ (x : Items). x .count) (says .holds) in
+          let m : length holds ≡ 2048 = ap length (g .holds-is) ∙ grid-length 32 2048 _ k in
+          record { few = omega (arith, fits .holds .room); fits = omega (arith, fits .holds .room, first .few-tasks) }
+
+      pub after-room : ListFits after (64 * k) (line .after)
+      after-room =
+          let n : line .after .count ≡ length (textTask s k .after) = ap (λ (x : Items). x .count) (says .after) in
+          let m : length after ≡ 4096 = ap length (g .after-is) ∙ grid-length 64 4096 _ k in
+          record {
+            few = omega (arith, fits .after .room, first .few-tasks, first .tasks-are);
+            fits = omega (arith, fits .after .room, first .few-tasks, first .tasks-are);
+          }
+
+      list-back : {list : Items} {l : List ℕ} → list ≡ someItems l → length l ≤ 64 → take (list .count) (list .items) ≡ l
+      list-back {l = l} e h = rw e (items-back l h)
+
+      pub going-turn : {holds2 after2 rest2 : List ℕ}
+          → holds2 ≡ sets holds (32 * k) (take (line .holds .count) (line .holds .items))
+          → after2 ≡ sets after (64 * k) (take (line .after .count) (line .after .items)) → rest2 ≡ Split.after LF rest
+          → Going s (k + 1) (set board k (line .board)) (set begin k (line .begin)) (set finish k (line .finish)) holds2 after2 rest2
+      going-turn h a r = record {
+        rest-is = r ∙ ap (Split.after LF) (g .rest-is) ∙ sym (skip-turn (k + 1) s);
+        passed = g .passed ∙ scan-turn _ _ _ (k + 1) (tasksOf s + 1) (omega (arith, below)) (rw (the-answer, z));
+        board-is = ap (λ (x : List ℕ). set x k (line .board)) (g .board-is) ∙ column-turn _ k (line .board) (says .board);
+        begin-is = ap (λ (x : List ℕ). set x k (line .begin)) (g .begin-is) ∙ column-turn _ k (line .begin) (says .begin);
+        finish-is = ap (λ (x : List ℕ). set x k (line .finish)) (g .finish-is) ∙ column-turn _ k (line .finish) (says .finish);
+        holds-is =
+            h ∙ ap (λ (x : List ℕ). sets x (32 * k) (take (line .holds .count) (line .holds .items))) (g .holds-is)
+            ∙ grid-turn 32 2048 _ k _ (list-back (says .holds) (omega (arith, fits .holds .room)));
+        after-is =
+            a ∙ ap (λ (x : List ℕ). sets x (64 * k) (take (line .after .count) (line .after .items))) (g .after-is)
+            ∙ grid-turn 64 4096 _ k _ (list-back (says .after) (omega (arith, fits .after .room, first .few-tasks, first .tasks-are)));
+      }

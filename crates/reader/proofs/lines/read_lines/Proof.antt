@@ -1,0 +1,74 @@
+use mathlib.Core.Path.{ap, _∙_}
+use Rattle.reader.proofs.FormLaws.{refusedReading, reading-long, reading-no-line, reading-no-sizes, first-read}
+use borrow.Author.Needs.{needs}
+use Rattle.reader.proofs.lines.read_lines.Statement.{statement}
+use Rattle.reader.proofs.lines.read_lines.Tie as tie
+
+answer-of-requires : tie.Need-answer-of-requires
+answer-of-requires c κs = search needs
+
+refused-requires : tie.Need-refused-requires
+refused-requires c κs = search needs
+
+returns : tie.Need-returns
+returns c =
+    c .refused .ensures ∙ ap refusedReading (c .before .answer-of .ensures) ∙ reading-long _ (c .before .before .if1 .taken)
+
+find-requires : tie.Need-find-requires
+find-requires c κs = search needs
+
+answer-of-requires-2 : tie.Need-answer-of-requires-2
+answer-of-requires-2 c κs = search needs
+
+refused-requires-2 : tie.Need-refused-requires-2
+refused-requires-2 c κs = search needs
+
+returns-2 : tie.Need-returns-2
+returns-2 c =
+    c .refused2 .ensures ∙ ap refusedReading (c .before .answer-of2 .ensures)
+    ∙ reading-no-line _ (c .before .before .before .before .if1 .left) (c .before .before .before .find .ensures) (c .before .before .if2 .taken)
+
+part-before-requires : tie.Need-part-before-requires
+part-before-requires c κs = search needs
+
+read-sizes-requires : tie.Need-read-sizes-requires
+read-sizes-requires c κs = search needs
+
+answer-of-requires-3 : tie.Need-answer-of-requires-3
+answer-of-requires-3 c κs = search needs
+
+refused-requires-3 : tie.Need-refused-requires-3
+refused-requires-3 c κs = search needs
+
+returns-3 : tie.Need-returns-3
+returns-3 c =
+    c .refused3 .ensures ∙ ap refusedReading (c .before .answer-of3 .ensures)
+    ∙ reading-no-sizes _ (c .before .before .before .before .before .before .before .before .if1 .left) (c .before .before .before .before .before .before .before .find .ensures) (c .before .before .before .before .before .before .if2 .left)
+    (rw (c .before .before .before .before .before .part-before .ensures) at (c .before .before .before .before .read-sizes .ensures)) (c .before .before .if3 .taken)
+
+read-tasks-requires : tie.Need-read-tasks-requires
+read-tasks-requires c κs =
+    first-read _ (c .before .before .before .before .before .before .if1 .left) (c .before .before .before .before .before .find .ensures) (c .before .before .before .before .if2 .left)
+    (rw (c .before .before .before .part-before .ensures) at (c .before .before .read-sizes .ensures)) (c .if3 .left)
+
+returns-4 : tie.Need-returns-4
+returns-4 c = c .read-tasks .ensures
+
+pub read-lines-spec : {M : Type 1} → statement M
+read-lines-spec =
+    tie.close
+    (tie.spec
+    answer-of-requires
+    refused-requires
+    returns
+    find-requires
+    answer-of-requires-2
+    refused-requires-2
+    returns-2
+    part-before-requires
+    read-sizes-requires
+    answer-of-requires-3
+    refused-requires-3
+    returns-3
+    read-tasks-requires
+    returns-4)

@@ -1,0 +1,169 @@
+-- `reader::lines::read_tasks` meets its contract: what the lines so far made, and what the rest gives.
+use Prim.Native.Nat.{_-_, _≤_}
+use mathlib.Core.Path.{ap, _∙_}
+use Rattle.reader.proofs.FormLaws.{refusedReading}
+use Rattle.reader.proofs.TaskLaws.{Going, going-start, past-line, going-refused, going-turn, going-more, going-end, board-small, holds-room, after-room, holds-whole, after-whole}
+use native.Mathlib.Omega.{arith}
+use borrow.Author.Needs.{needs}
+use Rattle.reader.proofs.lines.read_tasks.Statement.{statement}
+use Rattle.reader.proofs.lines.read_tasks.Tie as tie
+
+abbrev Inv-loop : tie.InvT-loop
+Inv-loop text boards tasks board₀ begin₀ finish₀ holds₀ after₀ rest₀ k₀ board begin finish holds after rest k =
+    (k ≤ tasks) × Going text k board begin finish holds after rest
+
+abbrev μ-loop : tie.MeasureT-loop
+μ-loop text boards tasks board₀ begin₀ finish₀ holds₀ after₀ rest₀ k₀ board begin finish holds after rest k =
+    tasks - k
+
+part-after-requires : tie.Need-part-after-requires Inv-loop μ-loop
+part-after-requires c κs = search needs
+
+loop-holds : tie.Need-loop-holds Inv-loop μ-loop
+loop-holds c = (search needs, going-start _ (c .part-after .ensures))
+
+find-requires : tie.Need-find-requires Inv-loop μ-loop
+find-requires c κs = search needs
+
+add-next-line : tie.Need-add-next-line Inv-loop μ-loop
+add-next-line c = search needs
+
+next-line-requires : tie.Need-next-line-requires Inv-loop μ-loop
+next-line-requires c κs =
+    let f = c .before .before .before .before .before .pre in (f .few-boards, f .few-tasks, omega (arith, f .few-tasks), c .find .ensures)
+
+add-answer-of : tie.Need-add-answer-of Inv-loop μ-loop
+add-answer-of c = search needs
+
+answer-of-requires : tie.Need-answer-of-requires Inv-loop μ-loop
+answer-of-requires c κs = search needs
+
+refused-requires : tie.Need-refused-requires Inv-loop μ-loop
+refused-requires c κs = search needs
+
+returns : tie.Need-returns Inv-loop μ-loop
+returns c =
+    c .refused .ensures ∙ ap refusedReading (c .before .answer-of .ensures)
+    ∙ going-refused _ _ (c .before .before .before .before .before .before .before .loop .inv .1) (c .before .before .before .before .before .before .before .before .before .before .pre) (c .before .before .before .before .before .before .loop-test .taken) (c .before .before .before .before .next-line .ensures) (c .before .before .if1 .taken)
+
+cast-i : tie.Need-cast-i Inv-loop μ-loop
+cast-i c = search needs
+
+cast-board : tie.Need-cast-board Inv-loop μ-loop
+cast-board c = record { fits = board-small _ _ (c .before .before .before .before .before .before .loop .inv .1) (c .before .before .before .before .before .before .before .before .before .pre) (c .before .before .before .before .before .loop-test .taken) (c .before .before .before .next-line .ensures) (c .before .if1 .left) }
+
+array-write-board : tie.Need-array-write-board Inv-loop μ-loop
+array-write-board c = search needs
+
+mul-begin : tie.Need-mul-begin Inv-loop μ-loop
+mul-begin c = search needs
+
+array-write-begin : tie.Need-array-write-begin Inv-loop μ-loop
+array-write-begin c = search needs
+
+mul-finish : tie.Need-mul-finish Inv-loop μ-loop
+mul-finish c = search needs
+
+array-write-finish : tie.Need-array-write-finish Inv-loop μ-loop
+array-write-finish c = search needs
+
+slice-aggregate-put-items : tie.Need-slice-aggregate-put-items Inv-loop μ-loop
+slice-aggregate-put-items c = holds-whole _ _ (c .before .before .before .before .before .before .before .loop .inv .1)
+
+mul-put-items : tie.Need-mul-put-items Inv-loop μ-loop
+mul-put-items c = search needs
+
+put-items-requires : tie.Need-put-items-requires Inv-loop μ-loop
+put-items-requires c κs = holds-room _ _ (c .before .before .before .before .before .before .before .loop .inv .1) (c .before .before .before .before .before .before .before .before .before .before .pre) (c .before .before .before .before .before .before .loop-test .taken) (c .before .before .before .before .next-line .ensures) (c .before .before .if1 .left)
+
+slice-aggregate-put-items-2 : tie.Need-slice-aggregate-put-items-2 Inv-loop μ-loop
+slice-aggregate-put-items-2 c = after-whole _ _ (c .before .before .before .before .before .before .before .before .before .before .loop .inv .1)
+
+mul-put-items-2 : tie.Need-mul-put-items-2 Inv-loop μ-loop
+mul-put-items-2 c = search needs
+
+put-items-requires-2 : tie.Need-put-items-requires-2 Inv-loop μ-loop
+put-items-requires-2 c κs = after-room _ _ (c .before .before .before .before .before .before .before .before .before .before .loop .inv .1) (c .before .before .before .before .before .before .before .before .before .before .before .before .before .pre) (c .before .before .before .before .before .before .before .before .before .loop-test .taken) (c .before .before .before .before .before .before .before .next-line .ensures) (c .before .before .before .before .before .if1 .left)
+
+past-requires : tie.Need-past-requires Inv-loop μ-loop
+past-requires c κs = search needs
+
+add-k : tie.Need-add-k Inv-loop μ-loop
+add-k c = record { fits = omega (arith, c .before .before .before .before .before .before .before .before .before .before .before .before .before .before .before .before .pre .few-tasks, c .before .before .before .before .before .before .before .before .before .before .before .before .loop-test .taken) }
+
+loop-less : tie.Need-loop-less Inv-loop μ-loop
+loop-less c = search needs
+
+loop-again : tie.Need-loop-again Inv-loop μ-loop
+loop-again c = (
+  search needs,
+  going-turn _ _ (c .before .before .before .before .before .before .before .before .before .before .before .before .before .loop .inv .1) (c .before .before .before .before .before .before .before .before .before .before .before .before .before .before .before .before .pre) (c .before .before .before .before .before .before .before .before .before .before .before .before .loop-test .taken) (c .before .before .before .before .before .before .before .before .before .before .next-line .ensures) (c .before .before .before .before .before .before .before .before .if1 .left)
+      (c .before .before .before .before .before .put-items .ensures) (c .before .before .put-items2 .ensures) (past-line _ (c .before .before .before .before .before .before .before .before .before .before .before .find .ensures) (c .past .ensures)),
+)
+
+add-answer-of-2 : tie.Need-add-answer-of-2 Inv-loop μ-loop
+add-answer-of-2 c = record { fits = omega (arith, c .before .before .before .before .before .pre .few-tasks) }
+
+answer-of-requires-2 : tie.Need-answer-of-requires-2 Inv-loop μ-loop
+answer-of-requires-2 c κs = search needs
+
+refused-requires-2 : tie.Need-refused-requires-2 Inv-loop μ-loop
+refused-requires-2 c κs = search needs
+
+returns-2 : tie.Need-returns-2 Inv-loop μ-loop
+returns-2 c =
+    c .refused2 .ensures ∙ ap refusedReading (c .before .answer-of2 .ensures)
+    ∙ going-more _ _ (c .before .before .before .before .loop .inv .1) (c .before .before .before .before .before .before .before .pre) (omega arith) (c .before .before .if2 .taken)
+
+answer-of-requires-3 : tie.Need-answer-of-requires-3 Inv-loop μ-loop
+answer-of-requires-3 c κs = search needs
+
+cast-t37 : tie.Need-cast-t37 Inv-loop μ-loop
+cast-t37 c = search needs
+
+cast-t38 : tie.Need-cast-t38 Inv-loop μ-loop
+cast-t38 c = search needs
+
+returns-3 : tie.Need-returns-3 Inv-loop μ-loop
+returns-3 c = rw (c .answer-of3 .ensures) (going-end _ _ (c .before .before .before .loop .inv .1) (c .before .before .before .before .before .before .pre) (omega arith) (c .before .if2 .left))
+
+pub read-tasks-spec : {M : Type 1} → statement M
+read-tasks-spec =
+    tie.close
+    (tie.spec
+    Inv-loop
+    μ-loop
+    part-after-requires
+    loop-holds
+    find-requires
+    add-next-line
+    next-line-requires
+    add-answer-of
+    answer-of-requires
+    refused-requires
+    returns
+    cast-i
+    cast-board
+    array-write-board
+    mul-begin
+    array-write-begin
+    mul-finish
+    array-write-finish
+    slice-aggregate-put-items
+    mul-put-items
+    put-items-requires
+    slice-aggregate-put-items-2
+    mul-put-items-2
+    put-items-requires-2
+    past-requires
+    add-k
+    loop-less
+    loop-again
+    add-answer-of-2
+    answer-of-requires-2
+    refused-requires-2
+    returns-2
+    answer-of-requires-3
+    cast-t37
+    cast-t38
+    returns-3)

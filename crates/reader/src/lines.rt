@@ -1,0 +1,142 @@
+// The lines of a plan text: the first line, then line by line, then nothing more.
+ghost use mathlib.Core.Path.{_≡_};
+ghost use Prim.Native.Nat.{_≤_};
+ghost use lib.ListN.{take};
+ghost use lib.Seq.{sets};
+ghost use Rattle.text.specs.Line.{LF};
+ghost use Rattle.laws.specs.Split.{indexOf};
+ghost use Rattle.plan.specs.Answer.{refuse};
+ghost use Rattle.plan.specs.Value.{zeroPlan};
+ghost use Rattle.plan.specs.Read.{linesOf};
+ghost use Rattle.reader.specs.private.Fields.{nextLine, FirstRead, ListFits};
+use crate::Line;
+use crate::fields::no_line;
+use crate::fields::read_line;
+use crate::fields::read_sizes;
+use plan::Answer;
+use plan::Plan;
+use plan::Reading;
+use text::Items;
+use text::part::LF;
+use text::part::find;
+use text::part::part_after;
+use text::part::part_before;
+use text::part::past;
+use text::put::put_text;
+
+// The k-th task line, which begins the rest of the text and ends at the first LF.
+fn next_line(rest: &[u8], end: usize, boards: u32, tasks: u32, k: u32) -> Line
+    requires { ⌜ (boards ≤ 8) × (tasks ≤ 64) × (k ≤ 64) × (end ≡ indexOf LF (now rest)) ⌝ }
+    ensures { λ r. ⌜ r ≡ nextLine boards tasks (now (rest .entry)) k ⌝ }
+{
+    if end == rest.len() {
+        return no_line(3);
+    }
+    read_line(&rest[..end], boards, tasks, k)
+}
+
+fn zero_plan() -> Plan
+    ensures { λ r. ⌜ r ≡ zeroPlan ⌝ }
+{
+    Plan {
+        boards: 0,
+        tasks: 0,
+        board: [0u8; 64],
+        begin: [0u32; 64],
+        finish: [0u32; 64],
+        holds: [0u8; 2048],
+        after: [0u8; 4096],
+    }
+}
+
+// A refused reading gives a plan of zeros.
+pub fn refused(answer: Answer) -> Reading
+    ensures { λ r. ⌜ r ≡ record { answer = answer; plan = zeroPlan } ⌝ }
+{
+    Reading {
+        answer,
+        plan: zero_plan(),
+    }
+}
+
+fn answer_of(code: u32, first: u32) -> Answer
+    ensures { λ r. ⌜ r ≡ refuse code first 0 ⌝ }
+{
+    Answer {
+        code,
+        first,
+        second: 0,
+    }
+}
+
+// A list's items from a place on.
+fn put_items(out: &mut [u8], at: usize, list: Items)
+    requires { ⌜ ListFits (now out) at list ⌝ }
+    ensures { λ _. ⌜ now (out .exit) ≡ sets (now (out .entry)) at (take (list .count) (list .items)) ⌝ }
+{
+    let items = list.items;
+    let count = list.count;
+    put_text(out, at, &items[..count]);
+}
+
+// The task lines, the rest of the text going on to the next line's reader.
+fn read_tasks(text: &[u8], boards: u32, tasks: u32) -> Reading
+    requires { ⌜ FirstRead (now text) boards tasks ⌝ }
+    ensures { λ r. ⌜ r ≡ linesOf (now (text .entry)) ⌝ }
+{
+    let mut board = [0u8; 64];
+    let mut begin = [0u32; 64];
+    let mut finish = [0u32; 64];
+    let mut holds = [0u8; 2048];
+    let mut after = [0u8; 4096];
+    let mut rest = part_after(text, LF);
+    let mut k: u32 = 0;
+    while k < tasks {
+        let end = find(rest, LF);
+        let line = next_line(rest, end, boards, tasks, k + 1);
+        if line.code != 0 {
+            return refused(answer_of(line.code, k + 2));
+        }
+        let i = k as usize;
+        board[i] = line.board as u8;
+        begin[i] = line.begin;
+        finish[i] = line.finish;
+        put_items(&mut holds, 32 * i, line.holds);
+        put_items(&mut after, 64 * i, line.after);
+        let next = past(rest, end);
+        rest = next;
+        k += 1;
+    }
+    if rest.len() != 0 {
+        return refused(answer_of(5, tasks + 2));
+    }
+    Reading {
+        answer: answer_of(0, 0),
+        plan: Plan {
+            boards: boards as u8,
+            tasks: tasks as u8,
+            board,
+            begin,
+            finish,
+            holds,
+            after,
+        },
+    }
+}
+
+// The plan that the lines make, or the first refusal. Its pairs are not examined here.
+pub fn read_lines(text: &[u8]) -> Reading
+    ensures { λ r. ⌜ r ≡ linesOf (now (text .entry)) ⌝ }
+{
+    if 32768 < text.len() {
+        return refused(answer_of(1, 0));
+    }
+    if find(text, LF) == text.len() {
+        return refused(answer_of(2, 1));
+    }
+    let sizes = read_sizes(part_before(text, LF));
+    if !sizes.ok {
+        return refused(answer_of(2, 1));
+    }
+    read_tasks(text, sizes.boards, sizes.tasks)
+}

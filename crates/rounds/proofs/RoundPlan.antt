@@ -1,0 +1,141 @@
+-- The text of an accepted plan is short enough, and reads back as the plan.
+use Prim.Native.Nat.{ℕ, _+_, _<_, _≤_}
+use mathlib.Core.List.{List, [], _++_, append-nil}
+use mathlib.Core.Bool.{true}
+use mathlib.Core.Path.{_≡_, sym, ap, _∙_}
+use native.Mathlib.Omega.{arith}
+use native.Mathlib.Numerals.{add-one}
+use lib.ListN.{length, length-append}
+use borrow.Author.Tests.{eqb-true}
+use Rattle.laws.proofs.Cases.{and-l, and-r}
+use Rattle.laws.proofs.Digits.{value-digits}
+use Rattle.laws.specs.Split.{before, joinOn}
+use Rattle.text.specs.Number.{valueOf}
+use Rattle.text.specs.Line.{TAB, LF, hasLine, skip, lineAt, field}
+use Rattle.plan.specs.Answer.{granted, isGranted}
+use Rattle.plan.specs.Task.{Task, taskOk}
+use Rattle.plan.specs.Pairs.{firstFault}
+use Rattle.plan.specs.Value.{taskAt, planOf, rangesOk, isAccepted}
+use Rattle.plan.specs.Read.{sizesOk, boardsOf, tasksOf, lineTask, textTask, readingOf}
+use Rattle.plan.specs.Write.{sizesText, taskText, taskTexts, textOf}
+use Rattle.plan.specs.declared.Answer.{Answer}
+use Rattle.plan.specs.declared.Plan.{Plan}
+use Rattle.plan.proofs.LineCodes.{isTaskLine}
+use Rattle.plan.proofs.FirstFault.{fault-granted, fault-same}
+use Rattle.plan.proofs.PlanTasks.{Sized, RangesKept, ranges-kept, task-kept, task-fits, planOf-same, planOf-own}
+use Rattle.rounds.proofs.RoundBack.{sizesFields, taskFields, made-line, made-rest, made-has, sizes-whole, sizes-fields}
+use Rattle.rounds.proofs.RoundBack.{sizes-read, task-whole, task-read, task-number, task-back, skip-texts, texts-from}
+use Rattle.rounds.proofs.RoundLength.{task-length, texts-length, sizes-length}
+use Rattle.plan.proofs.ReadOk.{LineOk, FormOk, TextOk, ok-text, read-answer, read-plan}
+
+module _ (plan : Plan) where
+  accepted-ranges : isAccepted plan ≡ true → rangesOk plan ≡ true
+  unfolding isAccepted
+  accepted-ranges h = and-l (rangesOk plan) (isGranted (firstFault (plan .tasks) (taskAt plan))) h
+
+  accepted-pairs : isAccepted plan ≡ true → firstFault (plan .tasks) (taskAt plan) ≡ granted
+  unfolding isAccepted
+  accepted-pairs h =
+      fault-granted (plan .tasks) (taskAt plan)
+      (eqb-true (firstFault (plan .tasks) (taskAt plan) .code) 0
+      (and-r (rangesOk plan) (isGranted (firstFault (plan .tasks) (taskAt plan))) h))
+
+task-ok-at :
+    {b c m n : ℕ} {x y : Task} → b ≡ c → m ≡ n → x ≡ y → taskOk c n y ≡ true → taskOk b m x ≡ true
+task-ok-at p q r h = rw (p, q, r) h
+
+module _ (plan : Plan) (ok : isAccepted plan ≡ true) where
+  facts : RangesKept plan
+  facts = ranges-kept plan (accepted-ranges plan ok)
+
+  task-ok : (k : ℕ) → k < plan .tasks → taskOk (plan .boards) (plan .tasks) (taskAt plan k) ≡ true
+  task-ok k h = task-kept plan k (facts .kept k h) .task
+
+  -- its text may be handed in
+  pub text-length : length (textOf plan) ≤ 32768
+  unfolding textOf
+  text-length =
+      let few = facts .tasks .1 in
+      let b = facts .boards .1 in
+      let a = sizes-length (plan .boards) (plan .tasks) b few in
+      let c = texts-length (taskAt plan) (plan .tasks)
+      (λ k h. task-length (plan .boards) (plan .tasks) (k + 1) (taskAt plan k) b few (omega arith)
+      (task-fits (plan .boards) (plan .tasks) (taskAt plan k) (task-ok k h))) in
+      simp length-append (omega arith)
+
+  abbrev lines : List ℕ
+  lines = taskTexts (taskAt plan) (plan .tasks)
+
+  -- its first line
+  first-line : lineAt (textOf plan) 0 ≡ joinOn TAB (sizesFields (plan .boards) (plan .tasks))
+  unfolding textOf sizesText skip
+  first-line = made-line _ _ (sizes-whole (plan .boards) (plan .tasks)) lines
+
+  first-has : hasLine (textOf plan) ≡ true
+  unfolding textOf sizesText
+  first-has = made-has _ _ (sizes-whole (plan .boards) (plan .tasks)) lines
+
+  text-boards : boardsOf (textOf plan) ≡ plan .boards
+  text-boards = rw (first-line, sizes-fields, value-digits)
+
+  text-tasks : tasksOf (textOf plan) ≡ plan .tasks
+  text-tasks = rw (first-line, sizes-fields, value-digits)
+
+  -- its task lines
+  text-rest : (n : ℕ) → skip (n + 1) (textOf plan) ≡ skip n lines
+  unfolding textOf sizesText skip
+  text-rest n = rw add-one (ap (skip n) (made-rest _ _ (sizes-whole (plan .boards) (plan .tasks)) lines))
+
+  module _ (k : ℕ) (h : k < plan .tasks) where
+    from-line : (later : List ℕ) × (skip (k + 1) (textOf plan) ≡ taskText (k + 1) (taskAt plan k) ++ later)
+    from-line = let r = texts-from (taskAt plan) (plan .tasks) k h in (r .0, text-rest k ∙ r .1)
+
+    task-line : lineAt (textOf plan) (k + 1) ≡ joinOn TAB (taskFields (k + 1) (taskAt plan k))
+    unfolding taskText
+    task-line = ap (before LF) (from-line .1) ∙ made-line _ _ (task-whole (k + 1) (taskAt plan k)) (from-line .0)
+
+    task-has : hasLine (skip (k + 1) (textOf plan)) ≡ true
+    unfolding taskText
+    task-has = ap hasLine (from-line .1) ∙ made-has _ _ (task-whole (k + 1) (taskAt plan k)) (from-line .0)
+
+    -- its tasks
+    pub text-task : textTask (textOf plan) k ≡ taskAt plan k
+    text-task = ap lineTask task-line ∙ task-back (k + 1) (taskAt plan k)
+
+    line-kept : LineOk (textOf plan) k
+    line-kept = record {
+      there = task-has;
+      formed = ap isTaskLine task-line ∙ task-read (k + 1) (taskAt plan k);
+      number = ap (λ (l : List ℕ). valueOf (field l 1)) task-line ∙ task-number (k + 1) (taskAt plan k);
+      ranges = task-ok-at text-boards text-tasks text-task (task-ok k h);
+    }
+
+  text-kept : TextOk (textOf plan)
+  text-kept = record {
+    form = record {
+      short = text-length;
+      first = first-has;
+      sizes = ap sizesOk first-line
+          ∙ sizes-read (plan .boards) (plan .tasks) (facts .boards .0) (facts .boards .1) (facts .tasks .0) (facts .tasks .1);
+      lines = λ k h. line-kept k (rw text-tasks at h);
+      ends = ap length (ap (λ (n : ℕ). skip (n + 1) (textOf plan)) text-tasks ∙ text-rest (plan .tasks) ∙ none);
+    };
+    pairs = ap (λ (n : ℕ). firstFault n (textTask (textOf plan))) text-tasks
+        ∙ fault-same (plan .tasks) (textTask (textOf plan)) (taskAt plan) text-task
+        ∙ accepted-pairs plan ok;
+  }
+    where
+      none : skip (plan .tasks) lines ≡ []
+      none = ap (skip (plan .tasks)) (sym (append-nil lines)) ∙ skip-texts (taskAt plan) (plan .tasks) []
+
+  -- it reads back as the plan
+  pub plan-back : Sized plan → readingOf (textOf plan) ≡ record { answer = granted; plan = plan }
+  plan-back size =
+      let z = ok-text (textOf plan) text-kept in
+      let p =
+      read-plan (textOf plan) (ap (λ (x : Answer). x .code) z)
+      ∙ ap (λ (b : ℕ). planOf b (tasksOf (textOf plan)) (textTask (textOf plan))) text-boards
+      ∙ ap (λ (n : ℕ). planOf (plan .boards) n (textTask (textOf plan))) text-tasks
+      ∙ planOf-same (plan .boards) (plan .tasks) (textTask (textOf plan)) (taskAt plan) text-task
+      ∙ planOf-own plan size (accepted-ranges plan ok) in
+      λ i. record { answer = (read-answer (textOf plan) ∙ z) i; plan = p i }

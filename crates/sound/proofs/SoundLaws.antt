@@ -1,0 +1,129 @@
+-- The ways out of the soundness test's loops, a task's state by its mark, and the test part by part.
+use Prim.Native.Nat.{ℕ, _≤_, max}
+use native.Mathlib.Omega.{arith}
+use mathlib.Core.Bool.{Bool, true, false, not, cond, _&&_, and-false}
+use mathlib.Core.List.{List}
+use mathlib.Core.Path.{_≡_, refl, sym, _∙_}
+use mathlib.Core.Logic.{_≢_}
+use lib.Dec.{eqb, ltb, leb}
+use borrow.Author.Tests.{eq-eqb, ne-eqb, le-leb, lt-leb, ltb-true, ltb-false, not-true, not-false}
+use Rattle.laws.proofs.Cases.{by-bool, by-eq, true-false, and-no}
+use Rattle.laws.specs.Every.{every, any}
+use Rattle.laws.specs.Picked.{latest}
+use Rattle.theory.specs.Plan.{Plan}
+use Rattle.theory.specs.Book.{Book, ended, allEnded, due, limit, taskTest, soundTest}
+use Rattle.plan.specs.Value.{at, blankFrom, isAccepted}
+use Rattle.plan.specs.declared.Plan as declared
+use Rattle.view.specs.View.{planFor, bookSeen}
+use Rattle.view.proofs.Accepted.{plan-facts}
+use Rattle.sound.specs.Sound.{nothingPast, soundOn}
+
+-- the later of two ends, where one counts only if picked
+module _ (picked : Bool) (end last : ℕ) where
+  pub later-taken : (picked && ltb last end) ≡ true → end ≡ max last (cond picked end 0)
+  later-taken h =
+      by-bool picked
+      (λ e. let l = ltb-true last end (rw e at h) in rw e (omega arith))
+      (λ e. true-false (rw e at h) refl)
+
+  pub later-kept : (picked && ltb last end) ≡ false → last ≡ max last (cond picked end 0)
+  later-kept h =
+      by-bool picked
+      (λ e. let l = ltb-false last end (rw e at h) in rw e (omega arith))
+      (λ e. rw e (omega arith))
+
+and-assoc : (a b c : Bool) → ((a && b) && c) ≡ (a && (b && c))
+and-assoc true b c = refl
+and-assoc false b c = refl
+
+pub and-four :
+    {a b c d p q r t : Bool} → a ≡ p → b ≡ q → c ≡ r → d ≡ t → ((a && b) && (c && d)) ≡ (p && (q && (r && t)))
+and-four {p} {q} {r} {t} e f g h = rw (e, f, g, h) (and-assoc p q (r && t))
+
+-- a task's state by its mark
+module _ (plan : Plan) (book : Book) (i : ℕ) {free : Bool} (h : free ≡ allEnded plan (book .mark) i) where
+  pub test-waiting :
+      book .mark i ≡ 0 → (leb (book .dropped i) 1 && (not free && (eqb (book .start i) 0 && eqb (book .end i) 0))) ≡ taskTest plan book i
+  unfolding taskTest
+  test-waiting m = rw (h, eq-eqb (book .mark i) 0 m)
+
+  module _ {since : ℕ} (s : since ≡ due plan (book .end) i) (n0 : book .mark i ≢ 0) where
+    pub test-skipped :
+        {some : Bool} → book .dropped i ≡ 1 → some ≡ any (plan .tasks) (plan .waits i)
+        → (eqb (book .mark i) 2
+        && (some && (free && (eqb (book .start i) since && (eqb (book .end i) (book .start i) && leb (book .end i) (book .clock))))))
+        ≡ taskTest plan book i
+    unfolding taskTest
+    test-skipped {some} d w =
+        by-eq (book .mark i) 1
+        (λ m. rw (le-leb (book .dropped i) 1 (omega arith), ne-eqb (book .mark i) 0 n0, eq-eqb (book .mark i) 1 m, ne-eqb (book .mark i) 2 (omega arith), ne-eqb (book .dropped i) 0 (omega arith)))
+        (λ n1. rw (h, s, w, le-leb (book .dropped i) 1 (omega arith), ne-eqb (book .mark i) 0 n0, ne-eqb (book .mark i) 1 n1, eq-eqb (book .dropped i) 1 d))
+
+    module _ {until : ℕ} (u : until ≡ limit plan book i) (d : book .dropped i ≢ 1) where
+      -- dropped neither 1 nor 0 is no mark
+      drop-small : (b : Bool) → (leb (book .dropped i) 1 && (eqb (book .dropped i) 0 && b)) ≡ (eqb (book .dropped i) 0 && b)
+      drop-small b =
+          by-eq (book .dropped i) 0
+          (λ z. rw (le-leb (book .dropped i) 1 (omega arith)))
+          (λ n. rw (ne-eqb (book .dropped i) 0 n, lt-leb (book .dropped i) 1 (omega arith)))
+
+      drop-small-in :
+          (a b : Bool)
+          → (leb (book .dropped i) 1 && (a && (eqb (book .dropped i) 0 && b))) ≡ (a && (eqb (book .dropped i) 0 && b))
+      drop-small-in true b = drop-small b
+      drop-small-in false b = and-no (leb (book .dropped i) 1)
+
+      pub test-running :
+          {clock : ℕ} → book .mark i ≡ 1 → clock ≡ book .clock
+          → (eqb (book .dropped i) 0 && (free && (eqb (book .start i) since && (eqb (book .end i) 0 && leb clock until)))) ≡ taskTest plan book i
+      unfolding taskTest
+      test-running m c = rw (h, s, u, c, ne-eqb (book .mark i) 0 n0, eq-eqb (book .mark i) 1 m) (sym (drop-small _))
+
+      pub test-ended :
+          {over : ℕ} → book .mark i ≢ 1 → over ≡ book .end i
+          → (eqb (book .mark i) 2
+          && (eqb (book .dropped i) 0
+          && (free && (eqb (book .start i) since && (ltb (book .start i) (book .end i) && (leb over until && leb (book .end i) (book .clock)))))))
+          ≡ taskTest plan book i
+      unfolding taskTest
+      test-ended n1 c =
+          rw (h, s, u, c, ne-eqb (book .mark i) 0 n0, ne-eqb (book .mark i) 1 n1, ne-eqb (book .dropped i) 1 d) (sym
+          (drop-small-in (eqb (book .mark i) 2)
+          (allEnded plan (book .mark) i
+          && (eqb (book .start i) (due plan (book .end) i)
+          && (ltb (book .start i) (book .end i)
+          && (leb (book .end i) (limit plan book i) && leb (book .end i) (book .clock)))))))
+
+-- an accepted plan has at most 64 tasks
+pub few-tasks : (on : declared.Plan) {plan : Bool} → plan ≡ isAccepted on → not plan ≡ false → on .tasks ≤ 64
+few-tasks on {plan} p accepted = plan-facts on (sym p ∙ not-false plan accepted) .tasks-to
+
+-- the test, part by part
+module _ (on : declared.Plan) (mark start end dropped : List ℕ) (clock : ℕ) {plan : Bool} (p : plan ≡ isAccepted on) where
+  pub unsound-plan : not plan ≡ true → false ≡ soundOn on mark start end dropped clock
+  unfolding soundOn
+  unsound-plan h = rw (sym p ∙ not-true plan h)
+
+  module _ (accepted : not plan ≡ false) where
+    module _ {past : Bool} (q : past ≡ nothingPast (on .tasks) mark start end dropped) where
+      pub unsound-past : not past ≡ true → false ≡ soundOn on mark start end dropped clock
+      unfolding soundOn
+      unsound-past h = rw (sym q ∙ not-true past h, and-false, and-false)
+
+      module _ (nothing : not past ≡ false) {tasks : Bool}
+          (r : tasks ≡ every (on .tasks) (taskTest (planFor on) (bookSeen mark start end dropped clock))) where
+        pub unsound-task : not tasks ≡ true → false ≡ soundOn on mark start end dropped clock
+        unfolding soundOn soundTest
+        unsound-task h = rw (sym p ∙ not-false plan accepted, sym r ∙ not-true tasks h)
+
+        pub sound-clock :
+            not tasks ≡ false → {last : ℕ} → last ≡ latest (on .tasks) (ended (at mark)) (at end)
+            → eqb clock last ≡ soundOn on mark start end dropped clock
+        unfolding soundOn soundTest
+        sound-clock h e =
+            rw (sym p ∙ not-false plan accepted, sym q ∙ not-false past nothing, sym r ∙ not-false tasks h, e)
+            (sym (and-true (eqb clock _)))
+          where
+            and-true : (b : Bool) → (b && true) ≡ b
+            and-true true = refl
+            and-true false = refl

@@ -1,0 +1,89 @@
+use Rattle.sound.proofs.SoundLaws.{test-waiting, test-skipped, test-running, test-ended}
+use borrow.Author.Needs.{needs}
+use Rattle.sound.proofs.task_sound.Statement.{statement}
+use Rattle.sound.proofs.task_sound.Tie as tie
+
+element-copy-out-state : tie.Need-element-copy-out-state
+element-copy-out-state c = search needs
+
+element-copy-out-gone : tie.Need-element-copy-out-gone
+element-copy-out-gone c = search needs
+
+mul-started : tie.Need-mul-started
+mul-started c = search needs
+
+element-copy-out-started : tie.Need-element-copy-out-started
+element-copy-out-started c = search needs
+
+mul-over : tie.Need-mul-over
+mul-over c = search needs
+
+element-copy-out-over : tie.Need-element-copy-out-over
+element-copy-out-over c = search needs
+
+all-ended-requires : tie.Need-all-ended-requires
+all-ended-requires c κs = search needs
+
+returns : tie.Need-returns
+returns c = test-waiting _ _ _ (c .before .all-ended .ensures) (c .if1 .taken)
+
+due-at-requires : tie.Need-due-at-requires
+due-at-requires c κs = search needs
+
+waits-at-all-requires : tie.Need-waits-at-all-requires
+waits-at-all-requires c κs = search needs
+
+returns-2 : tie.Need-returns-2
+returns-2 c = test-skipped _ _ _ (c .before .before .before .before .all-ended .ensures) (c .before .before .due-at .ensures) (c .before .before .before .if1 .left) (c .before .if2 .taken) (c .waits-at-all .ensures)
+
+mul-limit-of : tie.Need-mul-limit-of
+mul-limit-of c = search needs
+
+element-copy-out-limit-of : tie.Need-element-copy-out-limit-of
+element-copy-out-limit-of c = search needs
+
+mul-limit-of-2 : tie.Need-mul-limit-of-2
+mul-limit-of-2 c = search needs
+
+element-copy-out-limit-of-2 : tie.Need-element-copy-out-limit-of-2
+element-copy-out-limit-of-2 c = search needs
+
+limit-of-requires : tie.Need-limit-of-requires
+limit-of-requires c κs = search needs
+
+wide-requires : tie.Need-wide-requires
+wide-requires c κs = search needs
+
+returns-3 : tie.Need-returns-3
+returns-3 c = test-running _ _ _ (c .before .before .before .before .before .before .before .before .all-ended .ensures) (c .before .before .before .before .before .before .due-at .ensures) (c .before .before .before .before .before .before .before .if1 .left) (c .before .before .limit-of .ensures) (c .before .before .before .before .before .if2 .left) (c .before .if3 .taken) (c .wide .ensures)
+
+wide-requires-2 : tie.Need-wide-requires-2
+wide-requires-2 c κs = search needs
+
+returns-4 : tie.Need-returns-4
+returns-4 c = test-ended _ _ _ (c .before .before .before .before .before .before .before .before .all-ended .ensures) (c .before .before .before .before .before .before .due-at .ensures) (c .before .before .before .before .before .before .before .if1 .left) (c .before .before .limit-of .ensures) (c .before .before .before .before .before .if2 .left) (c .before .if3 .left) (c .wide2 .ensures)
+
+pub task-sound-spec : {M : Type 1} → statement M
+task-sound-spec =
+    tie.close
+    (tie.spec
+    element-copy-out-state
+    element-copy-out-gone
+    mul-started
+    element-copy-out-started
+    mul-over
+    element-copy-out-over
+    all-ended-requires
+    returns
+    due-at-requires
+    waits-at-all-requires
+    returns-2
+    mul-limit-of
+    element-copy-out-limit-of
+    mul-limit-of-2
+    element-copy-out-limit-of-2
+    limit-of-requires
+    wide-requires
+    returns-3
+    wide-requires-2
+    returns-4)

@@ -1,0 +1,5 @@
+pub mod Accepted
+pub mod Blank
+pub mod Laid
+pub mod Short
+pub mod Turns

@@ -1,0 +1,30 @@
+-- One turn of a walk that gathers.
+use Prim.Native.Nat.{ℕ, _+_, max}
+use mathlib.Core.Bool.{Bool, true, false, not, cond, _&&_, _||_}
+use mathlib.Core.Path.{_≡_, refl, sym, _∙_}
+use Rattle.laws.specs.Every.{implies, every, any}
+use Rattle.laws.proofs.Every.{every-turn, any-turn}
+use Rattle.laws.specs.Picked.{latest}
+use Rattle.laws.proofs.Latest.{latest-turn}
+
+implies-is : (a b : Bool) → (not a || b) ≡ implies a b
+implies-is true b = refl
+implies-is false b = refl
+
+module _ (n : ℕ) (p : ℕ → Bool) where
+  pub every-more : {x all : Bool} → x ≡ p n → all ≡ every n p → (x && all) ≡ every (n + 1) p
+  every-more h k = rw (h, k) (sym (every-turn n p))
+
+  pub every-implies : (a b : Bool) {all : Bool} → p n ≡ implies a b → all ≡ every n p → ((not a || b) && all) ≡ every (n + 1) p
+  every-implies a b h k = every-more (implies-is a b ∙ sym h) k
+
+  pub every-passed : p n ≡ true → every n p ≡ true → every (n + 1) p ≡ true
+  every-passed h k = every-turn n p ∙ rw (h, k)
+
+pub latest-more :
+    (n : ℕ) (w : ℕ → Bool) (e : ℕ → ℕ) {last next : ℕ} → last ≡ latest n w e → next ≡ max last (cond (w n) (e n) 0)
+    → next ≡ latest (n + 1) w e
+latest-more n w e h k = k ∙ rw h (sym (latest-turn n w e))
+
+pub any-more : (n : ℕ) (p : ℕ → Bool) {some : Bool} → some ≡ any n p → (p n || some) ≡ any (n + 1) p
+any-more n p h = rw h (sym (any-turn n p))
