@@ -1,5 +1,6 @@
+pub mod BitLaws
+pub mod DriveLaws
 pub mod ItemLaws
-pub mod MergeLaws
 pub mod OrderLaws
 pub mod PairLaws
 pub mod RangeLaws

@@ -16,7 +16,7 @@ use Rattle.plan.specs.Answer.{isGranted}
 use Rattle.plan.specs.Task.{Task, numbersOk, taskOk}
 use Rattle.plan.specs.Pairs.{firstFault}
 use Rattle.plan.specs.Value.{row, items, planWith, isTrimmed, keptOk, pastBlank, rangesOk, isAccepted, taskAt}
-use Rattle.judge.specs.private.Arrays.{numbersIn, listsIn, RowRises, RowsRise}
+use Rattle.judge.specs.private.Arrays.{numbersIn, listsIn, isDrive, RowInRange, RowsInRange}
 use Rattle.plan.specs.declared.Plan.{Plan}
 
 regroup : (numbers holds after one two : Bool) → ((numbers && (holds && after)) && (one && two)) ≡ (numbers && ((holds && one) && (after && two)))
@@ -52,18 +52,18 @@ few-tasks boards tasks h =
     leb-true tasks 64
     (and-r (leb 1 tasks) (leb tasks 64) (and-r (between 1 8 boards) (between 1 64 tasks) (not-false (between 1 8 boards && between 1 64 tasks) h)))
 
--- the holds of a task that keeps the rules rise
-pub task-rises : (boards tasks : ℕ) (task : Task) → taskOk boards tasks task ≡ true → rising driveOf (task .holds) ≡ true
+-- the drives of a task that keeps the rules are in range
+pub task-in-range : (boards tasks : ℕ) (task : Task) → taskOk boards tasks task ≡ true → allOf isDrive (task .holds) ≡ true
 unfolding holdsOk
-task-rises boards tasks task h =
+task-in-range boards tasks task h =
     let lists = and-r (numbersOk boards task) (holdsOk (task .holds) && afterOk tasks (task .after)) h in
     let holds = and-l (holdsOk (task .holds)) (afterOk tasks (task .after)) lists in
-    and-r (allOf (λ x. between 1 32 (driveOf x)) (task .holds)) (rising driveOf (task .holds)) holds
+    and-l (allOf isDrive (task .holds)) (rising driveOf (task .holds)) holds
 
-row-rises : (plan : Plan) (k : ℕ) → keptOk plan k ≡ true → RowRises (plan .holds) k
+row-in-range : (plan : Plan) (k : ℕ) → keptOk plan k ≡ true → RowInRange (plan .holds) k
 unfolding keptOk
-row-rises plan k h =
-    task-rises (plan .boards) (plan .tasks) (taskAt plan k)
+row-in-range plan k h =
+    task-in-range (plan .boards) (plan .tasks) (taskAt plan k)
     (and-l (taskOk (plan .boards) (plan .tasks) (taskAt plan k)) (isTrimmed (row 32 (plan .holds) k) && isTrimmed (row 64 (plan .after) k)) h)
 
 module _ (plan : Plan) where
@@ -89,8 +89,8 @@ module _ (plan : Plan) where
     judged-by-pairs h =
         let r : ranges ≡ true = rw (k, p) at (not-false (kept && past) h) in rw (accepted-is, not-false sizes s, r)
 
-    -- the holds of what is kept rise
-    pub kept-rises : not (kept && past) ≡ false → plan .tasks ≤ 64 → RowsRise (plan .holds) (plan .tasks)
-    kept-rises h few =
+    -- the drives of what is kept are in range
+    pub kept-in-range : not (kept && past) ≡ false → plan .tasks ≤ 64 → RowsInRange (plan .holds) (plan .tasks)
+    kept-in-range h few =
         let all : every (plan .tasks) (keptOk plan) ≡ true = sym k ∙ and-l kept past (not-false (kept && past) h) in
-        record { few = few; rise = λ j l. row-rises plan j (every-at (plan .tasks) (keptOk plan) all j l) }
+        record { few = few; range = λ j l. row-in-range plan j (every-at (plan .tasks) (keptOk plan) all j l) }

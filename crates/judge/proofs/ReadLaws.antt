@@ -15,8 +15,8 @@ use Rattle.plan.specs.declared.Answer.{Answer}
 use Rattle.plan.specs.declared.Reading.{Reading}
 use Rattle.plan.proofs.FirstFault.{fault-granted}
 use Rattle.plan.proofs.ReadOk.{FormOk, form-ok, ok-form, form-tasks, form-ranges, form-task, form-fault}
-use Rattle.judge.specs.private.Arrays.{RowsRise}
-use Rattle.judge.proofs.RangeLaws.{task-rises}
+use Rattle.judge.specs.private.Arrays.{RowsInRange}
+use Rattle.judge.proofs.RangeLaws.{task-in-range}
 
 lines-answer : (s : List ℕ) → linesOf s .answer ≡ formAnswer s
 unfolding linesOf
@@ -46,14 +46,14 @@ module _ (s : List ℕ) {lines : Reading} (l : lines ≡ linesOf s) where
     unfolding planOf
     tasks-are = rw plan-is
 
-    -- the holds of what was read rise
-    pub read-rises : RowsRise (lines .plan .holds) (lines .plan .tasks)
-    read-rises = record {
+    -- the drives of what was read are in range
+    pub read-in-range : RowsInRange (lines .plan .holds) (lines .plan .tasks)
+    read-in-range = record {
       few = omega (arith, form-tasks s form .1, tasks-are);
-      rise = λ k h.
+      range = λ k h.
           let low : k < tasksOf s = omega (arith, tasks-are) in
           rw (plan-is, ap (λ (t : Task). t .holds) (form-task s form k low))
-          (task-rises (boardsOf s) (tasksOf s) (textTask s k) (form-ranges s form k low));
+          (task-in-range (boardsOf s) (tasksOf s) (textTask s k) (form-ranges s form k low));
     }
 
     module _ {fault : Answer} (f : fault ≡ firstFault (lines .plan .tasks) (taskAt (lines .plan))) where

@@ -1,5 +1,12 @@
 // Judging a plan, handed in as a value or as a text.
+mod drives;
 mod order;
 mod pairs;
 pub mod ranges;
 pub mod read;
+
+// The sets of the drives that a list holds exclusively, and of all that it holds.
+pub(crate) struct Sets {
+    pub exclusive: u32,
+    pub held: u32,
+}

@@ -1,70 +1,13 @@
 // Two tasks examined, and the search for the first faulty pair.
+use crate::drives::clash_by_drive;
 use crate::order::in_order;
 use plan::Answer;
 ghost use mathlib.Core.Path.{_≡_};
 ghost use mathlib.Core.Bool.{true, _&&_};
 ghost use Prim.Native.Nat.{_+_, _*_, _<_, _≤_};
-ghost use Rattle.laws.specs.Lists.{rising};
-ghost use Rattle.text.specs.Items.{driveOf};
-ghost use Rattle.plan.specs.Pairs.{overlap, holdsClash, clashByDrive, isListed, pairCode, firstFault};
+ghost use Rattle.plan.specs.Pairs.{overlap, clashByDrive, isListed, pairCode, firstFault};
 ghost use Rattle.plan.specs.Value.{row, items};
-ghost use Rattle.judge.specs.private.Arrays.{tasksIn, meetIn, breaksIn, PairInOrder, PassedOver, oneIf, PairRises, RowsRise};
-
-fn holds_clash(g: u8, h: u8) -> bool
-    ensures { λ r. ⌜ r ≡ holdsClash g h ⌝ }
-{
-    (g / 2 == h / 2) & !((g % 2 == 1) & (h % 2 == 1))
-}
-
-fn one_if(yes: bool) -> usize
-    ensures { λ r. ⌜ r ≡ oneIf yes ⌝ }
-{
-    if yes {
-        return 1;
-    }
-    0
-}
-
-// Do the two lists have a drive in common, at least one exclusively? They rise, so the lower drive is passed at each turn.
-fn lists_clash(these: &[u8], those: &[u8]) -> bool
-    requires { ⌜ (rising driveOf (items (now these)) ≡ true) × (rising driveOf (items (now those)) ≡ true) ⌝ }
-    ensures { λ r. ⌜ r ≡ clashByDrive (items (now (these .entry))) (items (now (those .entry))) ⌝ }
-{
-    let mut i = 0;
-    let mut j = 0;
-    while i < these.len() {
-        let g = these[i];
-        if g == 0 {
-            return false;
-        }
-        if those.len() <= j {
-            return false;
-        }
-        let h = those[j];
-        if h == 0 {
-            return false;
-        }
-        if holds_clash(g, h) {
-            return true;
-        }
-        let lower = g / 2 <= h / 2;
-        i += one_if(lower);
-        j += one_if(!lower);
-    }
-    false
-}
-
-fn clash_by_drive(holds: &[u8; 2048], a: usize, b: usize) -> bool
-    requires { ⌜ PairRises (now holds) a b ⌝ }
-    ensures { λ r. ⌜ r ≡ clashByDrive (items (row 32 (now (holds .entry)) a)) (items (row 32 (now (holds .entry)) b)) ⌝ }
-{
-    let all = &holds[..];
-    let s = 32 * a;
-    let t = 32 * b;
-    let these = &all[s..s + 32];
-    let those = &all[t..t + 32];
-    lists_clash(these, those)
-}
+ghost use Rattle.judge.specs.private.Arrays.{tasksIn, meetIn, breaksIn, PairInOrder, PassedOver, PairInRange, RowsInRange};
 
 // Does the task number stand in the list?
 fn is_listed(list: &[u8], number: u8) -> bool
@@ -101,9 +44,9 @@ fn meet<'a>(begin: &'a [u32; 64], finish: &'a [u32; 64], a: usize, b: usize) -> 
     !(a == b) & ((begin[a] < finish[b]) & (begin[b] < finish[a]))
 }
 
-// The lists are walked only where the planned times overlap.
+// The drives are compared only where the planned times overlap.
 fn meet_on_drive<'a>(met: bool, holds: &'a [u8; 2048], a: usize, b: usize) -> bool
-    requires { ⌜ PairRises (now holds) a b ⌝ }
+    requires { ⌜ PairInRange (now holds) a b ⌝ }
     ensures { λ r. ⌜ r ≡ (met && clashByDrive (items (row 32 (now (holds .entry)) a)) (items (row 32 (now (holds .entry)) b))) ⌝ }
 {
     if met {
@@ -140,7 +83,7 @@ fn pair_code<'a>(
     a: usize,
     b: usize,
 ) -> u32
-    requires { ⌜ PairRises (now holds) a b × PairInOrder (now begin) (now finish) (now after) ordered a b ⌝ }
+    requires { ⌜ PairInRange (now holds) a b × PairInOrder (now begin) (now finish) (now after) ordered a b ⌝ }
     ensures { λ r. ⌜ r ≡ pairCode (tasksIn (now (board .entry)) (now (begin .entry)) (now (finish .entry)) (now (holds .entry)) (now (after .entry))) a b ⌝ }
 {
     let met = meet(begin, finish, a, b);
@@ -198,7 +141,7 @@ pub(crate) fn first_fault<'a>(
     after: &'a [u8; 4096],
     tasks: usize,
 ) -> Answer
-    requires { ⌜ RowsRise (now holds) tasks ⌝ }
+    requires { ⌜ RowsInRange (now holds) tasks ⌝ }
     ensures { λ r. ⌜ r ≡ firstFault tasks (tasksIn (now (board .entry)) (now (begin .entry)) (now (finish .entry)) (now (holds .entry)) (now (after .entry))) ⌝ }
 {
     let ordered = in_order(begin, finish, after, tasks);

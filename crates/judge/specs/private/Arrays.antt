@@ -1,16 +1,17 @@
 -- Short names for what single functions say of lent arrays.
-use Prim.Native.Nat.{ℕ, _+_, _-_, _≤_, _<_}
+use Prim.Native.Nat.{ℕ, _+_, _-_, _/_, _%_, _^_, _≤_, _<_}
 use mathlib.Core.Path.{_≡_}
 use mathlib.Core.Bool.{Bool, true, false, not, _&&_, _||_}
 use mathlib.Core.List.{List}
 use lib.Dec.{ltb, leb, eqb}
-use Rattle.laws.specs.Lists.{anyOf, rising, risesFrom}
+use Rattle.laws.specs.Lists.{allOf, anyOf, risesFrom}
 use Rattle.text.specs.Number.{most}
-use Rattle.text.specs.Items.{between, driveOf}
+use Rattle.text.specs.Items.{between, driveOf, isShared}
 use Rattle.text.specs.private.Lettered.{keyOf}
 use Rattle.plan.specs.Task.{Task, taskOf}
 use Rattle.plan.specs.Pairs.{isListed}
 use Rattle.plan.specs.Value.{at, row, items, isTrimmed}
+use Rattle.judge.specs.declared.Sets.{Sets}
 
 -- the tasks that arrays hold
 abbrev pub tasksIn : List ℕ → List ℕ → List ℕ → List ℕ → List ℕ → ℕ → Task
@@ -55,21 +56,38 @@ listIn drives high l = risesFrom (keyOf drives) high 0 (items l) && isTrimmed l
 abbrev pub listsIn : ℕ → List ℕ → List ℕ → ℕ → Bool
 listsIn tasks holds after k = listIn true 32 (row 32 holds k) && listIn false tasks (row 64 after k)
 
--- how far a walk goes on
-unfoldable pub oneIf : Bool → ℕ
-oneIf true = 1
-oneIf false = 0
+-- a hold whose drive is one of the 32, and so a bit
+abbrev pub isDrive : ℕ → Bool
+isDrive h = between 1 32 (driveOf h)
 
--- the holds of a task rise by drive
-abbrev pub RowRises : List ℕ → ℕ → Type 0
-RowRises holds k = rising driveOf (items (row 32 holds k)) ≡ true
+-- bit d of a set
+abbrev pub has : ℕ → ℕ → Bool
+has set d = eqb (set / 2 ^ d % 2) 1
 
-pub record PairRises (holds : List ℕ) (a b : ℕ) : Type 0 where
+-- bit d stands where drive d + 1 is among those holds of the list that are of this kind
+abbrev pub SetOf : (ℕ → Bool) → List ℕ → ℕ → Type 0
+SetOf kind l set = (d : ℕ) → has set d ≡ anyOf (λ h. eqb (driveOf h) (d + 1) && kind h) l
+
+abbrev pub isExclusive : ℕ → Bool
+isExclusive h = not (isShared h)
+
+abbrev pub isAny : ℕ → Bool
+isAny h = true
+
+pub record Gathered (l : List ℕ) (sets : Sets) : Type 0 where
+  pub exclusive : SetOf isExclusive l (sets .exclusive)
+  pub held : SetOf isAny l (sets .held)
+
+-- the holds of a task are of drives that can be bits
+abbrev pub RowInRange : List ℕ → ℕ → Type 0
+RowInRange holds k = allOf isDrive (items (row 32 holds k)) ≡ true
+
+pub record PairInRange (holds : List ℕ) (a b : ℕ) : Type 0 where
   pub below-a : a < 64
   pub below-b : b < 64
-  pub rise-a : RowRises holds a
-  pub rise-b : RowRises holds b
+  pub range-a : RowInRange holds a
+  pub range-b : RowInRange holds b
 
-pub record RowsRise (holds : List ℕ) (tasks : ℕ) : Type 0 where
+pub record RowsInRange (holds : List ℕ) (tasks : ℕ) : Type 0 where
   pub few : tasks ≤ 64
-  pub rise : (k : ℕ) → k < tasks → RowRises holds k
+  pub range : (k : ℕ) → k < tasks → RowInRange holds k

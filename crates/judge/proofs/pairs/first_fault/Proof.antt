@@ -42,8 +42,8 @@ pair-code-requires c κs =
       record {
         below-a = omega arith;
         below-b = omega arith;
-        rise-a = c .before .before .before .before .before .pre .rise _ low;
-        rise-b = c .before .before .before .before .before .pre .rise _ (c .loop-test .taken);
+        range-a = c .before .before .before .before .before .pre .range _ low;
+        range-b = c .before .before .before .before .before .pre .range _ (c .loop-test .taken);
       },
       pair-in-order (now (c .before .before .before .before .before .args .begin)) (now (c .before .before .before .before .before .args .finish)) (now (c .before .before .before .before .before .args .after)) _ (c .before .before .before .before .in-order .ensures) _ _ low (c .loop-test .taken),
     )

@@ -3,7 +3,7 @@ use Rattle.plan.specs.Value.{planWith}
 use mathlib.Core.Path.{ap, _∙_}
 use Rattle.plan.specs.Answer.{isGranted}
 use Rattle.plan.specs.declared.Answer.{Answer}
-use Rattle.judge.proofs.RangeLaws.{few-tasks, refused-sizes, refused-ranges, judged-by-pairs, kept-rises}
+use Rattle.judge.proofs.RangeLaws.{few-tasks, refused-sizes, refused-ranges, judged-by-pairs, kept-in-range}
 use Rattle.judge.proofs.ranges.is_accepted.Statement.{statement}
 use Rattle.judge.proofs.ranges.is_accepted.Tie as tie
 
@@ -23,7 +23,7 @@ returns-2 c =
 
 first-fault-requires : tie.Need-first-fault-requires
 first-fault-requires c κs =
-    kept-rises (planWith (c .before .before .before .before .args .boards) (c .before .before .before .before .args .tasks) (now (c .before .before .before .before .args .board)) (now (c .before .before .before .before .args .begin)) (now (c .before .before .before .before .args .finish)) (now (c .before .before .before .before .args .holds)) (now (c .before .before .before .before .args .after))) (c .before .before .before .if1 .left) (c .before .before .all-kept .ensures) (c .before .past-blank .ensures) (c .if2 .left)
+    kept-in-range (planWith (c .before .before .before .before .args .boards) (c .before .before .before .before .args .tasks) (now (c .before .before .before .before .args .board)) (now (c .before .before .before .before .args .begin)) (now (c .before .before .before .before .args .finish)) (now (c .before .before .before .before .args .holds)) (now (c .before .before .before .before .args .after))) (c .before .before .before .if1 .left) (c .before .before .all-kept .ensures) (c .before .past-blank .ensures) (c .if2 .left)
     (few-tasks (c .before .before .before .before .args .boards) (c .before .before .before .before .args .tasks) (c .before .before .before .if1 .left))
 
 returns-3 : tie.Need-returns-3

@@ -1,5 +1,5 @@
 use mathlib.Core.Path.{_∙_}
-use Rattle.judge.proofs.ReadLaws.{reading-line, read-rises, reading-pair, reading-in}
+use Rattle.judge.proofs.ReadLaws.{reading-line, read-in-range, reading-pair, reading-in}
 use borrow.Author.Needs.{needs}
 use Rattle.judge.proofs.read.read_plan.Statement.{statement}
 use Rattle.judge.proofs.read.read_plan.Tie as tie
@@ -14,7 +14,7 @@ cast-first-fault : tie.Need-cast-first-fault
 cast-first-fault c = search needs
 
 first-fault-requires : tie.Need-first-fault-requires
-first-fault-requires c κs = read-rises _ (c .before .before .before .before .before .before .before .before .before .before .read-lines .ensures) (c .before .before .before .before .before .before .before .if1 .left)
+first-fault-requires c κs = read-in-range _ (c .before .before .before .before .before .before .before .before .before .before .read-lines .ensures) (c .before .before .before .before .before .before .before .if1 .left)
 
 refused-requires : tie.Need-refused-requires
 refused-requires c κs = search needs
