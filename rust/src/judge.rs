@@ -11,7 +11,13 @@ use crate::values::{
 
 /// Whether the plan is accepted.
 pub fn accepted(plan: &Plan) -> bool {
-    keeps_ranges(plan) && first_faulty_pair(plan).is_none()
+    keeps_ranges(plan) && late_beginning(plan).is_none() && first_faulty_pair(plan).is_none()
+}
+
+/// Refusal 17 with the least planned start, when that is not tick 0.
+pub fn late_beginning(plan: &Plan) -> Option<Answer> {
+    let least = plan.begin[..plan.task_count()].iter().min()?;
+    (*least > 0).then(|| refusal(17, *least, 0))
 }
 
 /// The first faulty pair by a, then b, as its refusal; None when there is none.

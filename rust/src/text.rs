@@ -5,7 +5,7 @@
 //! stray LF after the last task line is already bytes that follow it (5).
 
 use crate::fields::{line_of, push_number, read_number, split_fields, split_line};
-use crate::judge::{accepted, first_faulty_pair};
+use crate::judge::{accepted, first_faulty_pair, late_beginning};
 use crate::values::{
     drive_of, is_exclusive, items, refusal, Answer, Plan, Reading, Written, AFTER_PLACES,
     HOLD_PLACES, LAST_TICK, LONGEST_TEXT, MOST_BOARDS, MOST_DRIVES, MOST_TASKS,
@@ -128,7 +128,7 @@ fn plan_of(text: &[u8]) -> Result<Plan, Answer> {
     if !rest.is_empty() {
         return Err(refusal(5, u32::from(plan.tasks) + 2, 0));
     }
-    match first_faulty_pair(&plan) {
+    match late_beginning(&plan).or_else(|| first_faulty_pair(&plan)) {
         Some(answer) => Err(answer),
         None => Ok(plan),
     }

@@ -7,6 +7,7 @@ use dispatcher::sample::events::{
     passed_tasks, random_book, Event,
 };
 use dispatcher::sample::every_book::{every_book, every_event, CHAIN};
+use dispatcher::sample::faults::late_plan;
 use dispatcher::sample::plan_a::{PLAN_A, REPORTS_A};
 use dispatcher::sample::plans::{full_plan, random_plan};
 use dispatcher::sample::reports::{
@@ -214,6 +215,7 @@ fn open_changed_plans(rng: &mut Rng, tally: &mut Tally) {
         for _ in 0..5 {
             compare_opening(tally, &mutated_plan(rng, &plan));
             compare_opening(tally, &one_rule_broken(rng, &plan));
+            compare_opening(tally, &late_plan(rng, &plan));
             compare_opening(tally, &wild_plan(rng));
         }
     }

@@ -260,5 +260,5 @@ fn texts_and_plans_are_answered_alike() {
     judge_and_write_changed_plans(&mut rng, &mut tally);
     judge_and_write_wild_plans(&mut rng, &mut tally);
     write_to_every_length(&mut rng, &mut tally);
-    tally.finish(200_000, &[1, 2, 3, 4, 5, 6, 7, 8, 9, 16]);
+    tally.finish(200_000, &[1, 2, 3, 4, 5, 6, 7, 8, 9, 16, 17]);
 }

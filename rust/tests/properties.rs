@@ -2,19 +2,19 @@
 //! Each test prints its seed; set SEED to repeat or to try another.
 
 use dispatcher::judge::clash;
-use dispatcher::sample::damage::{mutated_book, mutated_plan, wrongly_dropped_book};
+use dispatcher::sample::damage::{late_book, mutated_book, mutated_plan, wrongly_dropped_book};
 use dispatcher::sample::events::{
     accepted_event, any_drop, event_line, first_drops, is_chain_over_boards, must_take,
     passed_tasks, random_book, take, Event,
 };
-use dispatcher::sample::faults::{damaged_text, faulty_pair_plan, one_fault};
-use dispatcher::sample::plans::random_plan;
+use dispatcher::sample::faults::{damaged_text, faulty_pair_plan, late_plan, one_fault};
+use dispatcher::sample::plans::{moved_later, random_plan};
 use dispatcher::sample::reports::{
     any_report, last_moment_report, one_tick_reports, running_tasks,
 };
 use dispatcher::sample::{announced_seed, Rng};
 use dispatcher::text::plan_text;
-use dispatcher::values::{items, LONGEST_TEXT};
+use dispatcher::values::{items, refusal, LONGEST_TEXT};
 use dispatcher::{
     accepted, drop_task, first_faulty_pair, minimum_early, open_book, read_plan, report, run_log,
     sound, write_plan,
@@ -115,7 +115,7 @@ fn read_texts_write_back_the_same_bytes() {
             read += 1;
         } else {
             assert!(reading.plan == Plan::ZERO);
-            assert!((1..=8).contains(&reading.answer.code));
+            assert!((1..=8).chain([17]).any(|code| code == reading.answer.code));
         }
     }
     println!("30000 damaged texts, {read} of them still plans");
@@ -136,6 +136,24 @@ fn one_fault_texts_meet_their_refusal() {
         }
     }
     println!("20000 texts of one fault");
+}
+
+#[test]
+fn a_plan_with_no_task_at_0_is_refused_for_that_alone() {
+    let mut rng = rng_for("a_plan_with_no_task_at_0");
+    let mut late_as_a_whole = 0;
+    for _ in 0..3000 {
+        let plan = random_plan(&mut rng);
+        assert!(accepted(&plan));
+        let late = late_plan(&mut rng, &plan);
+        assert!(!accepted(&late));
+        let least = *late.begin[..late.task_count()].iter().min().unwrap();
+        let reading = read_plan(&plan_text(&late));
+        assert_eq!(reading.answer, refusal(17, least, 0));
+        late_as_a_whole += u32::from(late == moved_later(&plan, least));
+    }
+    println!("3000 late plans, {late_as_a_whole} of them late as a whole");
+    assert!(late_as_a_whole > 1000 && late_as_a_whole < 2900);
 }
 
 /// All faults of all pairs, straight from the document's table, as (a, b, code).
@@ -558,6 +576,21 @@ fn sound_books_are_exactly_those_a_run_gives() {
 }
 
 #[test]
+fn a_book_on_a_plan_with_no_task_at_0_is_never_sound() {
+    let mut rng = rng_for("a_book_on_a_plan_with_no_task_at_0");
+    for _ in 0..2000 {
+        let book = random_book(&mut rng);
+        let late = late_book(&mut rng, &book);
+        assert!(!sound(&late), "{late:?}");
+        let (task, tick) = any_report(&mut rng, &book);
+        assert_eq!(report(&late, task, tick).answer, Answer::UNSOUND);
+        assert_eq!(drop_task(&late, task).answer, Answer::UNSOUND);
+        assert_eq!(minimum_early(&late).answer, Answer::UNSOUND);
+        assert_eq!(open_book(&late.plan()).answer, Answer::UNSOUND);
+    }
+}
+
+#[test]
 fn a_wrong_drop_is_never_sound() {
     let mut rng = rng_for("a_wrong_drop_is_never_sound");
     for _ in 0..600 {
@@ -669,8 +702,8 @@ fn every_refusal_number_is_reached() {
     for _ in 0..8000 {
         by_code[code_of_a_damaged_input(&mut rng) as usize] += 1;
     }
-    // 17 and 18 belong to requests that are not in.
-    for code in (0..=16).chain([19]) {
+    // 18 belongs to a request that is not in.
+    for code in (0..=17).chain([19]) {
         let times = by_code[code];
         println!("code {code}: {times}");
         assert!(times > 0, "code {code} was never reached");

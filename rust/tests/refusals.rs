@@ -1,8 +1,11 @@
 //! Every refusal number by hand-written cases, with the two numbers it says.
 
+use dispatcher::sample::damage::on_other_plan;
 use dispatcher::sample::events::random_book;
 use dispatcher::sample::plan_a::{ENDS_A, PLAN_A, REPORTS_A};
+use dispatcher::sample::plans::moved_later;
 use dispatcher::sample::{announced_seed, Rng};
+use dispatcher::text::plan_text;
 use dispatcher::values::{refusal, RUNNING};
 use dispatcher::{
     accepted, drop_task, minimum_early, open_book, proved, read_plan, report, run_log, sound,
@@ -311,6 +314,56 @@ fn code_5_bytes_after_the_last_task_line() {
     let mut overlapping = small_with_field(4, 4, "4");
     overlapping.push(b'x');
     check_text(&overlapping, 5, 5, 0);
+}
+
+/// The small plan's text so many ticks later.
+fn small_later(by: u32) -> Vec<u8> {
+    plan_text(&moved_later(&small_plan(), by))
+}
+
+#[test]
+fn code_17_no_task_at_tick_0() {
+    for by in [1, 2, 30_000, 999_991] {
+        check_text(&small_later(by), 17, by, 0);
+    }
+    // The least planned start, whichever task has it.
+    let text =
+        "plan\t1\t2\t3\ntask\t1\t1\t8\t9\t-\t-\ntask\t2\t1\t3\t4\t-\t-\ntask\t3\t2\t5\t6\t-\t-\n";
+    check_text(text.as_bytes(), 17, 3, 0);
+    // One task at 0 is enough, also the last one.
+    let last_at_0 = text.replace("task\t3\t2\t5", "task\t3\t2\t0");
+    assert_eq!(read_plan(last_at_0.as_bytes()).answer, Answer::ACCEPTED);
+}
+
+#[test]
+fn code_17_comes_after_5_and_before_6() {
+    let text = small_later(7);
+    check_text(&[&text[..], b"\n"].concat(), 5, 5, 0);
+    check_text(&text[..text.len() - 1], 3, 4, 0);
+    let text = String::from_utf8(text).unwrap();
+    check_text(text.replace("\t12\t", "\t7\t").as_bytes(), 4, 2, 0);
+    for (what, by_pair) in [
+        ("task\t2\t2\t", "task\t2\t1\t"),
+        ("\ts3\t", "\te3\t"),
+        ("\t1,2\n", "\t1,3\n"),
+    ] {
+        let faulty = text.replace(what, by_pair);
+        assert_ne!(faulty, text);
+        check_text(faulty.as_bytes(), 17, 7, 0);
+    }
+}
+
+#[test]
+fn code_9_plan_or_book_with_no_task_at_tick_0() {
+    for by in [1, 30_000] {
+        let what = format!("{by} ticks late");
+        let late = moved_later(&small_plan(), by);
+        check_plan_9(&late, &what);
+        for reports in [&[][..], &[(2, 3)], &[(2, 3), (1, 4)]] {
+            let book = book_of(&small_text(), reports);
+            check_book_9(&on_other_plan(&book, &late), &what);
+        }
+    }
 }
 
 #[test]

@@ -5,3 +5,4 @@ pub mod OrderLaws
 pub mod PairLaws
 pub mod RangeLaws
 pub mod ReadLaws
+pub mod StartLaws

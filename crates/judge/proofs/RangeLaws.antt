@@ -1,5 +1,5 @@
 -- What is kept of a task, in the two halves that are tested.
-use Prim.Native.Nat.{ℕ, _≤_}
+use Prim.Native.Nat.{ℕ, _≤_, _<_}
 use mathlib.Core.Path.{_≡_, refl, sym, _∙_}
 use mathlib.Core.Bool.{Bool, true, false, not, _&&_}
 use mathlib.Core.List.{List}
@@ -14,7 +14,7 @@ use Rattle.text.specs.Items.{between, driveOf, holdsOk, afterOk}
 use Rattle.text.specs.private.Lettered.{keyOf}
 use Rattle.plan.specs.Answer.{isGranted}
 use Rattle.plan.specs.Task.{Task, numbersOk, taskOk}
-use Rattle.plan.specs.Pairs.{firstFault}
+use Rattle.plan.specs.Judged.{tasksAnswer}
 use Rattle.plan.specs.Value.{row, items, planWith, isTrimmed, keptOk, pastBlank, rangesOk, isAccepted, taskAt}
 use Rattle.judge.specs.private.Arrays.{numbersIn, listsIn, isDrive, RowInRange, RowsInRange}
 use Rattle.plan.specs.declared.Plan.{Plan}
@@ -41,11 +41,16 @@ kept-is boards tasks board begin finish holds after k =
     (isTrimmed (row 32 holds k))
     (isTrimmed (row 64 after k)))
 
--- acceptance in the order in which it is tested: the sizes, the ranges, the pairs
+-- acceptance in the order in which it is tested: the sizes, the ranges, the tasks
 regroup-all : (boards tasks ranges pairs : Bool) → ((boards && (tasks && ranges)) && pairs) ≡ ((boards && tasks) && (ranges && pairs))
 regroup-all false tasks ranges pairs = refl
 regroup-all true false ranges pairs = refl
 regroup-all true true ranges pairs = refl
+
+pub some-tasks : (boards tasks : ℕ) → not (between 1 8 boards && between 1 64 tasks) ≡ false → 0 < tasks
+some-tasks boards tasks h =
+    leb-true 1 tasks
+    (and-l (leb 1 tasks) (leb tasks 64) (and-r (between 1 8 boards) (between 1 64 tasks) (not-false (between 1 8 boards && between 1 64 tasks) h)))
 
 pub few-tasks : (boards tasks : ℕ) → not (between 1 8 boards && between 1 64 tasks) ≡ false → tasks ≤ 64
 few-tasks boards tasks h =
@@ -73,7 +78,7 @@ module _ (plan : Plan) where
   abbrev ranges : Bool
   ranges = every (plan .tasks) (keptOk plan) && pastBlank plan
 
-  accepted-is : isAccepted plan ≡ (sizes && (ranges && isGranted (firstFault (plan .tasks) (taskAt plan))))
+  accepted-is : isAccepted plan ≡ (sizes && (ranges && isGranted (tasksAnswer (plan .tasks) (taskAt plan))))
   unfolding isAccepted rangesOk
   accepted-is = regroup-all (between 1 8 (plan .boards)) (between 1 64 (plan .tasks)) ranges _
 
@@ -85,8 +90,8 @@ module _ (plan : Plan) where
     refused-ranges h =
         let r : ranges ≡ false = rw (k, p) at (not-true (kept && past) h) in rw (accepted-is, not-false sizes s, r)
 
-    pub judged-by-pairs : not (kept && past) ≡ false → isGranted (firstFault (plan .tasks) (taskAt plan)) ≡ isAccepted plan
-    judged-by-pairs h =
+    pub judged-by-tasks : not (kept && past) ≡ false → isGranted (tasksAnswer (plan .tasks) (taskAt plan)) ≡ isAccepted plan
+    judged-by-tasks h =
         let r : ranges ≡ true = rw (k, p) at (not-false (kept && past) h) in rw (accepted-is, not-false sizes s, r)
 
     -- the drives of what is kept are in range

@@ -4,6 +4,7 @@ mod order;
 mod pairs;
 pub mod ranges;
 pub mod read;
+mod tasks;
 
 // The sets of the drives that a list holds exclusively, and of all that it holds.
 pub(crate) struct Sets {

@@ -7,7 +7,7 @@ ghost use Rattle.laws.specs.Lists.{risesFrom};
 ghost use Rattle.text.specs.private.Lettered.{keyOf};
 ghost use Rattle.plan.specs.Value.{row, items, blankFrom, isTrimmed, planWith, keptOk, pastBlank, isAccepted};
 ghost use Rattle.judge.specs.private.Arrays.{numbersIn, listIn};
-use crate::pairs::first_fault;
+use crate::tasks::judge_tasks;
 use text::part::find;
 
 // Nothing is kept from place n on. A walk that gathers to its end can use wide instructions.
@@ -176,6 +176,6 @@ pub fn is_accepted<'a>(
         & past_blank(tasks, board, begin, finish, holds, after)) {
         return false;
     }
-    let fault = first_fault(board, begin, finish, holds, after, tasks as usize);
+    let fault = judge_tasks(board, begin, finish, holds, after, tasks as usize);
     fault.code == 0
 }

@@ -1,7 +1,7 @@
-// Reading a plan text: its lines, then pair by pair.
+// Reading a plan text: its lines, then its tasks.
 ghost use mathlib.Core.Path.{_≡_};
 ghost use Rattle.plan.specs.Read.{readingOf};
-use crate::pairs::first_fault;
+use crate::tasks::judge_tasks;
 use plan::Reading;
 use reader::lines::read_lines;
 use reader::lines::refused;
@@ -15,7 +15,7 @@ pub fn read_plan(text: &[u8]) -> Reading
         return lines;
     }
     let plan = lines.plan;
-    let fault = first_fault(
+    let fault = judge_tasks(
         &plan.board,
         &plan.begin,
         &plan.finish,

@@ -1,6 +1,6 @@
 -- What the least of those picked is, and who has it.
-use mathlib.Core.Path.{_≡_, refl}
-use mathlib.Core.Bool.{Bool, true, false, not}
+use mathlib.Core.Path.{_≡_, refl, ap, _∙_}
+use mathlib.Core.Bool.{Bool, true, false, not, cond}
 use mathlib.Core.Option.{Option, none, some, Option·getD}
 use Prim.Native.Nat.{ℕ, zero, suc, _≤_, _<_, min}
 use native.Mathlib.Omega.{arith}
@@ -125,3 +125,14 @@ has-least (suc n) w f k l h =
               by-eq j n (λ e. rw e (omega arith)) (λ ne. let q = m .least-of j (omega arith) hj in omega arith);
         }))
         (λ wn. stay m (λ h. true-false h wn))
+
+-- only the values below n count
+pub least-same : (n : ℕ) (w : ℕ → Bool) (f g : ℕ → ℕ) → ((j : ℕ) → j < n → f j ≡ g j) → least n w f ≡ least n w g
+unfolding least
+least-same zero w f g e = refl
+least-same (suc n) w f g e =
+    ap (λ (o : Option ℕ). grown o (f n)) (least-same n w f g (λ j l. e j (omega arith)))
+    ∙ ap (grown (least n w g)) (e n (omega arith))
+  where
+    grown : Option ℕ → ℕ → Option ℕ
+    grown o x = cond (w n) (some (elim o [ none ↦ x | some v ↦ min v x ])) o

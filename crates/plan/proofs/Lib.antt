@@ -1,4 +1,5 @@
 pub mod FirstFault
+pub mod Judged
 pub mod PlanRows
 pub mod PlanTasks
 pub mod TextLines

@@ -14,12 +14,13 @@ use Rattle.text.specs.Number.{valueOf}
 use Rattle.text.specs.Line.{hasLine, skip, lineAt, field}
 use Rattle.plan.specs.Answer.{refuse, granted, isGranted, isRefused}
 use Rattle.plan.specs.Task.{Task, taskOk}
-use Rattle.plan.specs.Pairs.{firstFault}
+use Rattle.plan.specs.Judged.{tasksAnswer}
 use Rattle.plan.specs.Value.{taskAt, planOf, rangesOk, isAccepted}
 use Rattle.plan.specs.Read.{sizesOk, boardsOf, tasksOf, lineTask, codeFor, lineCode}
 use Rattle.plan.specs.Read.{lineAnswer, linesAnswer, textTask, formAnswer, textAnswer, textPlan, readingOf}
 use Rattle.plan.specs.declared.Answer.{Answer}
-use Rattle.plan.proofs.FirstFault.{refused-code, passed-code, fault-granted, fault-same}
+use Rattle.plan.proofs.FirstFault.{refused-code, passed-code}
+use Rattle.plan.proofs.Judged.{tasks-granted, tasks-same}
 use Rattle.plan.proofs.PlanTasks.{Sized, planOf-sized, made-task, made-ranges}
 use Rattle.plan.proofs.LineCodes.{isTaskLine, line-code-is}
 use Rattle.plan.proofs.TextLines.{number-range, sizes-test}
@@ -42,7 +43,7 @@ pub record FormOk (s : List ℕ) : Type 0 where
 
 pub record TextOk (s : List ℕ) : Type 0 where
   pub form : FormOk s
-  pub pairs : firstFault (tasksOf s) (textTask s) ≡ granted
+  pub judged : tasksAnswer (tasksOf s) (textTask s) ≡ granted
 
 -- B and T are small where the first line is as stated
 few-boards : (s : List ℕ) → sizesOk (lineAt s 0) ≡ true → (1 ≤ boardsOf s) × (boardsOf s ≤ 8)
@@ -119,11 +120,10 @@ form-ok s z =
 pub text-ok : (s : List ℕ) → textAnswer s .code ≡ 0 → TextOk s
 unfolding textAnswer
 text-ok s z =
-    let fault : Answer = firstFault (tasksOf s) (textTask s) in
-    let p = answer-passed (isRefused (formAnswer s)) (formAnswer s) fault (refused-code (formAnswer s)) z in
+    let p = answer-passed (isRefused (formAnswer s)) (formAnswer s) (tasksAnswer (tasksOf s) (textTask s)) (refused-code (formAnswer s)) z in
     record {
       form = form-ok s (passed-code (formAnswer s) (p .0));
-      pairs = fault-granted (tasksOf s) (textTask s) (p .1);
+      judged = tasks-granted (tasksOf s) (textTask s) (p .1);
     }
 
 -- and a text that keeps it is accepted
@@ -144,7 +144,7 @@ ok-form s r =
 
 pub ok-text : (s : List ℕ) → TextOk s → textAnswer s ≡ granted
 unfolding textAnswer
-ok-text s r = rw (ok-form s (r .form)) (r .pairs)
+ok-text s r = rw (ok-form s (r .form)) (r .judged)
 
 -- ---- the plan that it reads as
 
@@ -163,8 +163,8 @@ module _ (s : List ℕ) (f : FormOk s) where
   pub form-task : (k : ℕ) → k < tasksOf s → taskAt (textPlan s) k ≡ textTask s k
   form-task = made-task (boardsOf s) (tasksOf s) (textTask s) (form-tasks .1) form-ranges
 
-  pub form-fault : firstFault (tasksOf s) (taskAt (textPlan s)) ≡ firstFault (tasksOf s) (textTask s)
-  form-fault = fault-same (tasksOf s) (taskAt (textPlan s)) (textTask s) form-task
+  pub form-judged : tasksAnswer (tasksOf s) (taskAt (textPlan s)) ≡ tasksAnswer (tasksOf s) (textTask s)
+  form-judged = tasks-same (tasksOf s) (taskAt (textPlan s)) (textTask s) form-task
 
   form-kept : rangesOk (textPlan s) ≡ true
   form-kept =
@@ -184,4 +184,4 @@ module _ (s : List ℕ) (z : textAnswer s .code ≡ 0) where
   unfolding isAccepted planOf
   read-accepted =
       let f = text-ok s z .form in
-      rw read-plan (and-of (form-kept s f) (ap isGranted (form-fault s f ∙ text-ok s z .pairs)))
+      rw read-plan (and-of (form-kept s f) (ap isGranted (form-judged s f ∙ text-ok s z .judged)))

@@ -14,7 +14,7 @@ use Rattle.text.specs.Line.{hasLine, skip, lineAt, fields, field}
 use Rattle.text.specs.Items.{between, isList, listOf, isHold, holdOf, holdsOk, afterOk}
 use Rattle.plan.specs.Answer.{refuse, granted, isGranted, isRefused}
 use Rattle.plan.specs.Task.{Task, taskOf}
-use Rattle.plan.specs.Pairs.{firstFault}
+use Rattle.plan.specs.Judged.{tasksAnswer}
 use Rattle.plan.specs.Value.{planOf, zeroPlan}
 use Rattle.plan.specs.declared.Answer.{Answer}
 use Rattle.plan.specs.declared.Plan.{Plan}
@@ -91,9 +91,9 @@ formAnswer s =
     (cond (isRefused (linesAnswer s)) (linesAnswer s)
     (cond (ltb 0 (length (skip (tasksOf s + 1) s))) (refuse 5 (tasksOf s + 2) 0) granted)))
 
--- then pair by pair 6, 7, 8
+-- then 17, and pair by pair 6, 7, 8
 unfoldable pub textAnswer : List ℕ → Answer
-textAnswer s = cond (isRefused (formAnswer s)) (formAnswer s) (firstFault (tasksOf s) (textTask s))
+textAnswer s = cond (isRefused (formAnswer s)) (formAnswer s) (tasksAnswer (tasksOf s) (textTask s))
 
 -- the plan that a text's lines make
 abbrev pub textPlan : List ℕ → Plan
@@ -103,7 +103,7 @@ textPlan s = planOf (boardsOf s) (tasksOf s) (textTask s)
 abbrev pub readAs : Answer → Plan → Reading
 readAs answer plan = record { answer = answer; plan = cond (isGranted answer) plan zeroPlan }
 
--- the lines of a text, its pairs not yet examined
+-- the lines of a text, its tasks not yet judged
 unfoldable pub linesOf : List ℕ → Reading
 linesOf s = readAs (formAnswer s) (textPlan s)
 

@@ -11,7 +11,7 @@ use Rattle.laws.specs.Split.{indexOf, before}
 use Rattle.text.specs.Items.{between}
 use Rattle.plan.specs.Answer.{isGranted}
 use Rattle.plan.specs.Task.{Task, taskOf, taskOk}
-use Rattle.plan.specs.Pairs.{firstFault}
+use Rattle.plan.specs.Judged.{tasksAnswer}
 use Rattle.plan.specs.declared.Plan.{Plan}
 
 abbrev pub at : List ℕ → ℕ → ℕ
@@ -56,8 +56,7 @@ isTrimmed l = blankFrom (indexOf 0 l) l
 
 unfoldable pub keptOk : Plan → ℕ → Bool
 keptOk plan k =
-    taskOk (plan .boards) (plan .tasks) (taskAt plan k)
-    && (isTrimmed (row 32 (plan .holds) k) && isTrimmed (row 64 (plan .after) k))
+    taskOk (plan .boards) (plan .tasks) (taskAt plan k) && (isTrimmed (row 32 (plan .holds) k) && isTrimmed (row 64 (plan .after) k))
 
 -- nothing is kept past the last task
 abbrev pub pastBlank : Plan → Bool
@@ -69,9 +68,8 @@ pastBlank plan =
 -- its numbers and lists keep the ranges and rules
 unfoldable pub rangesOk : Plan → Bool
 rangesOk plan =
-    between 1 8 (plan .boards)
-    && (between 1 64 (plan .tasks) && (every (plan .tasks) (keptOk plan) && pastBlank plan))
+    between 1 8 (plan .boards) && (between 1 64 (plan .tasks) && (every (plan .tasks) (keptOk plan) && pastBlank plan))
 
--- and no pair is faulty
+-- and its tasks are judged faultless: one is planned at tick 0, no pair is faulty
 unfoldable pub isAccepted : Plan → Bool
-isAccepted plan = rangesOk plan && isGranted (firstFault (plan .tasks) (taskAt plan))
+isAccepted plan = rangesOk plan && isGranted (tasksAnswer (plan .tasks) (taskAt plan))

@@ -2,13 +2,14 @@
 -- Tasks are counted from 0: a report or drop names task i by i + 1.
 use Prim.Native.Nat.{ℕ, _≤_, _<_}
 use mathlib.Core.Path.{_≡_}
-use mathlib.Core.Logic.{_↔_, _⊎_}
+use mathlib.Core.Logic.{_≢_, _↔_, _⊎_}
 use mathlib.Core.Bool.{true}
 use mathlib.Core.List.{List}
 use lib.ListN.{length}
 use Rattle.plan.specs.Pairs.{pairCode}
-use Rattle.plan.specs.Value.{taskAt, rangesOk, isAccepted}
-use Rattle.plan.specs.Read.{readingOf}
+use Rattle.plan.specs.Answer.{granted}
+use Rattle.plan.specs.Value.{at, taskAt, rangesOk, isAccepted}
+use Rattle.plan.specs.Read.{tasksOf, textTask, formAnswer, readingOf}
 use Rattle.plan.specs.Write.{writtenOf, bufferAfter}
 use Rattle.plan.specs.declared.Plan.{Plan}
 use Rattle.book.specs.Open.{openingOf}
@@ -17,13 +18,13 @@ use Rattle.book.specs.Drop.{droppedOf}
 use Rattle.book.specs.Early.{figureOf}
 use Rattle.book.specs.declared.Book.{Book}
 use Rattle.promises.specs.Runs.{SizedPlan, Sized}
-use Rattle.promises.specs.Says.{FirstFaulty, ReadingSays, OpeningSays, ReportSays, DropSays, FigureSays, WriteSays}
+use Rattle.promises.specs.Says.{FirstFaulty, BeginsLate, ReadingSays, OpeningSays, ReportSays, DropSays, FigureSays, WriteSays}
 use Rattle.promises.proofs.Judged as judged
 use Rattle.promises.proofs.codes.Reading as read-codes
 use Rattle.promises.proofs.codes.Book as book-codes
 use Rattle.promises.proofs.codes.Writing as write-codes
 
-pub reading-code : (text : List ℕ) → readingOf text .answer .code ≤ 8
+pub reading-code : (text : List ℕ) → (readingOf text .answer .code ≤ 8) ⊎ (readingOf text .answer .code ≡ 17)
 reading-code = read-codes.reading-code
 
 pub reading-says : (text : List ℕ) → ReadingSays text (readingOf text)
@@ -31,15 +32,28 @@ reading-says = read-codes.reading-says
 
 -- refused with 6, 7 or 8 it names the first faulty pair, by a, then by b
 pub reading-pair :
-    (text : List ℕ) → 6 ≤ readingOf text .answer .code
+    (text : List ℕ) → 6 ≤ readingOf text .answer .code → readingOf text .answer .code ≤ 8
     → FirstFaulty text (readingOf text .answer .code) (readingOf text .answer .first) (readingOf text .answer .second)
 reading-pair = read-codes.reading-pair
 
--- a plan is accepted exactly when its ranges are kept and no pair is faulty
+-- refused with 17 exactly when its lines are faultless, nothing follows them and no task is planned at 0
+pub reading-late :
+    (text : List ℕ)
+    → (readingOf text .answer .code ≡ 17)
+    ↔ ((formAnswer text ≡ granted) × ((k : ℕ) → k < tasksOf text → textTask text k .begin ≢ 0))
+reading-late = read-codes.reading-late
+
+-- and it names the least planned start
+pub reading-start : (text : List ℕ) → readingOf text .answer .code ≡ 17 → BeginsLate text (readingOf text .answer .first)
+reading-start = read-codes.reading-start
+
+-- a plan is accepted exactly when its ranges are kept, some task is planned at 0 and no pair is faulty
 pub plan-accepted :
     (plan : Plan)
     → (isAccepted plan ≡ true)
-    ↔ ((rangesOk plan ≡ true) × ((a b : ℕ) → a ≤ b → b < plan .tasks → pairCode (taskAt plan) a b ≡ 0))
+    ↔ ((rangesOk plan ≡ true)
+    × ((k : ℕ) × (k < plan .tasks) × (at (plan .begin) k ≡ 0))
+    × ((a b : ℕ) → a ≤ b → b < plan .tasks → pairCode (taskAt plan) a b ≡ 0))
 plan-accepted = judged.plan-accepted
 
 pub opening-code : (plan : Plan) → (openingOf plan .answer .code ≡ 0) ⊎ (openingOf plan .answer .code ≡ 9)

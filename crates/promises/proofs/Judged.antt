@@ -1,4 +1,4 @@
--- What an accepted plan says: its ranges and its pairs, and that tasks of one board stand in a row.
+-- What an accepted plan says: its ranges, its tasks, and that tasks of one board stand in a row.
 use Prim.Native.Nat.{ℕ, _≤_, _<_}
 use native.Mathlib.Omega.{arith}
 use mathlib.Core.Bool.{true}
@@ -9,19 +9,21 @@ use Rattle.laws.proofs.Cases.{and-l, and-r, and-of}
 use Rattle.plan.specs.Pairs.{pairCode}
 use Rattle.plan.specs.Value.{at, taskAt, rangesOk, isAccepted}
 use Rattle.plan.specs.declared.Plan.{Plan}
-use Rattle.plan.proofs.FirstFault.{fault-none}
+use Rattle.plan.proofs.Judged.{tasks-fine}
 use Rattle.view.proofs.Accepted.{plan-facts}
 use Rattle.book.proofs.Fits.{plan-turns}
 
 pub plan-accepted :
     (plan : Plan)
     → (isAccepted plan ≡ true)
-    ↔ ((rangesOk plan ≡ true) × ((a b : ℕ) → a ≤ b → b < plan .tasks → pairCode (taskAt plan) a b ≡ 0))
+    ↔ ((rangesOk plan ≡ true)
+    × ((k : ℕ) × (k < plan .tasks) × (at (plan .begin) k ≡ 0))
+    × ((a b : ℕ) → a ≤ b → b < plan .tasks → pairCode (taskAt plan) a b ≡ 0))
 unfolding isAccepted
 plan-accepted plan =
-    let none = fault-none (plan .tasks) (taskAt plan) in (
-      λ ok. (and-l _ _ ok, none .0 (eqb-true _ 0 (and-r (rangesOk plan) _ ok))),
-      λ r. and-of (r .0) (eq-eqb _ 0 (none .1 (r .1))),
+    let fine = tasks-fine (plan .tasks) (taskAt plan) in (
+      λ ok. let f = fine .0 (eqb-true _ 0 (and-r (rangesOk plan) _ ok)) in (and-l _ _ ok, f .0, f .1),
+      λ r. and-of (r .0) (eq-eqb _ 0 (fine .1 (r .1, r .2))),
     )
 
 pub first-run :

@@ -9,7 +9,7 @@ use lib.Seq.{sets}
 use Rattle.plan.specs.Answer.{refuse, granted}
 use Rattle.plan.specs.Value.{zeroPlan, isAccepted}
 use Rattle.plan.specs.Pairs.{pairCode}
-use Rattle.plan.specs.Read.{tasksOf, textTask}
+use Rattle.plan.specs.Read.{tasksOf, textTask, formAnswer}
 use Rattle.plan.specs.Write.{textOf}
 use Rattle.plan.specs.declared.Plan.{Plan}
 use Rattle.plan.specs.declared.Reading.{Reading}
@@ -44,6 +44,13 @@ pub record FirstFaulty (text : List ℕ) (code a b : ℕ) : Type 0 where
   pub first : (x y : ℕ) → 1 ≤ x → x ≤ y → y ≤ tasksOf text → Before x y a b → faultOf text x y ≡ 0
   pub two : code ≢ 8 → a < b
 
+-- the text's lines are faultless, nothing follows them, no task is planned at 0, and start is the least planned start
+pub record BeginsLate (text : List ℕ) (start : ℕ) : Type 0 where
+  pub lines : formAnswer text ≡ granted
+  pub from : 1 ≤ start
+  pub least : (k : ℕ) → k < tasksOf text → start ≤ textTask text k .begin
+  pub met : (k : ℕ) × (k < tasksOf text) × (textTask text k .begin ≡ start)
+
 pub data ReadingSays (text : List ℕ) (r : Reading) : Type 0 where
   read : r .answer ≡ granted → isAccepted (r .plan) ≡ true → ReadingSays text r
   too-long : r ≡ noPlan 1 0 0 → ReadingSays text r
@@ -52,6 +59,7 @@ pub data ReadingSays (text : List ℕ) (r : Reading) : Type 0 where
       (code line : ℕ) → (code ≡ 3) ⊎ (code ≡ 4) → 2 ≤ line → line ≤ tasksOf text + 1 → r ≡ noPlan code line 0
       → ReadingSays text r
   more-bytes : r ≡ noPlan 5 (tasksOf text + 2) 0 → ReadingSays text r
+  late : (start : ℕ) → BeginsLate text start → r ≡ noPlan 17 start 0 → ReadingSays text r
   faulty-pair : (code a b : ℕ) → FirstFaulty text code a b → r ≡ noPlan code a b → ReadingSays text r
 
 pub data OpeningSays (plan : Plan) (r : Opening) : Type 0 where

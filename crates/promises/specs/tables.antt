@@ -3,3 +3,4 @@ pub mod Starred
 pub mod Listing
 pub mod Impostors
 pub mod Weaker
+pub mod Late

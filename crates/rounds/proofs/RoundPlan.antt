@@ -14,14 +14,14 @@ use Rattle.text.specs.Number.{valueOf}
 use Rattle.text.specs.Line.{TAB, LF, hasLine, skip, lineAt, field}
 use Rattle.plan.specs.Answer.{granted, isGranted}
 use Rattle.plan.specs.Task.{Task, taskOk}
-use Rattle.plan.specs.Pairs.{firstFault}
+use Rattle.plan.specs.Judged.{tasksAnswer}
 use Rattle.plan.specs.Value.{taskAt, planOf, rangesOk, isAccepted}
 use Rattle.plan.specs.Read.{sizesOk, boardsOf, tasksOf, lineTask, textTask, readingOf}
 use Rattle.plan.specs.Write.{sizesText, taskText, taskTexts, textOf}
 use Rattle.plan.specs.declared.Answer.{Answer}
 use Rattle.plan.specs.declared.Plan.{Plan}
 use Rattle.plan.proofs.LineCodes.{isTaskLine}
-use Rattle.plan.proofs.FirstFault.{fault-granted, fault-same}
+use Rattle.plan.proofs.Judged.{tasks-granted, tasks-same}
 use Rattle.plan.proofs.PlanTasks.{Sized, RangesKept, ranges-kept, task-kept, task-fits, planOf-same, planOf-own}
 use Rattle.rounds.proofs.RoundBack.{sizesFields, taskFields, made-line, made-rest, made-has, sizes-whole, sizes-fields}
 use Rattle.rounds.proofs.RoundBack.{sizes-read, task-whole, task-read, task-number, task-back, skip-texts, texts-from}
@@ -31,14 +31,14 @@ use Rattle.plan.proofs.ReadOk.{LineOk, FormOk, TextOk, ok-text, read-answer, re
 module _ (plan : Plan) where
   accepted-ranges : isAccepted plan ≡ true → rangesOk plan ≡ true
   unfolding isAccepted
-  accepted-ranges h = and-l (rangesOk plan) (isGranted (firstFault (plan .tasks) (taskAt plan))) h
+  accepted-ranges h = and-l (rangesOk plan) (isGranted (tasksAnswer (plan .tasks) (taskAt plan))) h
 
-  accepted-pairs : isAccepted plan ≡ true → firstFault (plan .tasks) (taskAt plan) ≡ granted
+  accepted-tasks : isAccepted plan ≡ true → tasksAnswer (plan .tasks) (taskAt plan) ≡ granted
   unfolding isAccepted
-  accepted-pairs h =
-      fault-granted (plan .tasks) (taskAt plan)
-      (eqb-true (firstFault (plan .tasks) (taskAt plan) .code) 0
-      (and-r (rangesOk plan) (isGranted (firstFault (plan .tasks) (taskAt plan))) h))
+  accepted-tasks h =
+      tasks-granted (plan .tasks) (taskAt plan)
+      (eqb-true (tasksAnswer (plan .tasks) (taskAt plan) .code) 0
+      (and-r (rangesOk plan) (isGranted (tasksAnswer (plan .tasks) (taskAt plan))) h))
 
 task-ok-at :
     {b c m n : ℕ} {x y : Task} → b ≡ c → m ≡ n → x ≡ y → taskOk c n y ≡ true → taskOk b m x ≡ true
@@ -120,9 +120,9 @@ module _ (plan : Plan) (ok : isAccepted plan ≡ true) where
       lines = λ k h. line-kept k (rw text-tasks at h);
       ends = ap length (ap (λ (n : ℕ). skip (n + 1) (textOf plan)) text-tasks ∙ text-rest (plan .tasks) ∙ none);
     };
-    pairs = ap (λ (n : ℕ). firstFault n (textTask (textOf plan))) text-tasks
-        ∙ fault-same (plan .tasks) (textTask (textOf plan)) (taskAt plan) text-task
-        ∙ accepted-pairs plan ok;
+    judged = ap (λ (n : ℕ). tasksAnswer n (textTask (textOf plan))) text-tasks
+        ∙ tasks-same (plan .tasks) (textTask (textOf plan)) (taskAt plan) text-task
+        ∙ accepted-tasks plan ok;
   }
     where
       none : skip (plan .tasks) lines ≡ []

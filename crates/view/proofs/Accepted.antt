@@ -1,4 +1,4 @@
--- What an accepted plan says: its ranges, and that of two clashing tasks one waits for the other.
+-- What an accepted plan says: its ranges, that some task is planned at 0, and that of two clashing tasks one waits for the other.
 use Prim.Native.Nat.{ℕ, _+_, _<_, _≤_}
 use native.Mathlib.Omega.{arith}
 use mathlib.Core.Bool.{Bool, true, false, not, cond, _&&_, _||_}
@@ -11,12 +11,12 @@ use Rattle.laws.proofs.Cases.{by-le, true-false, same-test, and-l, and-r, or-at
 use Rattle.laws.specs.Lists.{anyOf}
 use Rattle.text.specs.Items.{driveOf, isShared}
 use Rattle.theory.specs.Plan as theory-plan
-use Rattle.plan.specs.Answer.{isGranted}
 use Rattle.plan.specs.Task.{Task}
-use Rattle.plan.specs.Pairs.{overlap, sameBoard, holdsClash, clashByDrive, isListed, clash, breaksAfter, pairCode, firstFault}
+use Rattle.plan.specs.Pairs.{overlap, sameBoard, holdsClash, clashByDrive, isListed, clash, breaksAfter, pairCode}
 use Rattle.plan.specs.Value.{at, taskAt, rangesOk, isAccepted}
 use Rattle.plan.specs.declared.Plan.{Plan}
-use Rattle.plan.proofs.FirstFault.{fault-none}
+use Rattle.plan.proofs.FirstFault.{NoPair}
+use Rattle.plan.proofs.Judged.{Begins, tasks-fine}
 use Rattle.plan.proofs.PlanTasks.{RangesKept, ranges-kept, task-kept, task-fits}
 use Rattle.view.specs.View.{planFor}
 
@@ -32,6 +32,7 @@ pub record PlanFacts (plan : Plan) : Type 0 where
   pub tasks-from : 0 < plan .tasks
   pub tasks-to : plan .tasks ≤ 64
   pub task : (k : ℕ) → k < plan .tasks → TaskFacts plan k
+  pub begins : Begins (plan .tasks) (taskAt plan)
   pub pair : (a b : ℕ) → a ≤ b → b < plan .tasks → pairCode (taskAt plan) a b ≡ 0
 
 module _ (plan : Plan) (ok : isAccepted plan ≡ true) where
@@ -39,9 +40,9 @@ module _ (plan : Plan) (ok : isAccepted plan ≡ true) where
   unfolding isAccepted
   ranges = ranges-kept plan (and-l _ _ ok)
 
-  clean : isGranted (firstFault (plan .tasks) (taskAt plan)) ≡ true
+  fine : Begins (plan .tasks) (taskAt plan) × NoPair (plan .tasks) (taskAt plan)
   unfolding isAccepted
-  clean = and-r (rangesOk plan) _ ok
+  fine = tasks-fine (plan .tasks) (taskAt plan) .0 (eqb-true _ 0 (and-r (rangesOk plan) _ ok))
 
   task-facts : (k : ℕ) → k < plan .tasks → TaskFacts plan k
   task-facts k l =
@@ -55,7 +56,8 @@ module _ (plan : Plan) (ok : isAccepted plan ≡ true) where
     tasks-from = ranges .tasks .0;
     tasks-to = ranges .tasks .1;
     task = task-facts;
-    pair = (fault-none (plan .tasks) (taskAt plan)) .0 (eqb-true _ 0 clean);
+    begins = fine .0;
+    pair = fine .1;
   }
 
   -- an accepted plan is lawful

@@ -18,7 +18,7 @@ use Rattle.text.proofs.ListFields.{holdsText, afterText}
 use Rattle.text.specs.Line.{TAB, LF}
 use Rattle.plan.specs.Answer.{isGranted}
 use Rattle.plan.specs.Task.{Task}
-use Rattle.plan.specs.Pairs.{firstFault}
+use Rattle.plan.specs.Judged.{tasksAnswer}
 use Rattle.plan.specs.Value.{row, items, taskAt, keptOk, pastBlank, rangesOk, isAccepted}
 use Rattle.plan.specs.Write.{sizesText, taskText, taskTexts, textOf, writeAnswer, writtenOf, bufferAfter}
 use Rattle.writer.specs.private.WriteParts.{itemText, numberField, listField, numbersText, Measured, Room, Wrote, answered}
@@ -238,7 +238,7 @@ module _ (plan : Plan) where
       pub few-tasks : plan .tasks ≤ 64
       unfolding isAccepted rangesOk
       few-tasks =
-          let ranges = and-l (rangesOk plan) (isGranted (firstFault (plan .tasks) (taskAt plan))) yes-accepted in
+          let ranges = and-l (rangesOk plan) (isGranted (tasksAnswer (plan .tasks) (taskAt plan))) yes-accepted in
           let sizes = and-r (between 1 8 (plan .boards)) (between 1 64 (plan .tasks) && kept) ranges in
           leb-true (plan .tasks) 64
           (and-r (leb 1 (plan .tasks)) (leb (plan .tasks) 64) (and-l (between 1 64 (plan .tasks)) kept sizes))

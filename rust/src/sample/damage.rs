@@ -1,5 +1,6 @@
 //! Plan and book values with some bytes changed.
 
+use super::faults::late_plan;
 use super::Rng;
 use crate::values::{Book, Plan, DROPPED, ENDED, RUNNING, WAITING};
 
@@ -67,7 +68,7 @@ fn pass_task(book: &mut Book, i: usize, tick: u32) {
 
 fn mutate_plan_once(rng: &mut Rng, plan: &mut Plan) {
     let i = likely_index(rng, plan.task_count());
-    match rng.within(1, 9) {
+    match rng.within(1, 10) {
         1 => plan.boards = rng.pick(&LIKELY_BYTES),
         2 => plan.tasks = rng.pick(&LIKELY_BYTES),
         3 => plan.board[i] = rng.pick(&LIKELY_BYTES),
@@ -76,13 +77,14 @@ fn mutate_plan_once(rng: &mut Rng, plan: &mut Plan) {
         6 => plan.holds[32 * i + rng.index(4)] = rng.pick(&LIKELY_BYTES),
         7 => plan.holds[32 * i + rng.index(32)] = rng.byte(),
         8 => plan.after[64 * i + rng.index(4)] = rng.pick(&LIKELY_BYTES),
+        9 => *plan = late_plan(rng, plan),
         _ => plan.after[64 * i + rng.index(64)] = rng.byte(),
     }
 }
 
 fn mutate_book_once(rng: &mut Rng, book: &mut Book) {
     let i = likely_index(rng, book.tasks.min(64).into());
-    match rng.within(1, 11) {
+    match rng.within(1, 12) {
         1 => book.clock = nearby_tick(rng, book.clock),
         2 => book.start[i] = nearby_tick(rng, book.start[i]),
         3 => book.end[i] = nearby_tick(rng, book.end[i]),
@@ -97,6 +99,7 @@ fn mutate_book_once(rng: &mut Rng, book: &mut Book) {
         8 => book.dropped[i] = rng.pick(&[0, 1, 1, 2, 255]),
         9 => pass_task(book, i, book.clock),
         10 => make_waiting(book, i),
+        11 => *book = late_book(rng, book),
         _ => mutate_plan_of(rng, book),
     }
 }
@@ -125,14 +128,25 @@ fn make_waiting(book: &mut Book, i: usize) {
 fn mutate_plan_of(rng: &mut Rng, book: &mut Book) {
     let mut plan = book.plan();
     mutate_plan_once(rng, &mut plan);
-    *book = Book {
+    *book = on_other_plan(book, &plan);
+}
+
+/// The same morning on a plan with no task at tick 0. Mostly all times are moved
+/// alike, so that nothing else is wrong with it; never sound.
+pub fn late_book(rng: &mut Rng, book: &Book) -> Book {
+    on_other_plan(book, &late_plan(rng, &book.plan()))
+}
+
+/// The same morning on another plan.
+pub fn on_other_plan(book: &Book, plan: &Plan) -> Book {
+    Book {
         clock: book.clock,
         start: book.start,
         end: book.end,
         mark: book.mark,
         dropped: book.dropped,
-        ..Book::on(&plan)
-    };
+        ..Book::on(plan)
+    }
 }
 
 /// Mostly a task's index, sometimes one past the last task.

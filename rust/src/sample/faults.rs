@@ -1,8 +1,9 @@
 //! Texts with one known fault, texts with a faulty pair, and damaged texts.
 
+use super::plans::moved_later;
 use super::Rng;
 use crate::text::plan_text;
-use crate::values::{refusal, Answer, Plan, AFTER_PLACES, HOLD_PLACES, LONGEST_TEXT};
+use crate::values::{refusal, Answer, Plan, AFTER_PLACES, HOLD_PLACES, LAST_TICK, LONGEST_TEXT};
 
 /// A text made wrong in one place, and the answer it must meet.
 pub struct OneFault {
@@ -35,8 +36,46 @@ const HOLDS_OUT_OF_RULE: [&str; 8] = [
 ];
 const AFTERS_OUT_OF_RULE: [&str; 6] = ["0", "1,1", "2,1", "65", "0,1", "4294967297"];
 
-/// A fault of code 1 to 5 in the text of an accepted plan.
+/// A fault of code 1 to 5 or 17 in the text of an accepted plan.
 pub fn one_fault(rng: &mut Rng, plan: &Plan) -> OneFault {
+    if rng.chance(10) {
+        return no_task_at_0(rng, plan);
+    }
+    if rng.chance(15) {
+        // A late beginning, which must not be seen first.
+        let late = late_plan(rng, plan);
+        return fault_of_the_text(rng, &late);
+    }
+    fault_of_the_text(rng, plan)
+}
+
+/// The plan with no task at tick 0: all of it later where there is room, else
+/// only what began there, which may then clash with others.
+pub fn late_plan(rng: &mut Rng, plan: &Plan) -> Plan {
+    let near = rng.within(1, 50);
+    let by = rng.pick(&[1, near, 30_000, LAST_TICK - 1]);
+    let later = moved_later(plan, by);
+    if later.finish.iter().all(|&finish| finish <= LAST_TICK) {
+        return later;
+    }
+    let mut late = *plan;
+    for i in (0..plan.task_count()).filter(|&i| plan.begin[i] == 0) {
+        late.begin[i] = later.begin[i];
+        late.finish[i] = later.finish[i].min(LAST_TICK);
+    }
+    late
+}
+
+fn no_task_at_0(rng: &mut Rng, plan: &Plan) -> OneFault {
+    let late = late_plan(rng, plan);
+    let least = late.begin[..late.task_count()].iter().min().copied();
+    OneFault {
+        text: plan_text(&late),
+        answer: refusal(17, least.unwrap_or(0), 0),
+    }
+}
+
+fn fault_of_the_text(rng: &mut Rng, plan: &Plan) -> OneFault {
     match rng.within(1, 10) {
         1 => too_long(rng, plan),
         2 | 3 => first_line_fault(rng, plan),
@@ -53,10 +92,12 @@ pub fn faulty_pair_plan(rng: &mut Rng, plan: &Plan) -> Plan {
     let mut faulty = *plan;
     let i = rng.index(plan.task_count());
     let j = rng.index(plan.task_count());
+    // What begins at 0 keeps its times, so that there is still such a task.
+    let (from, to) = if plan.begin[j] == 0 { (j, i) } else { (i, j) };
     match rng.within(1, 3) {
-        1 => copy_times(&mut faulty, i, j),
+        1 => copy_times(&mut faulty, from, to),
         2 => {
-            copy_times(&mut faulty, i, j);
+            copy_times(&mut faulty, from, to);
             set_only_holds(&mut faulty, i, &[2]);
             set_only_holds(&mut faulty, j, &[rng.pick(&[2, 3])]);
         }

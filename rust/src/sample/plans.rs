@@ -13,7 +13,7 @@ struct Shape {
     widest_gap: u32,
 }
 
-/// A random plan that keeps every rule.
+/// A random plan that keeps every rule: what is placed first begins at tick 0.
 pub fn random_plan(rng: &mut Rng) -> Plan {
     let largest = rng.pick(&[1, 3, 6, 12, 24, 64, 64]);
     let tasks = if rng.chance(10) {
@@ -38,7 +38,7 @@ pub fn random_plan(rng: &mut Rng) -> Plan {
     }
     fill_after_lists(rng, &mut plan, shape.after_percent);
     if rng.chance(12) {
-        move_to_the_last_tick(&mut plan);
+        reach_the_last_tick(&mut plan);
     }
     plan
 }
@@ -61,6 +61,19 @@ pub fn full_plan(rng: &mut Rng, tasks: u8) -> Plan {
         fill_some_after(rng, &mut plan, i);
     }
     plan
+}
+
+/// The plan with all its tasks so many ticks later.
+pub fn moved_later(plan: &Plan, by: u32) -> Plan {
+    let mut later = *plan;
+    let count = plan.task_count();
+    for tick in later.begin[..count]
+        .iter_mut()
+        .chain(&mut later.finish[..count])
+    {
+        *tick = tick.saturating_add(by);
+    }
+    later
 }
 
 fn random_shape(rng: &mut Rng) -> Shape {
@@ -149,11 +162,16 @@ fn fill_after_lists(rng: &mut Rng, plan: &mut Plan, percent: u32) {
     }
 }
 
-/// Moves the whole plan so that its last planned finish is the last tick.
-fn move_to_the_last_tick(plan: &mut Plan) {
-    let count = plan.task_count();
-    let latest = plan.finish[..count].iter().max().copied().unwrap_or(0);
-    for i in 0..count {
+/// Moves all that does not begin at 0 so that its last planned finish is the last
+/// tick; where all begin at 0, one of them lasts until then.
+fn reach_the_last_tick(plan: &mut Plan) {
+    let movable = |i: &usize| plan.begin[*i] > 0;
+    let moved: Vec<usize> = (0..plan.task_count()).filter(movable).collect();
+    let Some(latest) = moved.iter().map(|&i| plan.finish[i]).max() else {
+        plan.finish[0] = LAST_TICK;
+        return;
+    };
+    for i in moved {
         plan.begin[i] += LAST_TICK - latest;
         plan.finish[i] += LAST_TICK - latest;
     }

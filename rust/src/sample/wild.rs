@@ -1,5 +1,6 @@
 //! Plan and book values far from any rule, or breaking just one.
 
+use super::faults::late_plan;
 use super::Rng;
 use crate::values::{items, Book, Plan, AFTER_PLACES, HOLD_PLACES};
 
@@ -38,7 +39,7 @@ pub fn wild_book(rng: &mut Rng, sound: &Book) -> Book {
 pub fn one_rule_broken(rng: &mut Rng, plan: &Plan) -> Plan {
     let mut broken = *plan;
     let i = rng.index(plan.task_count());
-    match rng.within(1, 10) {
+    match rng.within(1, 11) {
         1 => broken.boards = rng.pick(&[0, 9, 255]),
         2 => broken.tasks = rng.pick(&[0, 65, 255]),
         3 => broken.tasks = plan.tasks.wrapping_add(rng.pick(&[1, 255])),
@@ -48,6 +49,7 @@ pub fn one_rule_broken(rng: &mut Rng, plan: &Plan) -> Plan {
         7 => break_holds(rng, &mut broken, i),
         8 => break_after(rng, &mut broken, i),
         9 => put_past_a_list(rng, &mut broken, i),
+        10 => broken = late_plan(rng, plan),
         _ => put_past_the_last_task(rng, &mut broken),
     }
     broken
@@ -66,7 +68,11 @@ fn tame_places(rng: &mut Rng, plan: &mut Plan) {
     let count = plan.task_count();
     for i in 0..count {
         plan.board[i] = rng.within(1, 8) as u8;
-        plan.begin[i] = rng.within(0, 20);
+        plan.begin[i] = if i == 0 && rng.chance(80) {
+            0
+        } else {
+            rng.within(0, 20)
+        };
         plan.finish[i] = plan.begin[i] + rng.within(0, 4);
         let keep = rng.index(4);
         plan.holds[HOLD_PLACES * i + keep..HOLD_PLACES * (i + 1)].fill(0);

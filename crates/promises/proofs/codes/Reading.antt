@@ -1,10 +1,10 @@
 -- What a reading answers, case by case.
-use Prim.Native.Nat.{ℕ, _+_, _-_, _≤_}
+use Prim.Native.Nat.{ℕ, _+_, _-_, _<_, _≤_}
 use native.Mathlib.Omega.{arith}
-use mathlib.Core.Bool.{true, not, _&&_, _||_}
+use mathlib.Core.Bool.{true, false, not, _&&_, _||_}
 use mathlib.Core.List.{List}
 use mathlib.Core.Path.{_≡_, refl, sym, ap, _∙_}
-use mathlib.Core.Logic.{_≢_, _⊎_, inl, inr, ⊎-elim}
+use mathlib.Core.Logic.{_≢_, _⊎_, inl, inr, ⊎-elim, _↔_}
 use lib.Dec.{eqb, ltb}
 use lib.ListN.{length}
 use borrow.Author.Tests.{eq-eqb, ne-eqb}
@@ -16,15 +16,17 @@ use Rattle.text.specs.Line.{hasLine, skip, lineAt, fields, field}
 use Rattle.plan.specs.Answer.{refuse, granted, isGranted, isRefused}
 use Rattle.plan.specs.Task.{Task}
 use Rattle.plan.specs.Pairs.{overlap, sameBoard, clashByDrive, breaksAfter, pairCode, firstFault}
+use Rattle.plan.specs.Judged.{beginsAtZero, leastStart, tasksAnswer}
 use Rattle.plan.specs.Value.{zeroPlan}
 use Rattle.plan.specs.Read.{sizesOk, boardsOf, tasksOf, worst, lineCode, lineAnswer, linesAnswer, textTask, formAnswer, textAnswer, readingOf}
 use Rattle.plan.specs.declared.Answer.{Answer}
 use Rattle.plan.specs.declared.Reading.{Reading}
 use Rattle.plan.proofs.FirstFault.{FirstPair, refused-code, fault-first, fault-granted}
+use Rattle.plan.proofs.Judged.{begins-none, none-begins, start-under, start-met, tasks-late, tasks-pairs}
 use Rattle.plan.proofs.PlanTasks.{planOf-sized}
-use Rattle.plan.proofs.ReadOk.{read-accepted}
+use Rattle.plan.proofs.ReadOk.{form-ok, form-tasks, read-answer, read-accepted}
 use Rattle.book.specs.Sized.{SizedPlan}
-use Rattle.promises.specs.Says.{FirstFaulty, ReadingSays}
+use Rattle.promises.specs.Says.{FirstFaulty, BeginsLate, ReadingSays}
 
 abbrev LineNumber : ℕ → Type 0
 LineNumber code = (code ≡ 0) ⊎ ((code ≡ 3) ⊎ (code ≡ 4))
@@ -134,9 +136,27 @@ module _ (s : List ℕ) where
   unfolding textAnswer
   form-refused x e r = rw (e, r)
 
-  form-passed : formAnswer s ≡ granted → textAnswer s ≡ firstFault (tasksOf s) (textTask s)
+  form-passed : formAnswer s ≡ granted → textAnswer s ≡ tasksAnswer (tasksOf s) (textTask s)
   unfolding textAnswer
   form-passed e = rw e
+
+  -- no task is planned at 0
+  module _ (e : formAnswer s ≡ granted) (h : beginsAtZero (tasksOf s) (textTask s) ≡ false) where
+    answer-late : textAnswer s ≡ refuse 17 (leastStart (tasksOf s) (textTask s)) 0
+    answer-late = form-passed e ∙ tasks-late (tasksOf s) (textTask s) h
+
+    begins-late : BeginsLate s (leastStart (tasksOf s) (textTask s))
+    begins-late =
+        let f = form-ok s (ap (λ (x : Answer). x .code) e) in
+        let m = start-met (tasksOf s) (textTask s) (form-tasks s f .0) in
+        let n = begins-none (tasksOf s) (textTask s) h (m .0) (m .1) in
+        record { lines = e; from = omega (arith, n, m .2); least = start-under (tasksOf s) (textTask s); met = m }
+
+  tasks-say : formAnswer s ≡ granted → Says
+  tasks-say e =
+      by-bool (beginsAtZero (tasksOf s) (textTask s))
+      (λ h. pairs-say (form-passed e ∙ tasks-pairs (tasksOf s) (textTask s) h))
+      (λ h. ReadingSays.late _ (begins-late e h) (refused-reading _ (answer-late e h) (λ z. omega arith)))
 
   pub reading-says : Says
   unfolding formAnswer
@@ -150,35 +170,62 @@ module _ (s : List ℕ) where
       (λ c.
       by-bool (ltb 0 (length (skip (tasksOf s + 1) s)))
       (λ d. ReadingSays.more-bytes (refused-reading (refuse 5 (tasksOf s + 2) 0) (form-refused _ (rw (a, b, c, d)) refl) (λ z. omega arith)))
-      (λ d. pairs-say (form-passed (rw (a, b, c, d)))))))
+      (λ d. tasks-say (rw (a, b, c, d))))))
 
-pub reading-code : (s : List ℕ) → readingOf s .answer .code ≤ 8
+pub reading-code : (s : List ℕ) → (readingOf s .answer .code ≤ 8) ⊎ (readingOf s .answer .code ≡ 17)
 reading-code s = go (readingOf s) (reading-says s)
   where
-    go : (r : Reading) → ReadingSays s r → r .answer .code ≤ 8
-    go r (ReadingSays.read e a) = rw e (omega arith)
-    go r (ReadingSays.too-long e) = rw e (omega arith)
-    go r (ReadingSays.first-line e) = rw e (omega arith)
-    go r (ReadingSays.task-line code line c l h e) = rw e (⊎-elim (λ q. omega arith) (λ q. omega arith) c)
-    go r (ReadingSays.more-bytes e) = rw e (omega arith)
-    go r (ReadingSays.faulty-pair code a b f e) = rw e (f .number .1)
+    go : (r : Reading) → ReadingSays s r → (r .answer .code ≤ 8) ⊎ (r .answer .code ≡ 17)
+    go r (ReadingSays.read e a) = rw e (inl (omega arith))
+    go r (ReadingSays.too-long e) = rw e (inl (omega arith))
+    go r (ReadingSays.first-line e) = rw e (inl (omega arith))
+    go r (ReadingSays.task-line code line c l h e) = rw e (inl (⊎-elim (λ q. omega arith) (λ q. omega arith) c))
+    go r (ReadingSays.more-bytes e) = rw e (inl (omega arith))
+    go r (ReadingSays.late start l e) = rw e (inr refl)
+    go r (ReadingSays.faulty-pair code a b f e) = rw e (inl (f .number .1))
 
 -- a reading refused with 6, 7 or 8 names the first faulty pair
 pub reading-pair :
-    (s : List ℕ) → 6 ≤ readingOf s .answer .code
+    (s : List ℕ) → 6 ≤ readingOf s .answer .code → readingOf s .answer .code ≤ 8
     → FirstFaulty s (readingOf s .answer .code) (readingOf s .answer .first) (readingOf s .answer .second)
-reading-pair s h = go (readingOf s) (reading-says s) h
+reading-pair s h below = go (readingOf s) (reading-says s) h below
   where
     go :
-        (r : Reading) → ReadingSays s r → 6 ≤ r .answer .code
+        (r : Reading) → ReadingSays s r → 6 ≤ r .answer .code → r .answer .code ≤ 8
         → FirstFaulty s (r .answer .code) (r .answer .first) (r .answer .second)
-    go r (ReadingSays.read e a) h = let z : 6 ≤ 0 = rw e at h in absurd (omega arith)
-    go r (ReadingSays.too-long e) h = let z : 6 ≤ 1 = rw e at h in absurd (omega arith)
-    go r (ReadingSays.first-line e) h = let z : 6 ≤ 2 = rw e at h in absurd (omega arith)
-    go r (ReadingSays.task-line code line c l m e) h =
+    go r (ReadingSays.read e a) h b = let z : 6 ≤ 0 = rw e at h in absurd (omega arith)
+    go r (ReadingSays.too-long e) h b = let z : 6 ≤ 1 = rw e at h in absurd (omega arith)
+    go r (ReadingSays.first-line e) h b = let z : 6 ≤ 2 = rw e at h in absurd (omega arith)
+    go r (ReadingSays.task-line code line c l m e) h b =
         let z : 6 ≤ code = rw e at h in ⊎-elim (λ q. absurd (omega arith)) (λ q. absurd (omega arith)) c
-    go r (ReadingSays.more-bytes e) h = let z : 6 ≤ 5 = rw e at h in absurd (omega arith)
-    go r (ReadingSays.faulty-pair code a b f e) h = rw e f
+    go r (ReadingSays.more-bytes e) h b = let z : 6 ≤ 5 = rw e at h in absurd (omega arith)
+    go r (ReadingSays.late start l e) h b = let z : 17 ≤ 8 = rw e at b in absurd (omega arith)
+    go r (ReadingSays.faulty-pair code a b f e) h m = rw e f
+
+-- one refused with 17 has no task planned at 0, and names the least planned start
+pub reading-start : (s : List ℕ) → readingOf s .answer .code ≡ 17 → BeginsLate s (readingOf s .answer .first)
+reading-start s h = go (readingOf s) (reading-says s) (omega (arith, h))
+  where
+    go : (r : Reading) → ReadingSays s r → 17 ≤ r .answer .code → BeginsLate s (r .answer .first)
+    go r (ReadingSays.read e a) h = let z : 17 ≤ 0 = rw e at h in absurd (omega arith)
+    go r (ReadingSays.too-long e) h = let z : 17 ≤ 1 = rw e at h in absurd (omega arith)
+    go r (ReadingSays.first-line e) h = let z : 17 ≤ 2 = rw e at h in absurd (omega arith)
+    go r (ReadingSays.task-line code line c l m e) h =
+        let z : 17 ≤ code = rw e at h in ⊎-elim (λ q. absurd (omega arith)) (λ q. absurd (omega arith)) c
+    go r (ReadingSays.more-bytes e) h = let z : 17 ≤ 5 = rw e at h in absurd (omega arith)
+    go r (ReadingSays.late start l e) h = rw e l
+    go r (ReadingSays.faulty-pair code a b f e) h =
+        let z : 17 ≤ code = rw e at h in absurd (omega (arith, f .number .1))
+
+pub reading-late :
+    (s : List ℕ)
+    → (readingOf s .answer .code ≡ 17)
+    ↔ ((formAnswer s ≡ granted) × ((k : ℕ) → k < tasksOf s → textTask s k .begin ≢ 0))
+reading-late s = (
+  λ h. let l = reading-start s h in (l .lines, λ k below z. omega (arith, l .from, l .least k below, z)),
+  λ f.
+      ap (λ (x : Answer). x .code) (read-answer s ∙ answer-late s (f .0) (none-begins (tasksOf s) (textTask s) (f .1))),
+)
 
 pub zero-sized : SizedPlan zeroPlan
 zero-sized = planOf-sized 0 0 _

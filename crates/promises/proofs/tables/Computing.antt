@@ -11,6 +11,7 @@ use Rattle.text.specs.Number.{isNumber, numberOf}
 use Rattle.text.specs.Line.{skip}
 use Rattle.text.specs.Items.{isList, listOf, isHold, holdOf, holdsOk, afterOk}
 use Rattle.plan.specs.Pairs.{clashByDrive, isListed, pairCode, rowFault, firstFault}
+use Rattle.plan.specs.Judged.{tasksAnswer}
 use Rattle.plan.specs.Value.{planOf, blankFrom, keptOk, rangesOk, isAccepted}
 use Rattle.plan.specs.Read.{sizesOk, lineTask, worst, lineCode, lineAnswer, linesAnswer, formAnswer, textAnswer, readingOf}
 use Rattle.theory.specs.Book.{allEnded, taskTest, soundTest}
@@ -37,7 +38,7 @@ unfoldable pub computing : Bool
 unfolding
     valueAfter digitsFrom digitsOf allOf anyOf rising same scan each rows every any latest least indexOf splitOn consFirst joinOn
     isNumber numberOf skip isList listOf isHold holdOf holdsOk afterOk
-    clashByDrive isListed pairCode rowFault firstFault planOf blankFrom keptOk rangesOk isAccepted
+    clashByDrive isListed pairCode rowFault firstFault tasksAnswer planOf blankFrom keptOk rangesOk isAccepted
     sizesOk lineTask worst lineCode lineAnswer linesAnswer formAnswer textAnswer readingOf
     allEnded taskTest soundTest nonePast reportCode dropCode goes skipTimes next opened minimumEarly
     laid soundOn layOut openedOn openingOf codeOf reportAnswer nextBook reportedOf

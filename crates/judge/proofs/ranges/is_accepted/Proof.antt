@@ -3,7 +3,7 @@ use Rattle.plan.specs.Value.{planWith}
 use mathlib.Core.Path.{ap, _∙_}
 use Rattle.plan.specs.Answer.{isGranted}
 use Rattle.plan.specs.declared.Answer.{Answer}
-use Rattle.judge.proofs.RangeLaws.{few-tasks, refused-sizes, refused-ranges, judged-by-pairs, kept-in-range}
+use Rattle.judge.proofs.RangeLaws.{some-tasks, few-tasks, refused-sizes, refused-ranges, judged-by-tasks, kept-in-range}
 use Rattle.judge.proofs.ranges.is_accepted.Statement.{statement}
 use Rattle.judge.proofs.ranges.is_accepted.Tie as tie
 
@@ -21,15 +21,17 @@ returns-2 c =
     refused-ranges _ (c .before .before .before .if1 .left) (c .before .before .all-kept .ensures) (c .before .past-blank .ensures)
     (c .if2 .taken)
 
-first-fault-requires : tie.Need-first-fault-requires
-first-fault-requires c κs =
-    kept-in-range (planWith (c .before .before .before .before .args .boards) (c .before .before .before .before .args .tasks) (now (c .before .before .before .before .args .board)) (now (c .before .before .before .before .args .begin)) (now (c .before .before .before .before .args .finish)) (now (c .before .before .before .before .args .holds)) (now (c .before .before .before .before .args .after))) (c .before .before .before .if1 .left) (c .before .before .all-kept .ensures) (c .before .past-blank .ensures) (c .if2 .left)
-    (few-tasks (c .before .before .before .before .args .boards) (c .before .before .before .before .args .tasks) (c .before .before .before .if1 .left))
+judge-tasks-requires : tie.Need-judge-tasks-requires
+judge-tasks-requires c κs = (
+  some-tasks (c .before .before .before .before .args .boards) (c .before .before .before .before .args .tasks) (c .before .before .before .if1 .left),
+  kept-in-range (planWith (c .before .before .before .before .args .boards) (c .before .before .before .before .args .tasks) (now (c .before .before .before .before .args .board)) (now (c .before .before .before .before .args .begin)) (now (c .before .before .before .before .args .finish)) (now (c .before .before .before .before .args .holds)) (now (c .before .before .before .before .args .after))) (c .before .before .before .if1 .left) (c .before .before .all-kept .ensures) (c .before .past-blank .ensures) (c .if2 .left)
+      (few-tasks (c .before .before .before .before .args .boards) (c .before .before .before .before .args .tasks) (c .before .before .before .if1 .left)),
+)
 
 returns-3 : tie.Need-returns-3
 returns-3 c =
-    ap (λ (x : Answer). isGranted x) (c .before .first-fault .ensures)
-    ∙ judged-by-pairs _ (c .before .before .before .before .before .if1 .left) (c .before .before .before .before .all-kept .ensures) (c .before .before .before .past-blank .ensures) (c .before .before .if2 .left)
+    ap (λ (x : Answer). isGranted x) (c .before .judge-tasks .ensures)
+    ∙ judged-by-tasks _ (c .before .before .before .before .before .if1 .left) (c .before .before .before .before .all-kept .ensures) (c .before .before .before .past-blank .ensures) (c .before .before .if2 .left)
 
 pub is-accepted-spec : {M : Type 1} → statement M
 is-accepted-spec =
@@ -39,5 +41,5 @@ is-accepted-spec =
     all-kept-requires
     past-blank-requires
     returns-2
-    first-fault-requires
+    judge-tasks-requires
     returns-3)

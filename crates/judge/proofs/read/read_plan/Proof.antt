@@ -1,5 +1,5 @@
 use mathlib.Core.Path.{_∙_}
-use Rattle.judge.proofs.ReadLaws.{reading-line, read-in-range, reading-pair, reading-in}
+use Rattle.judge.proofs.ReadLaws.{reading-line, read-in-range, reading-fault, reading-in}
 use borrow.Author.Needs.{needs}
 use Rattle.judge.proofs.read.read_plan.Statement.{statement}
 use Rattle.judge.proofs.read.read_plan.Tie as tie
@@ -10,20 +10,20 @@ read-lines-requires c κs = search needs
 returns : tie.Need-returns
 returns c = reading-line _ (c .before .before .before .read-lines .ensures) (c .if1 .taken)
 
-cast-first-fault : tie.Need-cast-first-fault
-cast-first-fault c = search needs
+cast-judge-tasks : tie.Need-cast-judge-tasks
+cast-judge-tasks c = search needs
 
-first-fault-requires : tie.Need-first-fault-requires
-first-fault-requires c κs = read-in-range _ (c .before .before .before .before .before .before .before .before .before .before .read-lines .ensures) (c .before .before .before .before .before .before .before .if1 .left)
+judge-tasks-requires : tie.Need-judge-tasks-requires
+judge-tasks-requires c κs = read-in-range _ (c .before .before .before .before .before .before .before .before .before .before .read-lines .ensures) (c .before .before .before .before .before .before .before .if1 .left)
 
 refused-requires : tie.Need-refused-requires
 refused-requires c κs = search needs
 
 returns-2 : tie.Need-returns-2
-returns-2 c = c .refused .ensures ∙ reading-pair _ (c .before .before .before .before .before .before .before .before .before .before .before .before .before .before .read-lines .ensures) (c .before .before .before .before .before .before .before .before .before .before .before .if1 .left) (c .before .before .before .first-fault .ensures) (c .before .if2 .taken)
+returns-2 c = c .refused .ensures ∙ reading-fault _ (c .before .before .before .before .before .before .before .before .before .before .before .before .before .before .read-lines .ensures) (c .before .before .before .before .before .before .before .before .before .before .before .if1 .left) (c .before .before .before .judge-tasks .ensures) (c .before .if2 .taken)
 
 returns-3 : tie.Need-returns-3
-returns-3 c = reading-in _ (c .before .before .before .before .before .before .before .before .before .before .before .before .before .read-lines .ensures) (c .before .before .before .before .before .before .before .before .before .before .if1 .left) (c .before .before .first-fault .ensures) (c .if2 .left)
+returns-3 c = reading-in _ (c .before .before .before .before .before .before .before .before .before .before .before .before .before .read-lines .ensures) (c .before .before .before .before .before .before .before .before .before .before .if1 .left) (c .before .before .judge-tasks .ensures) (c .if2 .left)
 
 pub read-plan-spec : {M : Type 1} → statement M
 read-plan-spec =
@@ -31,8 +31,8 @@ read-plan-spec =
     (tie.spec
     read-lines-requires
     returns
-    cast-first-fault
-    first-fault-requires
+    cast-judge-tasks
+    judge-tasks-requires
     refused-requires
     returns-2
     returns-3)
