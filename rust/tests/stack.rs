@@ -85,6 +85,13 @@ fn no_registers() -> [Register<'static>; 3] {
     [Number(0), Number(0), Number(0)]
 }
 
+/// A task planned at 0 comes after the last one: the order is broken, and every pair is searched in full.
+fn with_broken_order(mut plan: Plan) -> Plan {
+    let first = (0..63).find(|&task| plan.begin[task] == 0);
+    plan.after[64 * first.expect("a plan begins at 0")] = 64;
+    plan
+}
+
 #[test]
 fn no_call_takes_more_than_32_kib() {
     let plan = full_plan(&mut Rng::new(7), 64);
@@ -95,6 +102,9 @@ fn no_call_takes_more_than_32_kib() {
     check_writing("a refused writing", &Plan::ZERO, 9);
     check_judging("judging a plan", Function::IsAccepted, &plan, 1);
     check_judging("a plan not accepted", Function::IsAccepted, &Plan::ZERO, 0);
+    let broken = with_broken_order(plan);
+    check_judging("a broken order", Function::IsAccepted, &broken, 0);
+    check_reading("reading a broken order", &plan_text(&broken), 8);
     check_opening("opening a book", &plan, 0);
     check_opening("a refused opening", &Plan::ZERO, 9);
     let book = open_book(&plan).book;
