@@ -4,11 +4,18 @@
 //! spell a number; a trailing tab parts off one more, empty field; an empty
 //! line has one empty field.
 
-/// The next line without its LF, and the text from the following line on.
+/// The text's first line without its LF, also when that is missing.
+pub fn first_line(text: &[u8]) -> &[u8] {
+    let end = text.iter().position(|&byte| byte == b'\n');
+    &text[..end.unwrap_or(text.len())]
+}
+
+/// The first line without its LF, and the text from the following line on.
 /// None when no LF is left.
 pub fn split_line(text: &[u8]) -> Option<(&[u8], &[u8])> {
-    let end = text.iter().position(|&byte| byte == b'\n')?;
-    Some((&text[..end], &text[end + 1..]))
+    let line = first_line(text);
+    let rest = text.get(line.len() + 1..)?;
+    Some((line, rest))
 }
 
 /// The line's fields, when there are exactly N.
@@ -19,6 +26,30 @@ pub fn split_fields<const N: usize>(line: &[u8]) -> Option<[&[u8]; N]> {
         *field = parts.next()?;
     }
     parts.next().is_none().then_some(fields)
+}
+
+/// Whether a field is well spelt, whatever its number or list comes to.
+pub type Spelling = fn(&[u8]) -> bool;
+
+/// The byte column, from 1, where that field of the line begins, fields counted from 0.
+pub fn field_column(line: &[u8], field: usize) -> u32 {
+    let before = line.split(|&byte| byte == b'\t').take(field);
+    before.map(|earlier| earlier.len() as u32 + 1).sum::<u32>() + 1
+}
+
+/// The byte column, from 1, of the first fault in a line that is not of its form.
+pub fn malformed_column(line: &[u8], form: &[Spelling]) -> u32 {
+    let fields = line.split(|&byte| byte == b'\t');
+    let of_the_form = fields
+        .zip(form)
+        .take_while(|(field, is_spelt)| is_spelt(field));
+    // What follows these is a misspelt field or one too many; where nothing
+    // follows, a field or the LF is missing just past the line.
+    field_column(line, of_the_form.count()).min(line.len() as u32 + 1)
+}
+
+pub fn is_number(field: &[u8]) -> bool {
+    read_number(field).is_some()
 }
 
 /// The number a field spells, or None when misspelt. One too large for u32

@@ -6,9 +6,16 @@
 //! printed; with a refused plan `ends.txt` is not looked at, however long.
 
 use crate::book::{drop_task, minimum_early, open_book, report};
-use crate::fields::{line_of, read_number, split_fields, split_line};
+use crate::fields::{
+    field_column, first_line, is_number, line_of, malformed_column, read_number, split_fields,
+    split_line, Spelling,
+};
 use crate::text::read_plan;
 use crate::values::{refusal, Answer, Book, DROPPED, LAST_TICK, LONGEST_TEXT, WAITING};
+
+/// How each field of a line of `ends.txt` is spelt, by its kind.
+const END_LINE: [Spelling; 3] = [|word| word == b"end", is_number, is_number];
+const DROP_LINE: [Spelling; 2] = [|word| word == b"drop", is_number];
 
 /// A well formed line of `ends.txt`, its numbers not yet held to any range.
 enum EndsLine {
@@ -43,11 +50,13 @@ fn log_ends(log: &mut Vec<u8>, mut book: Book, ends_text: &[u8]) {
     while !rest.is_empty() {
         line_number += 1;
         let Some((line, next)) = read_ends_line(rest) else {
-            log.extend(refused_line(refusal(3, line_number, 0)));
+            let column = malformed_ends_column(first_line(rest));
+            log.extend(refused_line(refusal(3, line_number, column)));
             return;
         };
-        if line.greatest_number() > LAST_TICK {
-            log.extend(refused_line(refusal(4, line_number, 0)));
+        if let Some(field) = line.first_field_over() {
+            let column = field_column(first_line(rest), field);
+            log.extend(refused_line(refusal(4, line_number, column)));
             return;
         }
         book = match line {
@@ -63,6 +72,16 @@ fn read_ends_line(text: &[u8]) -> Option<(EndsLine, &[u8])> {
     let (line, rest) = split_line(text)?;
     let line = read_end(line).or_else(|| read_drop(line))?;
     Some((line, rest))
+}
+
+/// Where a line that is neither stops being what its first field makes it: only
+/// the word `drop` itself makes a drop of it.
+fn malformed_ends_column(line: &[u8]) -> u32 {
+    let word = line.split(|&byte| byte == b'\t').next();
+    if word == Some(b"drop") {
+        return malformed_column(line, &DROP_LINE);
+    }
+    malformed_column(line, &END_LINE)
 }
 
 fn read_end(line: &[u8]) -> Option<EndsLine> {
@@ -87,11 +106,15 @@ fn read_drop(line: &[u8]) -> Option<EndsLine> {
 }
 
 impl EndsLine {
-    fn greatest_number(&self) -> u32 {
-        match *self {
-            EndsLine::End { task, tick } => task.max(tick),
-            EndsLine::Drop { task } => task,
-        }
+    /// The leftmost field with a number over the last tick, counted from 0.
+    fn first_field_over(&self) -> Option<usize> {
+        let numbers = match *self {
+            EndsLine::End { task, tick } => [task, tick],
+            EndsLine::Drop { task } => [task, 0],
+        };
+        let over = numbers.iter().position(|&number| number > LAST_TICK);
+        // The word stands before the numbers.
+        over.map(|before| before + 1)
     }
 }
 

@@ -2,14 +2,29 @@
 //!
 //! Settled here where the document is silent: `e` and `s` are lower case only;
 //! a number too long for any range is well formed (4, or 2 in line 1); one
-//! stray LF after the last task line is already bytes that follow it (5).
+//! stray LF after the last task line is already bytes that follow it (5); a
+//! planned start over the last tick is that field's own fault (4 there).
 
-use crate::fields::{line_of, push_number, read_number, split_fields, split_line};
+use crate::fields::{
+    field_column, first_line, is_number, line_of, malformed_column, push_number, read_number,
+    split_fields, split_line, Spelling,
+};
 use crate::judge::{accepted, first_faulty_pair, late_beginning};
 use crate::values::{
     drive_of, is_exclusive, items, refusal, Answer, Plan, Reading, Written, AFTER_PLACES,
     HOLD_PLACES, LAST_TICK, LONGEST_TEXT, MOST_BOARDS, MOST_DRIVES, MOST_TASKS,
 };
+
+/// How each field of a task line is spelt.
+const TASK_LINE: [Spelling; 7] = [
+    |word| word == b"task",
+    is_number,
+    is_number,
+    is_number,
+    is_number,
+    |holds| read_list::<HOLD_PLACES>(holds, MOST_DRIVES, read_hold).is_some(),
+    |after| read_list::<AFTER_PLACES>(after, MOST_TASKS.into(), read_listed_task).is_some(),
+];
 
 /// A well formed task line whose numbers are not yet held to any range.
 struct TaskLine {
@@ -118,9 +133,13 @@ fn plan_of(text: &[u8]) -> Result<Plan, Answer> {
     let (mut plan, mut rest) = read_first_line(text).ok_or(refusal(2, 1, 0))?;
     for i in 0..plan.task_count() {
         let line_number = i as u32 + 2;
-        let (task, next) = read_task_line(rest, plan.tasks).ok_or(refusal(3, line_number, 0))?;
-        if !task_in_range(&task, i, &plan) {
-            return Err(refusal(4, line_number, 0));
+        let Some((task, next)) = read_task_line(rest, plan.tasks) else {
+            let column = malformed_column(first_line(rest), &TASK_LINE);
+            return Err(refusal(3, line_number, column));
+        };
+        if let Some(field) = first_field_out_of_range(&task, i, &plan) {
+            let column = field_column(first_line(rest), field);
+            return Err(refusal(4, line_number, column));
         }
         keep_task(&mut plan, i, &task);
         rest = next;
@@ -219,13 +238,19 @@ fn read_listed_task(item: &[u8]) -> Option<Item> {
     })
 }
 
-fn task_in_range(task: &TaskLine, i: usize, plan: &Plan) -> bool {
-    task.number == i as u32 + 1
-        && (1..=u32::from(plan.boards)).contains(&task.board)
-        && task.begin < task.finish
-        && task.finish <= LAST_TICK
-        && task.holds.rises_in_range
-        && task.after.rises_in_range
+/// The leftmost field that breaks its range or rule, counted from 0.
+fn first_field_out_of_range(task: &TaskLine, i: usize, plan: &Plan) -> Option<usize> {
+    let in_range = [
+        // The word has no range.
+        true,
+        task.number == i as u32 + 1,
+        (1..=u32::from(plan.boards)).contains(&task.board),
+        task.begin <= LAST_TICK,
+        task.begin < task.finish && task.finish <= LAST_TICK,
+        task.holds.rises_in_range,
+        task.after.rises_in_range,
+    ];
+    in_range.iter().position(|&in_range| !in_range)
 }
 
 fn keep_task(plan: &mut Plan, i: usize, task: &TaskLine) {

@@ -121,20 +121,20 @@ fn sixty_four_tasks_are_read_and_sixty_five_are_not() {
 #[test]
 fn the_last_tick() {
     assert_eq!(read_plan(&one_task(0, 1_000_000)).answer, Answer::ACCEPTED);
-    assert_eq!(read_plan(&one_task(0, 1_000_001)).answer, refusal(4, 2, 0));
+    assert_eq!(read_plan(&one_task(0, 1_000_001)).answer, refusal(4, 2, 12));
     let text = b"plan\t1\t1\t2\ntask\t1\t1\t0\t1\t-\t-\ntask\t2\t1\t999999\t1000000\t-\t-\n";
     assert_eq!(read_plan(text).answer, Answer::ACCEPTED);
 }
 
 #[test]
 fn finish_equal_to_start() {
-    assert_eq!(read_plan(&one_task(0, 0)).answer, refusal(4, 2, 0));
+    assert_eq!(read_plan(&one_task(0, 0)).answer, refusal(4, 2, 12));
     assert_eq!(read_plan(&one_task(0, 1)).answer, Answer::ACCEPTED);
 }
 
 #[test]
 fn no_task_at_tick_0() {
-    assert_eq!(read_plan(&one_task(7, 7)).answer, refusal(4, 2, 0));
+    assert_eq!(read_plan(&one_task(7, 7)).answer, refusal(4, 2, 12));
     assert_eq!(read_plan(&one_task(7, 8)).answer, refusal(17, 7, 0));
     assert_eq!(read_plan(&one_task(1, 2)).answer, refusal(17, 1, 0));
     let last = read_plan(&one_task(999_999, 1_000_000)).answer;

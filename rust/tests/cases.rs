@@ -53,7 +53,7 @@ fn expect_logs_below(folder: &Path) -> usize {
 
 #[test]
 fn folders_of_cases_print_their_logs() {
-    assert_eq!(expect_logs_below(&at_root("rust/tests/cases")), 25);
+    assert_eq!(expect_logs_below(&at_root("rust/tests/cases")), 32);
 }
 
 #[test]

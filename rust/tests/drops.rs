@@ -260,37 +260,37 @@ refused\t11\t3\t3
 #[test]
 fn runlog_stops_at_a_malformed_drop_line() {
     let malformed = [
-        "drop\n",
-        "drop\t\n",
-        "drop\t3\t\n",
-        "drop\t3\t3\n",
-        "drop\t03\n",
-        "drop\t-\n",
-        "drop\t+3\n",
-        "drop\t3 \n",
-        "drop\t3\r\n",
-        "drop 3\n",
-        "Drop\t3\n",
-        "drops\t3\n",
-        "\tdrop\t3\n",
-        "skip\t3\n",
-        "end\t3\n",
-        "3\n",
-        "drop\t1000001\t1\n",
+        ("drop\n", 5),
+        ("drop\t\n", 6),
+        ("drop\t3\t\n", 8),
+        ("drop\t3\t3\n", 8),
+        ("drop\t03\n", 6),
+        ("drop\t-\n", 6),
+        ("drop\t+3\n", 6),
+        ("drop\t3 \n", 6),
+        ("drop\t3\r\n", 6),
+        ("drop 3\n", 1),
+        ("Drop\t3\n", 1),
+        ("drops\t3\n", 1),
+        ("\tdrop\t3\n", 1),
+        ("skip\t3\n", 1),
+        ("end\t3\n", 6),
+        ("3\n", 1),
+        ("drop\t1000001\t1\n", 14),
     ];
-    for line in malformed {
+    for (line, column) in malformed {
         let ends = format!("drop\t9\n{line}end\t2\t3\n");
-        let expected = "refused\t10\t9\t0\nrefused\t3\t2\t0\n";
+        let expected = format!("refused\t10\t9\t0\nrefused\t3\t2\t{column}\n");
         assert_eq!(log_of(&ends), expected, "{line:?}");
     }
-    assert_eq!(log_of("drop\t3"), "refused\t3\t1\t0\n");
+    assert_eq!(log_of("drop\t3"), "refused\t3\t1\t7\n");
 }
 
 #[test]
 fn runlog_stops_at_a_drop_of_a_number_over_the_last_tick() {
     for number in ["1000001", "4294967299", "18446744073709551619"] {
         let ends = format!("drop\t3\ndrop\t{number}\ndrop\t4\n");
-        let expected = "drop\t3\t2\nearly\t0\t0\nrefused\t4\t2\t0\n";
+        let expected = "drop\t3\t2\nearly\t0\t0\nrefused\t4\t2\t6\n";
         assert_eq!(log_of(&ends), expected, "{number}");
     }
 }

@@ -172,29 +172,29 @@ fn code_2_first_line_out_of_range() {
 
 #[test]
 fn code_3_a_line_missing_or_without_lf() {
-    check_text(b"plan\t1\t2\t3\n", 3, 2, 0);
+    check_text(b"plan\t1\t2\t3\n", 3, 2, 1);
     let mut cut = small_text();
     cut.pop();
-    check_text(&cut, 3, 4, 0);
-    check_text(&small_with_field(1, 4, "4"), 3, 5, 0);
-    check_text(&small_with(3, ""), 3, 3, 0);
-    check_text(&small_with(2, "\n"), 3, 2, 0);
+    check_text(&cut, 3, 4, 20);
+    check_text(&small_with_field(1, 4, "4"), 3, 5, 1);
+    check_text(&small_with(3, ""), 3, 3, 1);
+    check_text(&small_with(2, "\n"), 3, 2, 1);
 }
 
 #[test]
 fn code_3_fields_too_few_or_too_many() {
-    check_text(&small_with(2, "task\t1\t1\t0\t5\te1"), 3, 2, 0);
-    check_text(&small_with(2, "task\t1\t1\t0\t5\te1\t-\t"), 3, 2, 0);
-    check_text(&small_with(2, "task\t1\t1\t0\t5\te1\t-\t-"), 3, 2, 0);
-    check_text(&small_with(2, "task\t\t1\t1\t0\t5\te1\t-"), 3, 2, 0);
-    check_text(&small_with(2, "task 1 1 0 5 e1 -"), 3, 2, 0);
-    check_text(&small_with(2, "\ttask\t1\t1\t0\t5\te1\t-"), 3, 2, 0);
+    check_text(&small_with(2, "task\t1\t1\t0\t5\te1"), 3, 2, 16);
+    check_text(&small_with(2, "task\t1\t1\t0\t5\te1\t-\t"), 3, 2, 19);
+    check_text(&small_with(2, "task\t1\t1\t0\t5\te1\t-\t-"), 3, 2, 19);
+    check_text(&small_with(2, "task\t\t1\t1\t0\t5\te1\t-"), 3, 2, 6);
+    check_text(&small_with(2, "task 1 1 0 5 e1 -"), 3, 2, 1);
+    check_text(&small_with(2, "\ttask\t1\t1\t0\t5\te1\t-"), 3, 2, 1);
 }
 
 #[test]
 fn code_3_wrong_word() {
     for word in ["", "Task", "tasks", "tas", "plan", "task ", "-", "1"] {
-        check_text(&small_with_field(3, 1, word), 3, 3, 0);
+        check_text(&small_with_field(3, 1, word), 3, 3, 1);
     }
 }
 
@@ -204,9 +204,9 @@ fn code_3_misspelt_numbers() {
         "", "-", "+1", "-1", "01", "00", " 1", "1 ", "1.0", "0x1", "1\r", "\0", "1\0", "one",
         "1,1", "\u{663}", "1e0", "1_0",
     ];
-    for field in 2..=5 {
+    for (field, column) in [(2, 6), (3, 8), (4, 10), (5, 12)] {
         for number in misspelt {
-            check_text(&small_with_field(4, field, number), 3, 4, 0);
+            check_text(&small_with_field(4, field, number), 3, 4, column);
         }
     }
 }
@@ -218,39 +218,44 @@ fn code_3_misspelt_lists() {
         "e 1", " e1", "-,e1", "e1,-", "e-1", "e+1", "--", "e1;e2", "e1\r", "e1\0", "es1", "e1, e2",
     ];
     for list in holds {
-        check_text(&small_with_field(2, 6, list), 3, 2, 0);
+        check_text(&small_with_field(2, 6, list), 3, 2, 14);
     }
     let afters = [
         "", ",", ",1", "1,", "1,,2", "01", "00", "e1", "-1", "+1", "--", "1,-", "-,1", "1 ", "1;2",
         "1\r", "1\0", "1, 2",
     ];
     for list in afters {
-        check_text(&small_with_field(4, 7, list), 3, 4, 0);
+        check_text(&small_with_field(4, 7, list), 3, 4, 17);
     }
 }
 
 #[test]
 fn code_3_comes_before_4_in_one_line_only() {
-    check_text(&small_with(2, "task\t9\t9\t5\t0\te0\t01"), 3, 2, 0);
-    check_text(&small_with(2, "task\t1\t1\t0\t1000001\te1\t1,"), 3, 2, 0);
+    check_text(&small_with(2, "task\t9\t9\t5\t0\te0\t01"), 3, 2, 17);
+    let list_broken = "task\t1\t1\t0\t1000001\te1\t1,";
+    check_text(&small_with(2, list_broken), 3, 2, 23);
     let mut text = small_with_field(2, 2, "2");
     text.truncate(text.len() - 5);
-    check_text(&text, 4, 2, 0);
+    check_text(&text, 4, 2, 6);
 }
 
 #[test]
 fn code_4_numbers_out_of_range() {
     for number in ["0", "2", "65", "257", "4294967297", FORTY_DIGITS] {
-        check_text(&small_with_field(2, 2, number), 4, 2, 0);
+        check_text(&small_with_field(2, 2, number), 4, 2, 6);
     }
     for board in ["0", "3", "8", "257", "4294967297", FORTY_DIGITS] {
-        check_text(&small_with_field(3, 3, board), 4, 3, 0);
+        check_text(&small_with_field(3, 3, board), 4, 3, 8);
     }
-    for begin in ["9", "10", "1000000", "4294967296", FORTY_DIGITS] {
-        check_text(&small_with_field(4, 4, begin), 4, 4, 0);
+    // A start in range leaves the finish, behind it, not above it.
+    for (begin, column) in [("9", 12), ("10", 13), ("1000000", 18)] {
+        check_text(&small_with_field(4, 4, begin), 4, 4, column);
+    }
+    for begin in ["1000001", "4294967296", FORTY_DIGITS] {
+        check_text(&small_with_field(4, 4, begin), 4, 4, 10);
     }
     for finish in ["0", "4", "5", "1000001", "4294967305", FORTY_DIGITS] {
-        check_text(&small_with_field(4, 5, finish), 4, 4, 0);
+        check_text(&small_with_field(4, 5, finish), 4, 4, 12);
     }
 }
 
@@ -272,12 +277,12 @@ fn code_4_lists_out_of_range_or_not_rising() {
         "e4294967297",
     ];
     for list in holds {
-        check_text(&small_with_field(2, 6, list), 4, 2, 0);
+        check_text(&small_with_field(2, 6, list), 4, 2, 14);
     }
     let long_holds = vec!["e1"; 40].join(",");
-    check_text(&small_with_field(2, 6, &long_holds), 4, 2, 0);
+    check_text(&small_with_field(2, 6, &long_holds), 4, 2, 14);
     let forty = format!("e{FORTY_DIGITS}");
-    check_text(&small_with_field(2, 6, &forty), 4, 2, 0);
+    check_text(&small_with_field(2, 6, &forty), 4, 2, 14);
     let afters = [
         "0",
         "4",
@@ -292,16 +297,16 @@ fn code_4_lists_out_of_range_or_not_rising() {
         FORTY_DIGITS,
     ];
     for list in afters {
-        check_text(&small_with_field(4, 7, list), 4, 4, 0);
+        check_text(&small_with_field(4, 7, list), 4, 4, 17);
     }
     let long_after = vec!["1"; 70].join(",");
-    check_text(&small_with_field(4, 7, &long_after), 4, 4, 0);
+    check_text(&small_with_field(4, 7, &long_after), 4, 4, 17);
 }
 
 #[test]
 fn code_4_of_an_early_line_comes_before_3_of_a_later_one() {
     let text = "plan\t1\t1\t2\ntask\t1\t2\t0\t1\t-\t-\nnonsense\n";
-    check_text(text.as_bytes(), 4, 2, 0);
+    check_text(text.as_bytes(), 4, 2, 8);
 }
 
 #[test]
@@ -339,9 +344,9 @@ fn code_17_no_task_at_tick_0() {
 fn code_17_comes_after_5_and_before_6() {
     let text = small_later(7);
     check_text(&[&text[..], b"\n"].concat(), 5, 5, 0);
-    check_text(&text[..text.len() - 1], 3, 4, 0);
+    check_text(&text[..text.len() - 1], 3, 4, 22);
     let text = String::from_utf8(text).unwrap();
-    check_text(text.replace("\t12\t", "\t7\t").as_bytes(), 4, 2, 0);
+    check_text(text.replace("\t12\t", "\t7\t").as_bytes(), 4, 2, 12);
     for (what, by_pair) in [
         ("task\t2\t2\t", "task\t2\t1\t"),
         ("\ts3\t", "\te3\t"),
@@ -697,47 +702,47 @@ fn runlog_ends_too_long() {
     let long = vec![b'x'; 32_769];
     assert_eq!(run_log(PLAN_A, &long), b"refused\t1\t0\t0\n");
     assert_eq!(run_log(b"", &long), b"refused\t2\t1\t0\n");
-    assert_eq!(tail_of_run(&long[1..]), "refused\t3\t1\t0\n");
+    assert_eq!(tail_of_run(&long[1..]), "refused\t3\t1\t1\n");
 }
 
 #[test]
 fn runlog_malformed_end_lines_stop_the_run() {
     let malformed = [
-        "\n",
-        "end\n",
-        "end\t2\n",
-        "end\t2\t3\t4\n",
-        "end\t2\t3\t\n",
-        "end\t2\t3",
-        "End\t2\t3\n",
-        "start\t2\t3\n",
-        "end 2 3\n",
-        "end\t02\t3\n",
-        "end\t2\t03\n",
-        "end\t-\t3\n",
-        "end\t2\t-\n",
-        "end\t\t3\n",
-        "end\t2\t3\r\n",
-        "end\t2\t\0\n",
-        "end\t+2\t3\n",
-        "end\t1000001\t-1\n",
+        ("\n", 1),
+        ("end\n", 4),
+        ("end\t2\n", 6),
+        ("end\t2\t3\t4\n", 9),
+        ("end\t2\t3\t\n", 9),
+        // It runs into the next line, so its tick is `3end`.
+        ("end\t2\t3", 7),
+        ("End\t2\t3\n", 1),
+        ("start\t2\t3\n", 1),
+        ("end 2 3\n", 1),
+        ("end\t02\t3\n", 5),
+        ("end\t2\t03\n", 7),
+        ("end\t-\t3\n", 5),
+        ("end\t2\t-\n", 7),
+        ("end\t\t3\n", 5),
+        ("end\t2\t3\r\n", 7),
+        ("end\t2\t\0\n", 7),
+        ("end\t+2\t3\n", 5),
+        ("end\t1000001\t-1\n", 13),
     ];
-    for line in malformed {
+    for (line, column) in malformed {
         let ends = [b"end\t9\t1\n", line.as_bytes(), ENDS_A].concat();
-        // A line without LF runs into the next one; either way line 2 is wrong.
-        let expected = "refused\t10\t9\t1\nrefused\t3\t2\t0\n";
+        let expected = format!("refused\t10\t9\t1\nrefused\t3\t2\t{column}\n");
         assert_eq!(tail_of_run(&ends), expected, "{line:?}");
     }
-    assert_eq!(tail_of_run(b"end\t2\t3"), "refused\t3\t1\t0\n");
+    assert_eq!(tail_of_run(b"end\t2\t3"), "refused\t3\t1\t8\n");
 }
 
 #[test]
 fn runlog_numbers_over_the_last_tick_stop_the_run() {
     for number in ["1000001", "4294967298", FORTY_DIGITS] {
         let tick = format!("end\t2\t{number}\nend\t2\t3\n");
-        assert_eq!(tail_of_run(tick.as_bytes()), "refused\t4\t1\t0\n");
+        assert_eq!(tail_of_run(tick.as_bytes()), "refused\t4\t1\t7\n");
         let task = format!("end\t{number}\t3\nend\t2\t3\n");
-        assert_eq!(tail_of_run(task.as_bytes()), "refused\t4\t1\t0\n");
+        assert_eq!(tail_of_run(task.as_bytes()), "refused\t4\t1\t5\n");
     }
 }
 

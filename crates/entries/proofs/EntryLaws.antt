@@ -1,105 +1,110 @@
 -- What a line of ends.txt says, by the tests that lead to it.
-use Prim.Native.Nat.{ℕ, _<_}
-use mathlib.Core.Path.{_≡_, refl, sym, _∙_}
-use mathlib.Core.Bool.{Bool, true, false, _&&_}
+use Prim.Native.Nat.{ℕ}
+use mathlib.Core.Path.{_≡_, refl, sym, ap, _∙_}
+use mathlib.Core.Bool.{Bool, true, false, not}
 use mathlib.Core.List.{List, [], _∷_}
 use native.Mathlib.Omega.{arith}
-use lib.Dec.{leb, eqb}
-use lib.ListN.{length, getD}
-use borrow.Author.Tests.{lt-leb}
-use Rattle.laws.proofs.Cases.{by-bool, and-l, and-r}
-use Rattle.laws.proofs.Conj.{conj-at}
-use Rattle.laws.specs.Lists.{same}
+use lib.Dec.{eqb}
+use borrow.Author.Tests.{not-true, not-false, eqb-true}
+use Rattle.laws.proofs.Cases.{and-of}
+use Rattle.laws.specs.Lists.{allOf, same}
+use Rattle.laws.proofs.Lists.{all-at}
 use Rattle.text.specs.Bytes.{bytes}
-use Rattle.text.specs.Line.{fields, field}
-use Rattle.text.specs.Number.{isNumber, valueOf, numberOf, most}
-use Rattle.text.specs.declared.Number.{Number}
-use Rattle.text.specs.declared.Number.the-variants.{Value, Over, Misspelt}
-use Rattle.text.proofs.Rise.{NoValue, over-is, value-is}
-use Rattle.entries.specs.Entries.{namesTask, isEndLine, isDropLine, endEntry, dropEntry, entryOf}
+use Rattle.text.specs.Line.{field}
+use Rattle.text.specs.Number.{valueOf, most}
+use Rattle.faults.specs.Faults.{fieldCode, rangedRead, wordCode, endCode, faultOf}
+use Rattle.faults.specs.declared.Ranged.{Ranged}
+use Rattle.faults.specs.declared.Fault.{Fault}
+use Rattle.faults.proofs.FaultLaws.{ranged-code, ranged-value, isCode, field-is-code, word-is-code, end-is-code, faultless-is}
+use Rattle.entries.specs.Entries.{endCodes, dropCodes, unlessFault, entryOf}
 use Rattle.entries.specs.declared.Entry.{Entry}
 use Rattle.entries.specs.declared.Entry.the-variants.{End, Drop, Refused}
 
-value-small : (s : List ℕ) (r : Number) (k : ℕ) → r ≡ numberOf s → r ≡ Value k → leb (valueOf s) 1000000 ≡ true
-unfolding numberOf
-value-small s r k e f =
-    let g : numberOf s ≡ Value k = sym e ∙ f in
-    by-bool (isNumber s)
-    (λ a.
-    by-bool (leb (valueOf s) 1000000)
-    (λ b. b)
-    (λ b. let h : Over ≡ Value k = rw (a, b) at g in let z : _≡_ {A = ℕ} 0 1 = cc in absurd (omega arith)))
-    (λ a. let h : Misspelt ≡ Value k = rw a at g in let z : _≡_ {A = ℕ} 0 1 = cc in absurd (omega arith))
+-- a line with these codes, and the test that they are all 0
+module _ (line codes : List ℕ) (kinds : allOf isCode codes ≡ true) {t : Bool} (z : t ≡ allOf (eqb 0) codes) where
+  clean : t ≡ eqb (faultOf line codes .code) 0
+  unfolding faultOf
+  clean = z ∙ faultless-is codes kinds
 
-value-over : (s : List ℕ) (r : Number) → isNumber s ≡ true → r ≡ numberOf s → NoValue r → leb (valueOf s) 1000000 ≡ false
-value-over s r a e none = lt-leb (valueOf s) most (over-is s r a e none)
+  refuses : not t ≡ true → {fault : Fault} → fault ≡ faultOf line codes → (entry : Entry) → Refused (fault .code) (fault .column) ≡ unlessFault (faultOf line codes) entry
+  refuses n q entry = rw (← clean, not-true t n, q)
 
-false-r : (a : Bool) {b : Bool} → b ≡ false → (a && b) ≡ false
-false-r true e = e
-false-r false e = refl
+  says : not t ≡ false → {this entry : Entry} → this ≡ entry → this ≡ unlessFault (faultOf line codes) entry
+  says n q = rw (← clean, not-false t n) q
 
-module _ (word : List ℕ) (n : ℕ) (line : List ℕ) where
-  pub names-is :
-      {f g : List ℕ} {m : ℕ} {a b : Bool} → f ≡ field line 0 → g ≡ field line 1 → m ≡ length (fields line)
-      → a ≡ same f word → b ≡ isNumber g → (eqb m n && (a && b)) ≡ namesTask word n line
-  unfolding namesTask
-  names-is p q l x y = rw (l, x, y, p, q)
+value-at : (s : List ℕ) {x : Ranged} → x ≡ rangedRead 0 most s → eqb 0 (x .code) ≡ true → x .value ≡ valueOf s
+value-at s {x} p q =
+    ap (λ (y : Ranged). y .value) p ∙ ranged-value 0 most s (ap (λ (y : Ranged). y .code) (sym p) ∙ sym (eqb-true 0 (x .code) q))
 
-  pub names-parts :
-      namesTask word n line ≡ true → (i : ℕ) → i < 3
-      → getD (eqb (length (fields line)) n ∷ same (field line 0) word ∷ isNumber (field line 1) ∷ []) i true ≡ true
-  unfolding namesTask
-  names-parts h i k =
-      conj-at (eqb (length (fields line)) n ∷ same (field line 0) word ∷ isNumber (field line 1) ∷ []) h i (omega arith)
+code-of : (s : List ℕ) {x : Ranged} → x ≡ rangedRead 0 most s → x .code ≡ fieldCode 0 most s
+code-of s p = ap (λ (y : Ranged). y .code) p ∙ ranged-code 0 most s
 
-  names-number : namesTask word n line ≡ true → isNumber (field line 1) ≡ true
-  names-number h = names-parts h 2 (omega arith)
+pub end-kinds : (ended : Bool) (line : List ℕ) → allOf isCode (endCodes ended line) ≡ true
+unfolding endCodes allOf
+end-kinds ended line =
+    and-of (word-is-code (bytes "end") (field line 0))
+    (and-of (field-is-code 0 most (field line 1)) (and-of (field-is-code 0 most (field line 2)) (and-of (end-is-code ended 3 line) refl)))
 
-module _ (line : List ℕ) where
-  pub end-line-is :
-      {f : List ℕ} {a b : Bool} → a ≡ namesTask (bytes "end") 3 line → f ≡ field line 2 → b ≡ isNumber f → (a && b) ≡ isEndLine line
-  end-line-is p q x = rw (p, x, q)
+pub drop-kinds : (ended : Bool) (line : List ℕ) → allOf isCode (dropCodes ended line) ≡ true
+unfolding dropCodes allOf
+drop-kinds ended line =
+    and-of (word-is-code (bytes "drop") (field line 0)) (and-of (field-is-code 0 most (field line 1)) (and-of (end-is-code ended 2 line) refl))
 
-  module _ {r : Number} (q : r ≡ numberOf (field line 1)) where
-    pub drop-4 : isDropLine line ≡ true → NoValue r → Refused 4 ≡ dropEntry line
-    unfolding dropEntry
-    drop-4 h none = rw (value-over (field line 1) r (names-number (bytes "drop") 2 line h) q none)
+-- an `end` line
+module _ (ended : Bool) (line : List ℕ) (other : same (field line 0) (bytes "drop") ≡ false)
+    {word : ℕ} {task tick : Ranged} {end : ℕ} {first second third : List ℕ} (f : first ≡ field line 0) (g : second ≡ field line 1) (h : third ≡ field line 2)
+    (w : word ≡ wordCode (bytes "end") first) (p : task ≡ rangedRead 0 most second) (q : tick ≡ rangedRead 0 most third) (e : end ≡ endCode ended 3 line) where
+  abbrev codes : List ℕ
+  codes = word ∷ task .code ∷ tick .code ∷ end ∷ []
 
-    pub drop-says : {k : ℕ} → r ≡ Value k → Drop k ≡ dropEntry line
-    unfolding dropEntry
-    drop-says {k} e = rw (value-small (field line 1) r k q e, value-is (field line 1) r k q e)
+  codes-are : codes ≡ endCodes ended line
+  unfolding endCodes
+  codes-are =
+      let p1 : task .code ≡ fieldCode 0 most (field line 1) = code-of (field line 1) (rw g at p) in
+      let p2 : tick .code ≡ fieldCode 0 most (field line 2) = code-of (field line 2) (rw h at q) in
+      let w′ : word ≡ wordCode (bytes "end") (field line 0) = rw f at w in
+      λ i. w′ i ∷ p1 i ∷ p2 i ∷ e i ∷ []
 
-    module _ (h : isEndLine line ≡ true) where
-      pub end-4-task : NoValue r → Refused 4 ≡ endEntry line
-      unfolding endEntry
-      end-4-task none = rw (value-over (field line 1) r (names-number (bytes "end") 3 line (and-l _ _ h)) q none)
+  module _ {t : Bool} (z : t ≡ allOf (eqb 0) codes) where
+    z′ : t ≡ allOf (eqb 0) (endCodes ended line)
+    z′ = z ∙ ap (allOf (eqb 0)) codes-are
 
-      module _ {s : Number} (u : s ≡ numberOf (field line 2)) where
-        pub end-4-tick : NoValue s → Refused 4 ≡ endEntry line
-        unfolding endEntry
-        end-4-tick none =
-            rw (false-r (leb (valueOf (field line 1)) most) (value-over (field line 2) s (and-r (namesTask (bytes "end") 3 line) _ h) u none))
-
-        pub end-says : {k m : ℕ} → r ≡ Value k → s ≡ Value m → End k m ≡ endEntry line
-        unfolding endEntry
-        end-says {k} {m} e f =
-            rw (
-              value-small (field line 1) r k q e,
-              value-small (field line 2) s m u f,
-              value-is (field line 1) r k q e,
-              value-is (field line 2) s m u f,
-            )
-
-  module _ {t : Bool} (p : t ≡ isEndLine line) where
-    pub entry-end : {e : Entry} → t ≡ true → e ≡ endEntry line → e ≡ entryOf line
+    pub end-refused : not t ≡ true → {fault : Fault} → fault ≡ faultOf line codes → {r : Entry} → r ≡ Refused (fault .code) (fault .column) → r ≡ entryOf ended line
     unfolding entryOf
-    entry-end h e = rw (sym p ∙ h) e
+    end-refused n q r = rw other (r ∙ refuses line (endCodes ended line) (end-kinds ended line) z′ n (q ∙ ap (faultOf line) codes-are) _)
 
-    module _ (other : t ≡ false) {d : Bool} (q : d ≡ isDropLine line) where
-      pub entry-drop : {e : Entry} → d ≡ true → e ≡ dropEntry line → e ≡ entryOf line
-      unfolding entryOf
-      entry-drop h e = rw (sym p ∙ other, sym q ∙ h) e
+    pub end-says : not t ≡ false → End (task .value) (tick .value) ≡ entryOf ended line
+    unfolding entryOf
+    end-says n =
+        let all = sym z ∙ not-false t n in
+        let v1 = value-at (field line 1) (rw g at p) (all-at (eqb 0) codes all 1 0 (omega arith)) in
+        let v2 = value-at (field line 2) (rw h at q) (all-at (eqb 0) codes all 2 0 (omega arith)) in
+        rw other (says line (endCodes ended line) (end-kinds ended line) z′ n (λ i. End (v1 i) (v2 i)))
 
-      pub entry-3 : d ≡ false → Refused 3 ≡ entryOf line
-      unfolding entryOf
-      entry-3 h = rw (sym p ∙ other, sym q ∙ h)
+-- a `drop` line
+module _ (ended : Bool) (line : List ℕ) (this : same (field line 0) (bytes "drop") ≡ true)
+    {word : ℕ} {task : Ranged} {end : ℕ} {first second : List ℕ} (f : first ≡ field line 0) (g : second ≡ field line 1)
+    (w : word ≡ wordCode (bytes "drop") first) (p : task ≡ rangedRead 0 most second) (e : end ≡ endCode ended 2 line) where
+  abbrev drop-codes : List ℕ
+  drop-codes = word ∷ task .code ∷ end ∷ []
+
+  drop-codes-are : drop-codes ≡ dropCodes ended line
+  unfolding dropCodes
+  drop-codes-are =
+      let p1 : task .code ≡ fieldCode 0 most (field line 1) = code-of (field line 1) (rw g at p) in
+      let w′ : word ≡ wordCode (bytes "drop") (field line 0) = rw f at w in
+      λ i. w′ i ∷ p1 i ∷ e i ∷ []
+
+  module _ {t : Bool} (z : t ≡ allOf (eqb 0) drop-codes) where
+    z″ : t ≡ allOf (eqb 0) (dropCodes ended line)
+    z″ = z ∙ ap (allOf (eqb 0)) drop-codes-are
+
+    pub drop-refused : not t ≡ true → {fault : Fault} → fault ≡ faultOf line drop-codes → {r : Entry} → r ≡ Refused (fault .code) (fault .column) → r ≡ entryOf ended line
+    unfolding entryOf
+    drop-refused n q r = rw this (r ∙ refuses line (dropCodes ended line) (drop-kinds ended line) z″ n (q ∙ ap (faultOf line) drop-codes-are) _)
+
+    pub drop-says : not t ≡ false → Drop (task .value) ≡ entryOf ended line
+    unfolding entryOf
+    drop-says n =
+        let v1 = value-at (field line 1) (rw g at p) (all-at (eqb 0) drop-codes (sym z ∙ not-false t n) 1 0 (omega arith)) in
+        rw this (says line (dropCodes ended line) (drop-kinds ended line) z″ n (λ i. Drop (v1 i)))

@@ -1,32 +1,29 @@
 -- The line that begins a text: what it says, and how many bytes it uses up.
 use Prim.Native.Nat.{ℕ, suc, _+_, _≤_, _<_}
-use mathlib.Core.Path.{_≡_, refl, ap}
-use mathlib.Core.Bool.{true}
+use mathlib.Core.Path.{_≡_, refl, sym, ap, _∙_}
+use mathlib.Core.Bool.{Bool, true, _&&_}
 use mathlib.Core.List.{List, [], _∷_}
 use native.Mathlib.Omega.{arith}
-use lib.ListN.{length, getD, length-append, length-take, length-drop}
-use borrow.Author.Tests.{eqb-true, lt-ltb, le-ltb, ltb-true}
-use Rattle.laws.proofs.Cases.{by-bool, true-false, and-l}
-use Rattle.laws.proofs.Lists.{same-eq}
+use lib.Dec.{ltb, leb, eqb}
+use lib.ListN.{length, getD, take, length-append, length-take, length-drop, List·getD-eq-default}
+use borrow.Author.Tests.{eqb-true, eqb-false, ltb-true}
+use Rattle.laws.proofs.Cases.{by-bool, by-le, true-false, and-l}
+use Rattle.laws.specs.Lists.{allOf, same}
+use Rattle.laws.proofs.Lists.{same-eq, all-at}
 use Rattle.laws.specs.Split.{indexOf, before, after, joinOn}
 use Rattle.laws.proofs.Split.{join-split}
 use Rattle.text.specs.Bytes.{bytes}
 use Rattle.text.specs.Line.{LF, hasLine, fields, field}
-use Rattle.text.specs.Number.{isNumber}
-use Rattle.text.proofs.Parts.{found-le}
-use Rattle.entries.specs.Entries.{namesTask, isEndLine, isDropLine, entryOf, nextEntry, entryCode}
+use Rattle.text.specs.Number.{isNumber, most}
+use Rattle.faults.specs.Faults.{fieldCode, wordCode, endCode, worst, faultOf}
+use Rattle.faults.proofs.FaultLaws.{isCode, field-code, faultless-is}
+use Rattle.entries.specs.Entries.{endCodes, dropCodes, unlessFault, entryOf, nextEntry, entryCode}
 use Rattle.entries.specs.declared.Entry.{Entry}
-use Rattle.entries.specs.declared.Entry.the-variants.{Refused}
-use Rattle.entries.proofs.EntryLaws.{names-parts}
+use Rattle.entries.proofs.EntryLaws.{end-kinds, drop-kinds}
 
-module _ (s : List ℕ) {r : ℕ} (p : r ≡ indexOf LF s) where
-  pub entry-none : r ≡ length s → Refused 3 ≡ nextEntry s
-  unfolding nextEntry
-  entry-none e = rw (le-ltb (indexOf LF s) (length s) (omega arith))
-
-  pub entry-there : (r ≡ length s → ⊥) → entryOf (before LF s) ≡ nextEntry s
-  unfolding nextEntry
-  entry-there n = rw (lt-ltb (indexOf LF s) (length s) (omega (arith, found-le LF s p, n)))
+pub next-is : (s : List ℕ) {r : ℕ} → r ≡ indexOf LF s → entryOf (ltb r (length s)) (take r s) ≡ nextEntry s
+unfolding nextEntry
+next-is s p = rw p
 
 number-some : (s : List ℕ) → isNumber s ≡ true → 1 ≤ length s
 unfolding isNumber
@@ -47,36 +44,81 @@ two-parts (a ∷ []) h = absurd (omega arith)
 two-parts (a ∷ b ∷ l) h = omega (arith, joined b l, length-append a (9 ∷ joinOn 9 (b ∷ l)))
 
 -- the word, a tab before each number, and a digit
-names-bytes : (word : List ℕ) (n : ℕ) (line : List ℕ) → 2 ≤ n → namesTask word n line ≡ true → length word + n ≤ length line
-names-bytes word n line few h =
-    let m = eqb-true (length (fields line)) n (names-parts word n line h 0 (omega arith)) in
-    let w : length (field line 0) ≡ length word =
-    ap length (same-eq (field line 0) word (names-parts word n line h 1 (omega arith))) in
-    let a = number-some (field line 1) (names-parts word n line h 2 (omega arith)) in
+names-bytes : (word : List ℕ) (n : ℕ) (line : List ℕ) → 2 ≤ n → n ≤ length (fields line) → same (field line 0) word ≡ true → isNumber (field line 1) ≡ true → length word + n ≤ length line
+names-bytes word n line few count is number =
+    let w : length (field line 0) ≡ length word = ap length (same-eq (field line 0) word is) in
+    let a = number-some (field line 1) number in
     omega (arith, two-parts (fields line) (omega arith), ap length (join-split 9 line))
 
-line-bytes : (line : List ℕ) → entryCode (entryOf line) ≡ 0 → 6 ≤ length line
-unfolding entryOf
-line-bytes line z =
-    by-bool (isEndLine line)
-    (λ h. names-bytes (bytes "end") 3 line (omega arith) (and-l (namesTask (bytes "end") 3 line) (isNumber (field line 2)) h))
-    (λ h.
-    by-bool (isDropLine line)
-    (λ g. names-bytes (bytes "drop") 2 line (omega arith) g)
-    (λ g. let q : _≡_ {A = ℕ} 3 0 = rw (h, g) at z in absurd (omega arith)))
+-- a number stands in a field that is there
+there : (line : List ℕ) (n : ℕ) → isNumber (field line n) ≡ true → n < length (fields line)
+unfolding isNumber
+there line n h =
+    by-le (length (fields line)) n
+    (λ few. true-false (rw (List·getD-eq-default (fields line) [] few) at h) refl)
+    (λ few. few)
 
-module _ (s : List ℕ) (z : entryCode (nextEntry s) ≡ 0) where
-  line-there : hasLine s ≡ true
-  unfolding nextEntry
-  line-there = by-bool (hasLine s) (λ h. h) (λ h. let q : _≡_ {A = ℕ} 3 0 = rw h at z in absurd (omega arith))
+spelt : (s : List ℕ) → fieldCode 0 most s ≡ 0 → isNumber s ≡ true
+spelt s z =
+    by-bool (isNumber s) (λ e. e)
+    (λ e. let q : _≡_ {A = ℕ} 3 0 = rw (field-code 0 most s (omega arith), e) at z in absurd (omega arith))
 
-  line-code : entryCode (entryOf (before LF s)) ≡ 0
-  unfolding nextEntry
-  line-code = rw line-there at z
+right-word : (word s : List ℕ) → wordCode word s ≡ 0 → same s word ≡ true
+unfolding wordCode
+right-word word s z = by-bool (same s word) (λ e. e) (λ e. let q : _≡_ {A = ℕ} 3 0 = rw e at z in absurd (omega arith))
 
-  -- a line that is not refused uses up 7 bytes
-  pub line-used : length (after LF s) + 7 ≤ length s
-  line-used =
-      let i = ltb-true (indexOf LF s) (length s) line-there in
-      let b = line-bytes (before LF s) line-code in
-      omega (arith, length-take (indexOf LF s) s, length-drop (suc (indexOf LF s)) s)
+-- a line that is not refused has no fault
+no-fault : (line codes : List ℕ) (entry : Entry) → entryCode (unlessFault (faultOf line codes) entry) ≡ 0 → allOf isCode codes ≡ true → allOf (eqb 0) codes ≡ true
+unfolding faultOf
+no-fault line codes entry z kinds =
+    by-bool (eqb (worst codes) 0)
+    (λ e. faultless-is codes kinds ∙ e)
+    (λ e. absurd (eqb-false (worst codes) 0 e (rw e at z)))
+
+is-ended : (ended : Bool) (n : ℕ) (line : List ℕ) → endCode ended n line ≡ 0 → ended ≡ true
+unfolding endCode
+is-ended ended n line z =
+    by-bool (ended && leb (length (fields line)) n)
+    (λ e. and-l ended (leb (length (fields line)) n) e)
+    (λ e. let q : _≡_ {A = ℕ} 3 0 = rw e at z in absurd (omega arith))
+
+zero-at : (codes : List ℕ) → allOf (eqb 0) codes ≡ true → (i : ℕ) → i < length codes → getD codes i 0 ≡ 0
+zero-at codes all i l = sym (eqb-true 0 (getD codes i 0) (all-at (eqb 0) codes all i 0 l))
+
+module _ (ended : Bool) (line : List ℕ) where
+  abbrev Whole : Type 0
+  Whole = (ended ≡ true) × (6 ≤ length line)
+
+  end-whole : allOf (eqb 0) (endCodes ended line) ≡ true → Whole
+  unfolding endCodes
+  end-whole all =
+      let at = zero-at (endCodes ended line) all in
+      let task = spelt (field line 1) (at 1 (omega arith)) in
+      let tick = spelt (field line 2) (at 2 (omega arith)) in (
+        is-ended ended 3 line (at 3 (omega arith)),
+        names-bytes (bytes "end") 3 line (omega arith) (there line 2 tick) (right-word (bytes "end") (field line 0) (at 0 (omega arith))) task,
+      )
+
+  drop-whole : allOf (eqb 0) (dropCodes ended line) ≡ true → Whole
+  unfolding dropCodes
+  drop-whole all =
+      let at = zero-at (dropCodes ended line) all in
+      let task = spelt (field line 1) (at 1 (omega arith)) in (
+        is-ended ended 2 line (at 2 (omega arith)),
+        names-bytes (bytes "drop") 2 line (omega arith) (there line 1 task) (right-word (bytes "drop") (field line 0) (at 0 (omega arith))) task,
+      )
+
+  whole : entryCode (entryOf ended line) ≡ 0 → Whole
+  unfolding entryOf
+  whole z =
+      by-bool (same (field line 0) (bytes "drop"))
+      (λ e. drop-whole (no-fault line (dropCodes ended line) _ (rw e at z) (drop-kinds ended line)))
+      (λ e. end-whole (no-fault line (endCodes ended line) _ (rw e at z) (end-kinds ended line)))
+
+-- a line that is not refused uses up 7 bytes
+pub line-used : (s : List ℕ) → entryCode (nextEntry s) ≡ 0 → length (after LF s) + 7 ≤ length s
+unfolding nextEntry
+line-used s z =
+    let w = whole (hasLine s) (before LF s) z in
+    let i = ltb-true (indexOf LF s) (length s) (w .0) in
+    omega (arith, w .1, length-take (indexOf LF s) s, length-drop (suc (indexOf LF s)) s)

@@ -1,14 +1,15 @@
 -- A line of ends.txt: `end`, task, tick; or `drop`, task.
 use Prim.Native.Nat.{ℕ}
-use mathlib.Core.Bool.{Bool, cond, _&&_}
-use mathlib.Core.List.{List}
-use lib.Dec.{leb, eqb}
-use lib.ListN.{length}
+use mathlib.Core.Bool.{Bool, cond}
+use mathlib.Core.List.{List, [], _∷_}
+use lib.Dec.{eqb}
 use Rattle.laws.specs.Lists.{same}
 use Rattle.laws.specs.Split.{before}
 use Rattle.text.specs.Bytes.{bytes}
-use Rattle.text.specs.Number.{isNumber, valueOf, most}
-use Rattle.text.specs.Line.{LF, fields, field, hasLine}
+use Rattle.text.specs.Number.{valueOf, most}
+use Rattle.text.specs.Line.{LF, field, hasLine}
+use Rattle.faults.specs.Faults.{wordCode, fieldCode, endCode, faultOf}
+use Rattle.faults.specs.declared.Fault.{Fault}
 use Rattle.entries.specs.declared.Entry.{Entry}
 use Rattle.entries.specs.declared.Entry.the-variants.{End, Drop, Refused}
 
@@ -16,34 +17,28 @@ use Rattle.entries.specs.declared.Entry.the-variants.{End, Drop, Refused
 abbrev pub entryCode : Entry → ℕ
 entryCode (End task tick) = 0
 entryCode (Drop task) = 0
-entryCode (Refused code) = code
+entryCode (Refused code column) = code
 
--- n fields, the first a word and the second a number
-unfoldable pub namesTask : List ℕ → ℕ → List ℕ → Bool
-namesTask word n line = eqb (length (fields line)) n && (same (field line 0) word && isNumber (field line 1))
-
--- `end`, task, tick
-abbrev pub isEndLine : List ℕ → Bool
-isEndLine line = namesTask (bytes "end") 3 line && isNumber (field line 2)
+-- `end`, task, tick; a number over 1,000,000 is 4
+unfoldable pub endCodes : Bool → List ℕ → List ℕ
+endCodes ended line =
+    wordCode (bytes "end") (field line 0) ∷ fieldCode 0 most (field line 1) ∷ fieldCode 0 most (field line 2) ∷ endCode ended 3 line ∷ []
 
 -- `drop`, task
-abbrev pub isDropLine : List ℕ → Bool
-isDropLine line = namesTask (bytes "drop") 2 line
+unfoldable pub dropCodes : Bool → List ℕ → List ℕ
+dropCodes ended line = wordCode (bytes "drop") (field line 0) ∷ fieldCode 0 most (field line 1) ∷ endCode ended 2 line ∷ []
 
--- what an `end` line says; 4 for a number over 1,000,000
-unfoldable pub endEntry : List ℕ → Entry
-endEntry line =
-    let task = valueOf (field line 1) in let tick = valueOf (field line 2) in
-    cond (leb task most && leb tick most) (End task tick) (Refused 4)
+-- what a faultless line says, or the line's fault
+abbrev pub unlessFault : Fault → Entry → Entry
+unlessFault fault entry = cond (eqb (fault .code) 0) entry (Refused (fault .code) (fault .column))
 
--- what a `drop` line says; 4 likewise
-unfoldable pub dropEntry : List ℕ → Entry
-dropEntry line = cond (leb (valueOf (field line 1)) most) (Drop (valueOf (field line 1))) (Refused 4)
+-- a line whose word is `drop` says a drop, any other an end
+unfoldable pub entryOf : Bool → List ℕ → Entry
+entryOf ended line =
+    cond (same (field line 0) (bytes "drop"))
+    (unlessFault (faultOf line (dropCodes ended line)) (Drop (valueOf (field line 1))))
+    (unlessFault (faultOf line (endCodes ended line)) (End (valueOf (field line 1)) (valueOf (field line 2))))
 
--- 3 for a malformed line, before 4
-unfoldable pub entryOf : List ℕ → Entry
-entryOf line = cond (isEndLine line) (endEntry line) (cond (isDropLine line) (dropEntry line) (Refused 3))
-
--- the line that begins the text; one with no LF is malformed
+-- the line that begins the text; a last line may have no LF
 unfoldable pub nextEntry : List ℕ → Entry
-nextEntry text = cond (hasLine text) (entryOf (before LF text)) (Refused 3)
+nextEntry text = entryOf (hasLine text) (before LF text)

@@ -1,86 +1,87 @@
 // A line of ends.txt.
 ghost use mathlib.Core.Path.{_≡_};
-ghost use mathlib.Core.Bool.{true};
-ghost use Rattle.entries.specs.Entries.{namesTask, isEndLine, isDropLine, endEntry, dropEntry, entryOf, nextEntry, entryCode};
-use text::Number;
-use text::decimal::is_number;
-use text::decimal::read_number;
+ghost use mathlib.Core.Bool.{true, false};
+ghost use Rattle.laws.specs.Lists.{same};
+ghost use Rattle.text.specs.Bytes.{bytes};
+ghost use Rattle.text.specs.Line.{field};
+ghost use Rattle.entries.specs.Entries.{entryOf, nextEntry, entryCode};
+ghost use Rattle.entries.specs.declared.Entry.the-variants.{Refused};
+use faults::Fault;
+use faults::end_code;
+use faults::fault_of;
+use faults::is_faultless;
+use faults::read_ranged;
+use faults::word_code;
 use text::part::LF;
-use text::part::count_fields;
 use text::part::field;
 use text::part::find;
-use text::part::part_before;
 use text::part::same;
 
-// What a line says: a task's end at a tick, a task that is dropped, or the code that refuses the line.
+const MOST: u32 = 1000000;
+
+// What a line says: a task's end at a tick, a task that is dropped, or the code and the column that refuse the line.
 pub enum Entry {
     End(u32, u32),
     Drop(u32),
-    Refused(u32),
+    Refused(u32, usize),
 }
 
-fn names_task(line: &[u8], word: &[u8], n: usize) -> bool
-    ensures { λ r. ⌜ r ≡ namesTask (now (word .entry)) n (now (line .entry)) ⌝ }
+fn refused(fault: Fault) -> Entry
+    ensures { λ r. ⌜ r ≡ Refused (fault .code) (fault .column) ⌝ }
 {
-    (count_fields(line) == n) & (same(field(line, 0), word) & is_number(field(line, 1)))
+    Entry::Refused(fault.code as u32, fault.column)
 }
 
-fn is_end_line(line: &[u8]) -> bool
-    ensures { λ r. ⌜ r ≡ isEndLine (now (line .entry)) ⌝ }
+fn read_end(line: &[u8], ended: bool) -> Entry
+    requires { ⌜ same (field (now line) 0) (bytes "drop") ≡ false ⌝ }
+    ensures { λ r. ⌜ r ≡ entryOf ended (now (line .entry)) ⌝ }
 {
-    names_task(line, b"end", 3) & is_number(field(line, 2))
-}
-
-fn is_drop_line(line: &[u8]) -> bool
-    ensures { λ r. ⌜ r ≡ isDropLine (now (line .entry)) ⌝ }
-{
-    names_task(line, b"drop", 2)
-}
-
-fn read_end(line: &[u8]) -> Entry
-    requires { ⌜ isEndLine (now line) ≡ true ⌝ }
-    ensures { λ r. ⌜ r ≡ endEntry (now (line .entry)) ⌝ }
-{
-    let Number::Value(task) = read_number(field(line, 1)) else {
-        return Entry::Refused(4);
-    };
-    let Number::Value(tick) = read_number(field(line, 2)) else {
-        return Entry::Refused(4);
-    };
-    Entry::End(task, tick)
-}
-
-fn read_drop(line: &[u8]) -> Entry
-    requires { ⌜ isDropLine (now line) ≡ true ⌝ }
-    ensures { λ r. ⌜ r ≡ dropEntry (now (line .entry)) ⌝ }
-{
-    let Number::Value(task) = read_number(field(line, 1)) else {
-        return Entry::Refused(4);
-    };
-    Entry::Drop(task)
-}
-
-// 3 before 4: a number that is too large is looked for once the whole line is well formed.
-pub fn read_entry(line: &[u8]) -> Entry
-    ensures { λ r. ⌜ r ≡ entryOf (now (line .entry)) ⌝ }
-{
-    if is_end_line(line) {
-        return read_end(line);
+    let task = read_ranged(field(line, 1), 0, MOST);
+    let tick = read_ranged(field(line, 2), 0, MOST);
+    let codes = [
+        word_code(field(line, 0), b"end"),
+        task.code,
+        tick.code,
+        end_code(line, 3, ended),
+    ];
+    if !is_faultless(&codes) {
+        return refused(fault_of(line, &codes));
     }
-    if is_drop_line(line) {
-        return read_drop(line);
-    }
-    Entry::Refused(3)
+    Entry::End(task.value, tick.value)
 }
 
-// The line that begins the rest of the text. A last line with no LF is malformed.
+fn read_drop(line: &[u8], ended: bool) -> Entry
+    requires { ⌜ same (field (now line) 0) (bytes "drop") ≡ true ⌝ }
+    ensures { λ r. ⌜ r ≡ entryOf ended (now (line .entry)) ⌝ }
+{
+    let task = read_ranged(field(line, 1), 0, MOST);
+    let codes = [
+        word_code(field(line, 0), b"drop"),
+        task.code,
+        end_code(line, 2, ended),
+    ];
+    if !is_faultless(&codes) {
+        return refused(fault_of(line, &codes));
+    }
+    Entry::Drop(task.value)
+}
+
+// A line without its LF, and whether it had one.
+pub fn read_entry(line: &[u8], ended: bool) -> Entry
+    ensures { λ r. ⌜ r ≡ entryOf ended (now (line .entry)) ⌝ }
+{
+    if same(field(line, 0), b"drop") {
+        return read_drop(line, ended);
+    }
+    read_end(line, ended)
+}
+
+// The line that begins the rest of the text.
 pub fn next_entry(rest: &[u8]) -> Entry
     ensures { λ r. ⌜ r ≡ nextEntry (now (rest .entry)) ⌝ }
 {
-    if find(rest, LF) == rest.len() {
-        return Entry::Refused(3);
-    }
-    read_entry(part_before(rest, LF))
+    let end = find(rest, LF);
+    read_entry(&rest[..end], end < rest.len())
 }
 
 pub fn entry_code(entry: Entry) -> u32
@@ -89,6 +90,6 @@ pub fn entry_code(entry: Entry) -> u32
     match entry {
         Entry::End(_, _) => 0,
         Entry::Drop(_) => 0,
-        Entry::Refused(code) => code,
+        Entry::Refused(code, _) => code,
     }
 }

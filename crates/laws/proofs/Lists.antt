@@ -2,14 +2,14 @@
 use Prim.Native.Nat.{ℕ, zero, suc, _+_, _<_, _≤_}
 use mathlib.Core.List.{List, [], _∷_, _++_}
 use mathlib.Core.Bool.{Bool, true, false, _&&_, _||_}
-use mathlib.Core.Path.{_≡_, refl}
+use mathlib.Core.Path.{_≡_, refl, ap}
 use lib.ListN.{length, getD, drop, drop-of-length-le}
 use lib.Seq.{drop-cons}
 use lib.Dec.{eqb}
 use borrow.Author.Tests.{eqb-true, eq-eqb}
 use native.Mathlib.Omega.{arith}
 use native.Mathlib.Numerals.{add-one}
-use Rattle.laws.specs.Lists.{allOf, anyOf, same}
+use Rattle.laws.specs.Lists.{allOf, anyOf, firstNot, same}
 use Rattle.laws.proofs.Cases.{and-l, and-r, and-of, true-false}
 
 module _ {A : Type 0} (p : A → Bool) where
@@ -21,6 +21,27 @@ module _ {A : Type 0} (p : A → Bool) where
     pub any-of-turn : i < length l → anyOf p (drop i l) ≡ (p (getD l i d) || anyOf p (drop (i + 1) l))
     unfolding anyOf
     any-of-turn h = rw (add-one, drop-cons l i d)
+
+    -- the places passed, and the first of which p does not hold from there on
+    pub first-stop : i < length l → p (getD l i d) ≡ false → i + firstNot p (drop i l) ≡ firstNot p l → i ≡ firstNot p l
+    unfolding firstNot
+    first-stop h e q = let z : firstNot p (drop i l) ≡ 0 = rw (drop-cons l i d, e) in omega (arith, z, q)
+
+    pub first-next :
+        i < length l → p (getD l i d) ≡ true → i + firstNot p (drop i l) ≡ firstNot p l
+        → i + 1 + firstNot p (drop (i + 1) l) ≡ firstNot p l
+    unfolding firstNot
+    first-next h e q =
+        let z : firstNot p (drop i l) ≡ suc (firstNot p (drop (i + 1) l)) = rw (add-one, drop-cons l i d, e) in omega (arith, z, q)
+
+  pub first-end : (l : List A) (i : ℕ) → length l ≤ i → i + firstNot p (drop i l) ≡ firstNot p l → i ≡ firstNot p l
+  unfolding firstNot
+  first-end l i h q = let z : firstNot p (drop i l) ≡ 0 = rw (drop-of-length-le l h) in omega (arith, z, q)
+
+  pub first-all : (l : List A) → allOf p l ≡ true → firstNot p l ≡ length l
+  unfolding allOf firstNot
+  first-all [] h = refl
+  first-all (x ∷ l) h = rw (and-l (p x) (allOf p l) h) (ap suc (first-all l (and-r (p x) (allOf p l) h)))
 
   pub all-end : (l : List A) (i : ℕ) → length l ≤ i → allOf p (drop i l) ≡ true
   unfolding allOf

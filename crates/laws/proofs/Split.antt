@@ -1,17 +1,17 @@
 -- What parting a list at a separator gives, and that parting and joining undo each other.
-use Prim.Native.Nat.{ℕ, suc, _+_, _≤_, _<_}
+use Prim.Native.Nat.{ℕ, zero, suc, _+_, _≤_, _<_}
 use mathlib.Core.Path.{_≡_, refl, ap, _∙_}
 use mathlib.Core.Bool.{Bool, true, false, not, cond}
 use mathlib.Core.List.{List, [], _∷_, _++_}
 use native.Mathlib.Omega.{arith}
 use native.Mathlib.Numerals.{add-one}
-use lib.ListN.{length, drop, getD, drop-of-length-le}
+use lib.ListN.{length, drop, getD, drop-of-length-le, length-drop}
 use lib.Seq.{drop-cons}
 use lib.Dec.{eqb}
 use borrow.Author.Tests.{eqb-true, eq-eqb, not-true, ne-eqb}
-use Rattle.laws.specs.Split.{indexOf, before, after, consFirst, splitOn, joinOn}
+use Rattle.laws.specs.Split.{indexOf, before, after, skipOn, beginOf, consFirst, splitOn, joinOn}
 use Rattle.laws.specs.Lists.{allOf}
-use Rattle.laws.proofs.Cases.{by-bool, and-l, and-r}
+use Rattle.laws.proofs.Cases.{by-bool, by-le, and-l, and-r}
 
 -- c does not stand in s
 abbrev pub free : ℕ → List ℕ → Bool
@@ -22,6 +22,24 @@ unfolding indexOf
 index-le c [] = omega arith
 index-le c (b ∷ s) =
     let r = index-le c s in by-bool (eqb b c) (λ e. rw e (omega arith)) (λ e. rw e (omega arith))
+
+-- c stands at the place of the first c, and at none before it
+pub index-found : (c : ℕ) (s : List ℕ) (d : ℕ) → indexOf c s < length s → getD s (indexOf c s) d ≡ c
+unfolding indexOf
+index-found c [] d h = absurd (omega arith)
+index-found c (b ∷ s) d h =
+    by-bool (eqb b c)
+    (λ e. rw e (eqb-true b c e))
+    (λ e. rw e (index-found c s d (let h′ = rw e at h in omega arith)))
+
+pub index-first : (c : ℕ) (s : List ℕ) (d j : ℕ) → j < indexOf c s → getD s j d ≡ c → ⊥
+unfolding indexOf
+index-first c [] d j h e = omega arith
+index-first c (b ∷ s) d zero h e = let h′ = rw (eq-eqb b c e) at h in omega arith
+index-first c (b ∷ s) d (suc j) h e =
+    by-bool (eqb b c)
+    (λ q. let h′ = rw q at h in omega arith)
+    (λ q. index-first c s d j (let h′ = rw q at h in omega arith) e)
 
 -- what stands before the first c, from a place i on
 pub before-here : (c : ℕ) (s : List ℕ) (i : ℕ) → i < length s → getD s i 0 ≡ c → before c (drop i s) ≡ []
@@ -37,6 +55,28 @@ before-next c s i h n = rw (add-one, drop-cons s i 0, ne-eqb (getD s i 0) c n)
 pub before-end : (c : ℕ) (s : List ℕ) (i : ℕ) → length s ≤ i → before c (drop i s) ≡ []
 unfolding indexOf
 before-end c s i h = rw (drop-of-length-le s h)
+
+-- what is left after some parts, and where the next one begins
+pub skip-le : (c n : ℕ) (s : List ℕ) → length (skipOn c n s) ≤ length s
+unfolding skipOn
+skip-le c zero s = omega arith
+skip-le c (suc n) s = omega (arith, skip-le c n (after c s), length-drop (suc (indexOf c s)) s)
+
+pub begin-next :
+    (c n : ℕ) (s : List ℕ) → indexOf c s < length s → beginOf c s (suc n) ≡ indexOf c s + 1 + beginOf c (after c s) n
+unfolding skipOn
+begin-next c n s h = omega (arith, skip-le c n (after c s), length-drop (suc (indexOf c s)) s)
+
+pub begin-first : (c : ℕ) (s : List ℕ) → beginOf c s 0 ≡ 0
+unfolding skipOn
+begin-first c s = omega arith
+
+-- what is left grows shorter
+pub skip-down : (c : ℕ) (s : List ℕ) (m n : ℕ) → m ≤ n → length (skipOn c n s) ≤ length (skipOn c m s)
+unfolding skipOn
+skip-down c s zero n h = skip-le c n s
+skip-down c s (suc m) zero h = absurd (omega arith)
+skip-down c s (suc m) (suc n) h = skip-down c (after c s) m n (omega arith)
 
 -- one step of a split: at the first separator, and with none
 pub split-found : (c : ℕ) (s : List ℕ) → indexOf c s < length s → splitOn c s ≡ before c s ∷ splitOn c (after c s)
@@ -58,6 +98,18 @@ split-none c (b ∷ s) h = go (λ g. split-none c s g) (eqb b c) refl
     go : (length s ≤ indexOf c s → splitOn c s ≡ s ∷ []) → (t : Bool) → eqb b c ≡ t → splitOn c (b ∷ s) ≡ (b ∷ s) ∷ []
     go ih true e = let h′ = rw e at h in absurd (omega arith)
     go ih false e = let h′ = rw e at h in rw (e, ih (omega arith))
+
+-- nothing is left after the last part
+pub skip-beyond : (c : ℕ) (s : List ℕ) (n : ℕ) → length (splitOn c s) ≤ n → length (skipOn c n s) ≡ 0
+unfolding skipOn
+skip-beyond c s zero h =
+    by-le (length s) (indexOf c s)
+    (λ g. let e = ap length (split-none c s g) in absurd (omega (arith, e, h)))
+    (λ g. let e = ap length (split-found c s g) in absurd (omega (arith, e, h)))
+skip-beyond c s (suc n) h =
+    by-le (length s) (indexOf c s)
+    (λ g. omega (arith, skip-le c n (after c s), length-drop (suc (indexOf c s)) s))
+    (λ g. let e = ap length (split-found c s g) in skip-beyond c (after c s) n (omega (arith, e, h)))
 
 -- whatever is split joins to itself
 data Parts (l : List (List ℕ)) : Type 0 where

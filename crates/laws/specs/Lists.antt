@@ -1,7 +1,7 @@
 -- Tests over the items of a list.
-use Prim.Native.Nat.{ℕ}
+use Prim.Native.Nat.{ℕ, suc}
 use mathlib.Core.List.{List, [], _∷_}
-use mathlib.Core.Bool.{Bool, true, false, _&&_, _||_}
+use mathlib.Core.Bool.{Bool, true, false, cond, _&&_, _||_}
 use lib.Dec.{eqb, leb, ltb}
 
 module _ {A : Type 0} (p : A → Bool) where
@@ -14,6 +14,11 @@ module _ {A : Type 0} (p : A → Bool) where
   unfoldable pub anyOf : List A → Bool
   anyOf [] = false
   anyOf (x ∷ l) = p x || anyOf l
+
+  -- the place of the first item of which p does not hold, or the length
+  unfoldable pub firstNot : List A → ℕ
+  firstNot [] = 0
+  firstNot (x ∷ l) = cond (p x) (suc (firstNot l)) 0
 
 -- each key is above the one before
 unfoldable pub rising : (ℕ → ℕ) → List ℕ → Bool

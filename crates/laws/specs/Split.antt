@@ -1,8 +1,8 @@
 -- A list parted at a separator, and joined again.
-use Prim.Native.Nat.{ℕ, suc}
+use Prim.Native.Nat.{ℕ, zero, suc, _-_}
 use mathlib.Core.Bool.{cond}
 use mathlib.Core.List.{List, [], _∷_, _++_}
-use lib.ListN.{take, drop}
+use lib.ListN.{length, take, drop}
 use lib.Dec.{eqb}
 
 -- the place of the first c, or the length
@@ -17,6 +17,15 @@ before c s = take (indexOf c s) s
 -- what stands after the first c
 abbrev pub after : ℕ → List ℕ → List ℕ
 after c s = drop (suc (indexOf c s)) s
+
+-- what is left of s after its first n parts
+unfoldable pub skipOn : ℕ → ℕ → List ℕ → List ℕ
+skipOn c zero s = s
+skipOn c (suc n) s = skipOn c n (after c s)
+
+-- where part n begins, from 0; a missing one would begin at the end
+abbrev pub beginOf : ℕ → List ℕ → ℕ → ℕ
+beginOf c s n = length s - length (skipOn c n s)
 
 -- b put in front of the first part
 unfoldable pub consFirst : ℕ → List (List ℕ) → List (List ℕ)

@@ -18,8 +18,9 @@ use Rattle.entries.proofs.TextLaws.{line-used}
 use Rattle.log.specs.Log.{toldOf, toldLog, endsLog}
 use Rattle.log.specs.declared.Shown.{Shown}
 use Rattle.lines.specs.private.Wrote.{Wrote}
-use Rattle.log.specs.private.Writes.{starting, toldIn, toldMost}
+use Rattle.log.specs.private.Writes.{starting, Short, toldIn, toldMost}
 use Rattle.log.specs.private.Room.{roomFor, endsMost}
+use Rattle.log.proofs.ShortLaws.{next-short}
 use Rattle.log.proofs.ReportLaws.{Told, told-sized, told-wrote}
 use Rattle.lines.proofs.WriteLaws.{Left, left-turn, left-last, nothing, wrote-length}
 
@@ -132,6 +133,9 @@ module _ {out : List ℕ} {from : ℕ} {opened : Book} {ends : List ℕ} where
                 room = omega (arith, w .room, told .paid, told .wrote .place);
                 left = left-turn (firstLog book line rest) _ l (told .wrote);
               }
+
+      pub walk-short : length ends ≤ 32768 → {entry : Entry} → entry ≡ nextEntry rest → Short entry
+      walk-short h n = rw n (next-short rest (omega (arith, w .lines)))
 
       -- the same of what the code has: an entry, its answer, what was written and the entry's code
       module _ {entry : Entry} (n : entry ≡ nextEntry rest) where

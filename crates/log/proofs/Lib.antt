@@ -1,3 +1,4 @@
+pub mod ShortLaws
 pub mod StartLaws
 pub mod ComeLaws
 pub mod BookLaws

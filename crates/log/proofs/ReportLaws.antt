@@ -1,5 +1,5 @@
 -- What a line of ends.txt prints, and what it uses up of the lines that are still to come.
-use Prim.Native.Nat.{ℕ, zero, suc, _+_, _-_, _*_, _≤_, _<_}
+use Prim.Native.Nat.{ℕ, zero, suc, _+_, _-_, _≤_, _<_}
 use mathlib.Core.Path.{_≡_, refl, sym, ap, _∙_}
 use mathlib.Core.Logic.{_≢_}
 use mathlib.Core.Bool.{cond}
@@ -156,7 +156,7 @@ module _ (n : ℕ) where
     omega (arith, drop-few book task z, drop-some book task z, drop-accepts book task z .task),
     omega arith,
   )
-  told-named book (Refused code) z = omega arith
+  told-named book (Refused code column) z = omega arith
 
   told-lines :
       (book : Book) (e : Entry) → toldOf n book e .answer .code ≡ 0
@@ -170,7 +170,7 @@ module _ (n : ℕ) where
       ap (λ (x : List ℕ). endLine after task ++ x)
       (ap (startLines book after) (sym (report-tasks book task tick z)) ∙ starts-same book after (after .tasks))
   told-lines book (Drop task) z = refl
-  told-lines book (Refused code) z = refl
+  told-lines book (Refused code column) z = refl
 
   -- what is printed is at most what was to come, and a line of three numbers
   told-pays :
@@ -193,7 +193,7 @@ module _ (n : ℕ) where
         arith,
         drop-pays book (droppedOf book task .book) (task - 1) (drop-view book task z) (drop-accepts book task z),
       ))
-  told-pays book (Refused code) s z = omega arith
+  told-pays book (Refused code column) s z = omega arith
 
   told-short :
       (book : Book) (e : Entry) → toldOf n book e .answer .code ≡ 0
@@ -208,19 +208,19 @@ module _ (n : ℕ) where
         count-below (after .tasks) (starting (book .mark) (after .mark)),
       )
   told-short book (Drop task) z = omega arith
-  told-short book (Refused code) z = omega arith
+  told-short book (Refused code column) z = omega arith
 
   pub told-sized : (book : Book) (e : Entry) → Sized book → Sized (toldOf n book e .book)
   unfolding toldOf
   told-sized book (End task tick) s = sized-told book (Event.ends task tick) s
   told-sized book (Drop task) s = sized-told book (Event.drops task) s
-  told-sized book (Refused code) s = s
+  told-sized book (Refused code column) s = s
 
   told-stays : (book : Book) (e : Entry) → toldOf n book e .answer .code ≢ 0 → toldOf n book e .book ≡ book
   unfolding toldOf
   told-stays book (End task tick) h = report-refused book task tick h
   told-stays book (Drop task) h = drop-refused book task h
-  told-stays book (Refused code) h = refl
+  told-stays book (Refused code column) h = refl
 
 -- ---- a line's text, written
 

@@ -29,7 +29,7 @@ use Rattle.log.specs.Log.{shownAfter, toldOf}
 use Rattle.log.specs.declared.Shown.{Shown}
 use Rattle.lines.specs.Lines.{Lined}
 use Rattle.lines.specs.private.Wrote.{Wrote}
-use Rattle.log.specs.private.Writes.{Named, linesIn, linesMost, earlyIn, toldIn, toldMost}
+use Rattle.log.specs.private.Writes.{Short, Named, linesIn, linesMost, earlyIn, toldIn, toldMost}
 use Rattle.lines.proofs.WriteLaws.{also, looser, nothing, wrote-length, wrote-line}
 
 -- ---- the figure shown
@@ -62,10 +62,13 @@ module _ (n : ℕ) (book : Book) {e : Entry} where
   tell-drop p q t = rw (p, t, q)
 
   pub tell-refused :
-      {code : ℕ} {a : Answer} → e ≡ Refused code → a ≡ refuse code n 0
+      {code column : ℕ} {a : Answer} → e ≡ Refused code column → a ≡ refuse code n column
       → _≡_ {A = Shown} (record { answer = a; book = book; early = 0 }) (toldOf n book e)
   unfolding toldOf
   tell-refused p q = rw (p, q)
+
+pub short-column : {e : Entry} {code column : ℕ} → e ≡ Refused code column → Short e → column < 4294967296
+short-column p h = rw p at h
 
 -- ---- the task that is named
 
@@ -79,7 +82,7 @@ module _ {e : Entry} {task tasks : ℕ} where
 pub lines-short : (e : Entry) (tasks : ℕ) {started : ℕ} → started ≤ tasks → Named e tasks → linesMost e started ≤ 3380
 lines-short (End task tick) tasks h n = omega (arith, n .2)
 lines-short (Drop task) tasks h n = omega arith
-lines-short (Refused code) tasks h n = omega arith
+lines-short (Refused code column) tasks h n = omega arith
 
 -- ---- the lines
 
@@ -89,7 +92,7 @@ module _ {out : List ℕ} {from : ℕ} (old mark dropped board begin start finis
       → Wrote out from (linesIn e old mark dropped board begin start finish end tasks) (linesMost e started) out from
   lines-none (End task tick) t = absurd (omega arith)
   lines-none (Drop task) t = absurd (omega arith)
-  lines-none (Refused code) t = nothing out from 0
+  lines-none (Refused code column) t = nothing out from 0
 
   module _ (e : Entry) (answer : Answer) (clock early : ℕ) {m : List ℕ} {p : ℕ} where
     pub told-no :

@@ -1,5 +1,5 @@
 -- The whole output of the program, from the two texts.
-use Prim.Native.Nat.{ℕ, zero, suc, _+_, _-_}
+use Prim.Native.Nat.{ℕ, zero, suc, _+_}
 use mathlib.Core.Bool.{cond}
 use mathlib.Core.List.{List, [], _++_}
 use lib.Dec.{leb, ltb, eqb}
@@ -35,13 +35,13 @@ openLog plan =
 unfoldable pub toldOf : ℕ → Book → Entry → Shown
 toldOf n book (End task tick) = shownAfter (reportedOf book task tick .answer) (reportedOf book task tick .book)
 toldOf n book (Drop task) = shownAfter (droppedOf book task .answer) (droppedOf book task .book)
-toldOf n book (Refused code) = record { answer = refuse code n 0; book = book; early = 0 }
+toldOf n book (Refused code column) = record { answer = refuse code n column; book = book; early = 0 }
 
 -- an accepted report's `end` line and the `start` and `skip` lines it caused, or a drop's `drop` line
 abbrev pub linesOf : Book → Entry → Book → List ℕ
 linesOf book (End task tick) told = endLine told task ++ startLines book told (book .tasks)
 linesOf book (Drop task) told = dropLine told task
-linesOf book (Refused code) told = []
+linesOf book (Refused code column) told = []
 
 -- these and an `early` line; or a `refused` line
 unfoldable pub toldLog : Book → Entry → Shown → List ℕ

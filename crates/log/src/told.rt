@@ -8,7 +8,7 @@ ghost use Rattle.plan.specs.Answer.{refuse};
 ghost use Rattle.book.specs.Sound.{isSound};
 ghost use Rattle.lines.specs.private.Wrote.{Wrote};
 ghost use Rattle.log.specs.Log.{shownAfter, toldOf};
-ghost use Rattle.log.specs.private.Writes.{starting, openedIn, endedIn, Named, linesIn, linesMost, toldIn, toldMost};
+ghost use Rattle.log.specs.private.Writes.{starting, openedIn, endedIn, Short, Named, linesIn, linesMost, toldIn, toldMost};
 use crate::Shown;
 use crate::starts::put_starts;
 use book::Book;
@@ -21,13 +21,13 @@ use lines::put_refused;
 use lines::put_run;
 use plan::Answer;
 
-fn refuse(code: u32, line: u32) -> Answer
-    ensures { λ r. ⌜ r ≡ refuse code line 0 ⌝ }
+fn refuse(code: u32, line: u32, column: u32) -> Answer
+    ensures { λ r. ⌜ r ≡ refuse code line column ⌝ }
 {
     Answer {
         code,
         first: line,
-        second: 0,
+        second: column,
     }
 }
 
@@ -51,6 +51,7 @@ pub(crate) fn show(answer: Answer, book: Book) -> Shown
 }
 
 pub(crate) fn tell(line: u32, book: Book, entry: Entry) -> Shown
+    requires { ⌜ Short entry ⌝ }
     ensures { λ r. ⌜ r ≡ toldOf line book entry ⌝ }
 {
     match entry {
@@ -62,8 +63,8 @@ pub(crate) fn tell(line: u32, book: Book, entry: Entry) -> Shown
             let dropped = book.drop(task);
             show(dropped.answer, dropped.book)
         }
-        Entry::Refused(code) => Shown {
-            answer: refuse(code, line),
+        Entry::Refused(code, column) => Shown {
+            answer: refuse(code, line, column as u32),
             book,
             early: 0,
         },
@@ -158,7 +159,7 @@ fn put_lines<'a>(
             tasks as usize,
         ),
         Entry::Drop(task) => put_drop(out, at, task, board[(task - 1) as usize]),
-        Entry::Refused(_) => at,
+        Entry::Refused(_, _) => at,
     }
 }
 

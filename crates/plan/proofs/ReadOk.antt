@@ -11,12 +11,13 @@ use borrow.Author.Tests.{ltb-false, le-ltb, eqb-true, eq-eqb, not-false}
 use Rattle.laws.proofs.Cases.{and-l, and-r, and-of, guard-passed}
 use Rattle.laws.proofs.Scan.{scan-clean, scan-none}
 use Rattle.text.specs.Number.{valueOf}
+use Rattle.faults.specs.Faults.{codeFor, faultOf}
 use Rattle.text.specs.Line.{hasLine, skip, lineAt, field}
 use Rattle.plan.specs.Answer.{refuse, granted, isGranted, isRefused}
-use Rattle.plan.specs.Task.{Task, taskOk}
+use Rattle.plan.specs.Task.{taskOk}
 use Rattle.plan.specs.Judged.{tasksAnswer}
 use Rattle.plan.specs.Value.{taskAt, planOf, rangesOk, isAccepted}
-use Rattle.plan.specs.Read.{sizesOk, boardsOf, tasksOf, lineTask, codeFor, lineCode}
+use Rattle.plan.specs.Read.{sizesOk, boardsOf, tasksOf}
 use Rattle.plan.specs.Read.{lineAnswer, linesAnswer, textTask, formAnswer, textAnswer, textPlan, readingOf}
 use Rattle.plan.specs.declared.Answer.{Answer}
 use Rattle.plan.proofs.FirstFault.{refused-code, passed-code}
@@ -53,35 +54,36 @@ few-tasks : (s : List ℕ) → sizesOk (lineAt s 0) ≡ true → (1 ≤ tasksOf 
 few-tasks s h = let r = number-range 1 64 (field (lineAt s 0) 3) (sizes-test (lineAt s 0) h 4 (omega arith)) in (r .1, r .2)
 
 module _ (s : List ℕ) (sizes : sizesOk (lineAt s 0) ≡ true) (k : ℕ) (below : k < tasksOf s) where
-  code-is :
-      lineCode (boardsOf s) (tasksOf s) (lineAt s (k + 1)) (k + 1)
-      ≡ codeFor (isTaskLine (lineAt s (k + 1)))
-      (eqb (valueOf (field (lineAt s (k + 1)) 1)) (k + 1) && taskOk (boardsOf s) (tasksOf s) (textTask s k))
+  abbrev line : List ℕ
+  line = lineAt s (k + 1)
+
+  abbrev there : Bool
+  there = hasLine (skip (k + 1) s)
+
+  abbrev right : Bool
+  right = eqb (valueOf (field line 1)) (k + 1) && taskOk (boardsOf s) (tasksOf s) (textTask s k)
+
+  code-is : lineAnswer s (k + 1) .code ≡ codeFor (there && isTaskLine line) right
+  unfolding lineAnswer faultOf
   code-is =
       let b = few-boards s sizes in
       let t = few-tasks s sizes in
-      line-code-is (boardsOf s) (tasksOf s) (lineAt s (k + 1)) (k + 1) (omega arith) (omega arith)
+      line-code-is there (boardsOf s) (tasksOf s) line (k + 1) (omega arith) (omega arith)
 
   pub line-ok : lineAnswer s (k + 1) .code ≡ 0 → LineOk s k
-  unfolding lineAnswer
   line-ok z =
-      let line : List ℕ = lineAt s (k + 1) in
-      let right : Bool = eqb (valueOf (field line 1)) (k + 1) in
-      let fine : Bool = taskOk (boardsOf s) (tasksOf s) (lineTask line) in
-      let a = guard-passed (not (hasLine (skip (k + 1) s))) 3 (lineCode (boardsOf s) (tasksOf s) line (k + 1)) (omega arith) z in
-      let b = guard-passed (not (isTaskLine line)) 3 (cond (not (right && fine)) 4 0) (omega arith) (sym code-is ∙ a .1) in
-      let c = not-false (right && fine) (guard-passed (not (right && fine)) 4 0 (omega arith) (b .1) .0) in
+      let b = guard-passed (not (there && isTaskLine line)) 3 (cond (not right) 4 0) (omega arith) (sym code-is ∙ z) in
+      let formed = not-false (there && isTaskLine line) (b .0) in
+      let c = not-false right (guard-passed (not right) 4 0 (omega arith) (b .1) .0) in
       record {
-        there = not-false (hasLine (skip (k + 1) s)) (a .0);
-        formed = not-false (isTaskLine line) (b .0);
-        number = eqb-true (valueOf (field line 1)) (k + 1) (and-l right fine c);
-        ranges = and-r right fine c;
+        there = and-l there (isTaskLine line) formed;
+        formed = and-r there (isTaskLine line) formed;
+        number = eqb-true (valueOf (field line 1)) (k + 1) (and-l _ (taskOk (boardsOf s) (tasksOf s) (textTask s k)) c);
+        ranges = and-r (eqb (valueOf (field line 1)) (k + 1)) _ c;
       }
 
   line-passed : LineOk s k → lineAnswer s (k + 1) .code ≡ 0
-  unfolding lineAnswer
-  line-passed r =
-      rw (r .there, code-is, r .formed, eq-eqb (valueOf (field (lineAt s (k + 1)) 1)) (k + 1) (r .number), r .ranges)
+  line-passed r = rw (code-is, r .there, r .formed, eq-eqb (valueOf (field line 1)) (k + 1) (r .number), r .ranges)
 
 answer-passed : (g : Bool) (x r : Answer) → (g ≡ true → x .code ≢ 0) → cond g x r .code ≡ 0 → (g ≡ false) × (r .code ≡ 0)
 answer-passed true x r n z = absurd (n refl z)

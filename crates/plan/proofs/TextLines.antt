@@ -10,7 +10,7 @@ use Rattle.laws.proofs.Cases.{and-l, and-r}
 use Rattle.laws.proofs.Conj.{conj-at}
 use Rattle.laws.specs.Digits.{digitsOf}
 use Rattle.laws.specs.Lists.{same}
-use Rattle.laws.specs.Split.{after}
+use Rattle.laws.specs.Split.{after, skipOn}
 use Rattle.text.proofs.Numerals.{number-spelt}
 use Rattle.text.specs.Bytes.{bytes}
 use Rattle.text.specs.Number.{isNumber, valueOf}
@@ -20,7 +20,7 @@ use Rattle.plan.specs.Read.{ranged, sizesOk}
 use Rattle.plan.proofs.PlanTasks.{between-facts}
 
 pub skip-suc : (n : ℕ) (s : List ℕ) → skip (suc n) s ≡ after LF (skip n s)
-unfolding skip
+unfolding skipOn
 skip-suc zero s = refl
 skip-suc (suc n) s = skip-suc n (after LF s)
 

@@ -4,14 +4,13 @@ use mathlib.Core.Bool.{Bool, not, cond, _&&_}
 use mathlib.Core.List.{List, [], _∷_}
 use lib.Dec.{ltb, eqb}
 use lib.ListN.{length}
-use Rattle.laws.specs.Lists.{anyOf, same}
+use Rattle.laws.specs.Lists.{same}
 use Rattle.laws.specs.Scan.{scanTo}
 use Rattle.text.specs.Bytes.{bytes}
-use Rattle.text.specs.Number.{isNumber, valueOf, most, numberOf}
-use Rattle.text.specs.declared.Number.{Number}
-use Rattle.text.specs.declared.Number.the-variants.{Value, Over, Misspelt}
+use Rattle.text.specs.Number.{isNumber, valueOf, most}
 use Rattle.text.specs.Line.{hasLine, skip, lineAt, fields, field}
 use Rattle.text.specs.Items.{between, isList, listOf, isHold, holdOf, holdsOk, afterOk}
+use Rattle.faults.specs.Faults.{codeFor, fieldCode, wordCode, endCode, faultOf}
 use Rattle.plan.specs.Answer.{refuse, granted, isGranted, isRefused}
 use Rattle.plan.specs.Task.{Task, taskOf}
 use Rattle.plan.specs.Judged.{tasksAnswer}
@@ -41,39 +40,23 @@ lineTask line =
     taskOf (valueOf (field line 2)) (valueOf (field line 3)) (valueOf (field line 4))
     (listOf holdOf (field line 5)) (listOf valueOf (field line 6))
 
--- 3 where something is misspelt, else 4 where it is out of range or does not rise
-abbrev pub codeFor : Bool → Bool → ℕ
-codeFor spelt fine = cond (not spelt) 3 (cond (not fine) 4 0)
-
--- what the number reader's answer is refused by: misspelt 3, out of its range 4
-abbrev pub numberCode : ℕ → ℕ → Number → ℕ
-numberCode low high (Value v) = cond (between low high v) 0 4
-numberCode low high Over = 4
-numberCode low high Misspelt = 3
-
-abbrev pub fieldCode : ℕ → ℕ → List ℕ → ℕ
-fieldCode low high s = numberCode low high (numberOf s)
-
--- 3 before 4
-unfoldable pub worst : List ℕ → ℕ
-worst codes = cond (anyOf (eqb 3) codes) 3 (cond (anyOf (eqb 4) codes) 4 0)
-
 -- Then T lines: `task`, number, board, planned start, planned finish, holds, after. The k-th task line carries number k
-unfoldable pub lineCode : ℕ → ℕ → List ℕ → ℕ → ℕ
-lineCode boards tasks line k =
-    cond (not (eqb (length (fields line)) 7 && same (field line 0) (bytes "task"))) 3
-    (worst
-    (fieldCode k k (field line 1)
+unfoldable pub taskCodes : Bool → ℕ → ℕ → List ℕ → ℕ → List ℕ
+taskCodes ended boards tasks line k =
+    wordCode (bytes "task") (field line 0)
+    ∷ fieldCode k k (field line 1)
     ∷ fieldCode 1 boards (field line 2)
     ∷ fieldCode 0 most (field line 3)
     ∷ fieldCode (valueOf (field line 3) + 1) most (field line 4)
     ∷ codeFor (isList isHold (field line 5)) (holdsOk (listOf holdOf (field line 5)))
-    ∷ codeFor (isList isNumber (field line 6)) (afterOk tasks (listOf valueOf (field line 6))) ∷ []))
+    ∷ codeFor (isList isNumber (field line 6)) (afterOk tasks (listOf valueOf (field line 6)))
+    ∷ endCode ended 7 line ∷ []
 
--- the k-th task line stands on line k + 1; a line is missing or has no LF
+-- the k-th task line stands on line k + 1; a missing line is an empty one with no LF
 unfoldable pub lineAnswer : List ℕ → ℕ → Answer
 lineAnswer s k =
-    refuse (cond (not (hasLine (skip k s))) 3 (lineCode (boardsOf s) (tasksOf s) (lineAt s k) k)) (k + 1) 0
+    let fault = faultOf (lineAt s k) (taskCodes (hasLine (skip k s)) (boardsOf s) (tasksOf s) (lineAt s k) k) in
+    refuse (fault .code) (k + 1) (fault .column)
 
 -- line by line
 unfoldable pub linesAnswer : List ℕ → Answer

@@ -1,6 +1,6 @@
 -- DEMAND 1. Every call answers one of its table's numbers, says what the table says, and leaves what document 01 says.
 -- Tasks are counted from 0: a report or drop names task i by i + 1.
-use Prim.Native.Nat.{ℕ, _≤_, _<_}
+use Prim.Native.Nat.{ℕ, _+_, _≤_, _<_}
 use mathlib.Core.Path.{_≡_}
 use mathlib.Core.Logic.{_≢_, _↔_, _⊎_}
 use mathlib.Core.Bool.{true}
@@ -17,9 +17,11 @@ use Rattle.book.specs.Report.{reportedOf}
 use Rattle.book.specs.Drop.{droppedOf}
 use Rattle.book.specs.Early.{figureOf}
 use Rattle.book.specs.declared.Book.{Book}
+use Rattle.entries.specs.Entries.{nextEntry}
 use Rattle.promises.specs.Runs.{SizedPlan, Sized}
-use Rattle.promises.specs.Says.{FirstFaulty, BeginsLate, ReadingSays, OpeningSays, ReportSays, DropSays, FigureSays, WriteSays}
+use Rattle.promises.specs.Says.{FirstFaultyLine, EntrySays, FirstFaulty, BeginsLate, ReadingSays, OpeningSays, ReportSays, DropSays, FigureSays, WriteSays}
 use Rattle.promises.proofs.Judged as judged
+use Rattle.promises.proofs.codes.Columns as columns
 use Rattle.promises.proofs.codes.Reading as read-codes
 use Rattle.promises.proofs.codes.Book as book-codes
 use Rattle.promises.proofs.codes.Writing as write-codes
@@ -29,6 +31,17 @@ reading-code = read-codes.reading-code
 
 pub reading-says : (text : List ℕ) → ReadingSays text (readingOf text)
 reading-says = read-codes.reading-says
+
+-- refused with 3 or 4 it names its first faulty line, and the column of that line's leftmost fault of the kind
+pub reading-column :
+    (text : List ℕ) → 3 ≤ readingOf text .answer .code → readingOf text .answer .code ≤ 4
+    → (k : ℕ) × (readingOf text .answer .first ≡ k + 1)
+    × FirstFaultyLine text (readingOf text .answer .code) k (readingOf text .answer .second)
+reading-column = read-codes.reading-column
+
+-- and so does a line of ends.txt
+pub entry-says : (text : List ℕ) → EntrySays text (nextEntry text)
+entry-says = columns.entry-says
 
 -- refused with 6, 7 or 8 it names the first faulty pair, by a, then by b
 pub reading-pair :

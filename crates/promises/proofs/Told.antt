@@ -21,7 +21,7 @@ use Rattle.theory.proofs.Reach.{drop-waits}
 use Rattle.plan.specs.Value.{at}
 use Rattle.plan.specs.declared.Answer.{Answer}
 use Rattle.plan.specs.declared.Plan.{Plan}
-use Rattle.book.specs.View.{planIn, planView, bookView}
+use Rattle.book.specs.View.{planView, bookView}
 use Rattle.book.specs.Sized.{Sized}
 use Rattle.book.specs.Sound.{isSound}
 use Rattle.book.specs.Report.{codeOf, reportedOf}

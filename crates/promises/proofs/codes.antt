@@ -1,3 +1,4 @@
+pub mod Columns
 pub mod Reading
 pub mod Book
 pub mod Writing

@@ -5,3 +5,4 @@ pub mod Impostors
 pub mod Writer
 pub mod Weaker
 pub mod Late
+pub mod Columns

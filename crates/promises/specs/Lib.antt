@@ -1,3 +1,4 @@
 pub mod Runs
+pub mod Columns
 pub mod Says
 pub mod tables

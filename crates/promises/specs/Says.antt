@@ -7,9 +7,10 @@ use mathlib.Core.List.{List}
 use lib.ListN.{length}
 use lib.Seq.{sets}
 use Rattle.plan.specs.Answer.{refuse, granted}
-use Rattle.plan.specs.Value.{zeroPlan, isAccepted}
+use Rattle.plan.specs.Value.{at, zeroPlan, isAccepted}
 use Rattle.plan.specs.Pairs.{pairCode}
-use Rattle.plan.specs.Read.{tasksOf, textTask, formAnswer}
+use Rattle.text.specs.Line.{LF, hasLine, skip, lineAt, field}
+use Rattle.plan.specs.Read.{boardsOf, tasksOf, taskCodes, textTask, formAnswer}
 use Rattle.plan.specs.Write.{textOf}
 use Rattle.plan.specs.declared.Plan.{Plan}
 use Rattle.plan.specs.declared.Reading.{Reading}
@@ -21,6 +22,13 @@ use Rattle.book.specs.declared.Opening.{Opening}
 use Rattle.book.specs.declared.Reported.{Reported}
 use Rattle.book.specs.declared.Dropped.{Dropped}
 use Rattle.book.specs.declared.Figure.{Figure}
+use Rattle.laws.specs.Lists.{same}
+use Rattle.laws.specs.Split.{before}
+use Rattle.text.specs.Bytes.{bytes}
+use Rattle.entries.specs.Entries.{entryCode, endCodes, dropCodes}
+use Rattle.entries.specs.declared.Entry.{Entry}
+use Rattle.entries.specs.declared.Entry.the-variants.{Refused}
+use Rattle.promises.specs.Columns.{ColumnSays}
 
 -- A refused reading gives a plan of zeros
 abbrev pub noPlan : ℕ → ℕ → ℕ → Reading
@@ -51,12 +59,23 @@ pub record BeginsLate (text : List ℕ) (start : ℕ) : Type 0 where
   pub least : (k : ℕ) → k < tasksOf text → start ≤ textTask text k .begin
   pub met : (k : ℕ) × (k < tasksOf text) × (textTask text k .begin ≡ start)
 
+-- the codes of the fields of task line k, and of its end
+abbrev pub codesOf : List ℕ → ℕ → List ℕ
+codesOf text k = taskCodes (hasLine (skip k text)) (boardsOf text) (tasksOf text) (lineAt text k) k
+
+-- task line k is the first that is refused, and the column is that of its fault
+pub record FirstFaultyLine (text : List ℕ) (code k column : ℕ) : Type 0 where
+  pub from : 1 ≤ k
+  pub to : k ≤ tasksOf text
+  pub earlier : (j n : ℕ) → 1 ≤ j → j < k → n ≤ 7 → at (codesOf text j) n ≡ 0
+  pub says : ColumnSays 7 (hasLine (skip k text)) (lineAt text k) (codesOf text k) code column
+
 pub data ReadingSays (text : List ℕ) (r : Reading) : Type 0 where
   read : r .answer ≡ granted → isAccepted (r .plan) ≡ true → ReadingSays text r
   too-long : r ≡ noPlan 1 0 0 → ReadingSays text r
   first-line : r ≡ noPlan 2 1 0 → ReadingSays text r
   task-line :
-      (code line : ℕ) → (code ≡ 3) ⊎ (code ≡ 4) → 2 ≤ line → line ≤ tasksOf text + 1 → r ≡ noPlan code line 0
+      (code k column : ℕ) → (code ≡ 3) ⊎ (code ≡ 4) → FirstFaultyLine text code k column → r ≡ noPlan code (k + 1) column
       → ReadingSays text r
   more-bytes : r ≡ noPlan 5 (tasksOf text + 2) 0 → ReadingSays text r
   late : (start : ℕ) → BeginsLate text start → r ≡ noPlan 17 start 0 → ReadingSays text r
@@ -95,3 +114,15 @@ pub data WriteSays (plan : Plan) (out : List ℕ) (r : Written) (after : List �
   too-short :
       isAccepted plan ≡ true → length out < length (textOf plan)
       → r ≡ record { answer = refuse 16 (length (textOf plan)) 0; length = 0 } → after ≡ out → WriteSays plan out r after
+
+-- what the line that begins a text says; `drop`, task has two fields, `end`, task, tick three
+pub data EntrySays (text : List ℕ) (r : Entry) : Type 0 where
+  said : entryCode r ≡ 0 → EntrySays text r
+  refused-drop :
+      (code column : ℕ) → same (field (before LF text) 0) (bytes "drop") ≡ true → (code ≡ 3) ⊎ (code ≡ 4)
+      → ColumnSays 2 (hasLine text) (before LF text) (dropCodes (hasLine text) (before LF text)) code column
+      → r ≡ Refused code column → EntrySays text r
+  refused-end :
+      (code column : ℕ) → same (field (before LF text) 0) (bytes "drop") ≡ false → (code ≡ 3) ⊎ (code ≡ 4)
+      → ColumnSays 3 (hasLine text) (before LF text) (endCodes (hasLine text) (before LF text)) code column
+      → r ≡ Refused code column → EntrySays text r

@@ -4,3 +4,4 @@ pub mod Listing
 pub mod Impostors
 pub mod Weaker
 pub mod Late
+pub mod Columns

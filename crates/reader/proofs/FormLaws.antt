@@ -7,15 +7,15 @@ use mathlib.Core.List.{List}
 use native.Mathlib.Omega.{arith}
 use lib.Dec.{ltb}
 use lib.ListN.{length}
-use borrow.Author.Tests.{le-ltb, lt-ltb, eq-eqb, ne-eqb, not-true, not-false}
+use borrow.Author.Tests.{le-ltb, lt-ltb, ne-eqb, not-true, not-false}
 use Rattle.laws.proofs.Cases.{by-bool}
-use Rattle.laws.specs.Split.{indexOf, before}
+use Rattle.laws.specs.Split.{indexOf, before, skipOn}
 use Rattle.text.specs.Line.{LF, hasLine, skip, lineAt, field}
 use Rattle.text.specs.Number.{valueOf}
 use Rattle.text.proofs.Parts.{found-le}
-use Rattle.plan.specs.Answer.{refuse, granted, isGranted, isRefused}
+use Rattle.plan.specs.Answer.{refuse, granted, isRefused}
 use Rattle.plan.specs.Value.{zeroPlan}
-use Rattle.plan.specs.Read.{sizesOk, boardsOf, tasksOf, linesAnswer, formAnswer, textPlan, linesOf}
+use Rattle.plan.specs.Read.{sizesOk, boardsOf, tasksOf, linesAnswer, formAnswer, linesOf}
 use Rattle.plan.specs.declared.Answer.{Answer}
 use Rattle.plan.specs.declared.Reading.{Reading}
 use Rattle.plan.proofs.TextLines.{sizes-test, number-range}
@@ -35,7 +35,7 @@ sizes-values line e = rw e
 
 module _ (s : List ℕ) where
   first-line : lineAt s 0 ≡ before LF s
-  unfolding skip
+  unfolding skipOn
   first-line = refl
 
   pub reading-refused : {answer : Answer} → formAnswer s ≡ answer → answer .code ≢ 0 → refusedReading answer ≡ linesOf s

@@ -1,4 +1,4 @@
-pub mod FieldLaws
 pub mod LineLaws
 pub mod FormLaws
+pub mod SaysLaws
 pub mod TaskLaws

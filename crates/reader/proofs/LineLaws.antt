@@ -1,36 +1,31 @@
 -- The answers of the readers of whole lines, by the tests that lead to them.
-use Prim.Native.Nat.{ℕ, suc, _≤_, min}
-use mathlib.Core.Path.{_≡_, refl, sym, _∙_}
-use mathlib.Core.Logic.{_≢_}
+use Prim.Native.Nat.{ℕ, suc, _+_, _≤_, min}
+use mathlib.Core.Path.{_≡_, refl, sym, ap, _∙_}
 use mathlib.Core.Bool.{Bool, true, false, not, cond, _&&_, _||_}
-use mathlib.Core.List.{List}
+use mathlib.Core.List.{List, [], _∷_}
 use native.Mathlib.Omega.{arith}
-use lib.Dec.{ltb, leb, eqb}
+use lib.Dec.{eqb}
 use lib.ListN.{length, drop}
-use borrow.Author.Tests.{not-true, not-false, le-leb, leb-true, eqb-true, eq-eqb, ne-eqb}
-use Rattle.laws.proofs.Cases.{and-l, and-r, and-of, same-test}
-use Rattle.laws.specs.Lists.{same}
+use borrow.Author.Tests.{not-true, not-false, eqb-true, eq-eqb, ne-eqb}
+use Rattle.laws.proofs.Cases.{by-eq, and-l, and-r, and-of}
+use Rattle.laws.specs.Lists.{allOf, same}
+use Rattle.laws.proofs.Lists.{all-at}
 use Rattle.laws.specs.Split.{before}
 use Rattle.text.specs.Bytes.{bytes}
 use Rattle.text.specs.Number.{isNumber, valueOf, most}
 use Rattle.text.specs.Line.{TAB, fields, field}
-use Rattle.text.specs.Items.{between, holdsOk, afterOk, someItems, itemsOf, holdsRead, afterRead}
-use Rattle.text.proofs.ListFields.{isHolds, holdsOf, isAfter, afterOf}
+use Rattle.text.specs.Items.{between, holdsOk, afterOk, itemsOf, holdsRead, afterRead}
+use Rattle.faults.specs.Faults.{codeFor, fieldCode, rangedRead, wordCode, endCode, faultOf}
 use Rattle.text.specs.declared.Items.{Items}
+use Rattle.faults.specs.declared.Ranged.{Ranged}
+use Rattle.faults.specs.declared.Fault.{Fault}
+use Rattle.text.proofs.ListFields.{isHolds, holdsOf, isAfter, afterOf}
 use Rattle.text.proofs.Parts.{From, from-start, from-field, from-next}
-use Rattle.plan.specs.Read.{ranged, codeFor, sizesOk, lineTask, lineCode}
-use Rattle.plan.proofs.LineCodes.{isTaskLine, only, line-code-is}
-use Rattle.reader.specs.private.Fields.{worse, rangedRead, timesRead, noTimes, noSizes, sizesRead, noLine, lineRead}
-use Rattle.reader.specs.declared.Ranged.{Ranged}
-use Rattle.reader.specs.declared.Times.{Times}
+use Rattle.faults.proofs.FaultLaws.{field-code, ranged-code, ranged-value, isCode, for-code, field-is-code, word-is-code, end-is-code, faultless-is, behind-refused}
+use Rattle.plan.specs.Read.{ranged, sizesOk, taskCodes}
+use Rattle.reader.specs.private.Fields.{noSizes, sizesRead, noLine, lineRead}
 use Rattle.reader.specs.declared.Sizes.{Sizes}
 use Rattle.reader.specs.declared.Line.{Line}
-use Rattle.reader.proofs.FieldLaws.{worse-both, ranged-code, ranged-value}
-
-pub code-zero : (a b : Bool) → codeFor a b ≡ 0 → (a ≡ true) × (b ≡ true)
-code-zero false b h = absurd (omega arith)
-code-zero true false h = absurd (omega arith)
-code-zero true true h = (refl, refl)
 
 code-test : (a b : Bool) → eqb (codeFor a b) 0 ≡ (a && b)
 code-test false b = refl
@@ -68,7 +63,7 @@ module _ (line : List ℕ) where
       unfolding sizesRead sizesOk
       sizes-by =
           let both : (same (field line 0) (bytes "plan") && same (field line 1) (bytes "1")) ≡ true = rw (w, e) at (not-false (word && edition) words) in
-          rw (eq-eqb (length (fields line)) 4 four, and-l (same (field line 0) (bytes "plan")) (same (field line 1) (bytes "1")) both, and-r (same (field line 0) (bytes "plan")) (same (field line 1) (bytes "1")) both, p, q, ranged-code 1 8 (field line 2), ranged-code 1 64 (field line 3), code-test (isNumber (field line 2)) (between 1 8 (valueOf (field line 2))), code-test (isNumber (field line 3)) (between 1 64 (valueOf (field line 3))))
+          rw (eq-eqb (length (fields line)) 4 four, and-l (same (field line 0) (bytes "plan")) (same (field line 1) (bytes "1")) both, and-r (same (field line 0) (bytes "plan")) (same (field line 1) (bytes "1")) both, p, q, ranged-code 1 8 (field line 2), ranged-code 1 64 (field line 3), field-code 1 8 (field line 2) (omega arith), field-code 1 64 (field line 3) (omega arith), code-test (isNumber (field line 2)) (between 1 8 (valueOf (field line 2))), code-test (isNumber (field line 3)) (between 1 64 (valueOf (field line 3))))
 
       pub sizes-off : (not (eqb (boards .code) 0) || not (eqb (tasks .code) 0)) ≡ true → noSizes ≡ sizesRead line
       sizes-off h = rw (sizes-by, some-fails (eqb (boards .code) 0) (eqb (tasks .code) 0) h)
@@ -79,45 +74,6 @@ module _ (line : List ℕ) where
           let b : boards .value ≡ valueOf (field line 2) = rw p (ranged-value 1 8 (field line 2) (rw p at (eqb-true (boards .code) 0 (g .0)))) in
           let t : tasks .value ≡ valueOf (field line 3) = rw q (ranged-value 1 64 (field line 3) (rw q at (eqb-true (tasks .code) 0 (g .1)))) in
           rw (sizes-by, g .0, g .1, b, t)
-
--- a task line
-pub times-code : (begin finish : List ℕ)
-    → timesRead begin finish .code ≡ codeFor (isNumber begin && isNumber finish) (ltb (valueOf begin) (valueOf finish) && leb (valueOf finish) most)
-unfolding timesRead
-times-code begin finish = go (isNumber begin && isNumber finish) (ltb (valueOf begin) (valueOf finish) && leb (valueOf finish) most)
-  where
-    go : (a b : Bool) → cond (eqb (codeFor a b) 0) (record { code = 0; begin = valueOf begin; finish = valueOf finish }) (noTimes (codeFor a b)) .code ≡ codeFor a b
-    go false b = refl
-    go true false = refl
-    go true true = refl
-
-times-values : (begin finish : List ℕ) → timesRead begin finish .code ≡ 0
-    → timesRead begin finish ≡ record { code = 0; begin = valueOf begin; finish = valueOf finish }
-unfolding timesRead
-times-values begin finish h =
-    let z = code-zero (isNumber begin && isNumber finish) (ltb (valueOf begin) (valueOf finish) && leb (valueOf finish) most) (sym (times-code begin finish) ∙ h) in
-    rw (z .0, z .1)
-
-items-code : (spelt fine : Bool) (l : List ℕ) → itemsOf spelt fine l .code ≡ codeFor spelt fine
-items-code false fine l = refl
-items-code true false l = refl
-items-code true true l = refl
-
-items-some : (spelt fine : Bool) (l : List ℕ) → codeFor spelt fine ≡ 0 → itemsOf spelt fine l ≡ someItems l
-items-some false fine l h = absurd (omega arith)
-items-some true false l h = absurd (omega arith)
-items-some true true l h = refl
-
--- a number from k to k is k
-regroup-spelt : (a b c d e f : Bool) → (((a && b) && (c && d)) && (e && f)) ≡ (a && (b && (c && (d && (e && f)))))
-regroup-spelt false b c d e f = refl
-regroup-spelt true false c d e f = refl
-regroup-spelt true true false d e f = refl
-regroup-spelt true true true d e f = refl
-
-regroup-fine : (a b c d e : Bool) → (((a && b) && c) && (d && e)) ≡ (a && ((b && c) && (d && e)))
-regroup-fine false b c d e = refl
-regroup-fine true b c d e = refl
 
 -- a task line cut into its fields, each looked for where the one before it ends
 pub record Cut (line p0 p1 p2 p3 p4 p5 p6 : List ℕ) : Type 0 where
@@ -156,90 +112,110 @@ line-cut {line} e0 q1 e1 q2 e2 q3 e3 q4 e4 q5 e5 q6 e6 =
       after = from-field TAB line 6 _ _ f6 e6;
     }
 
-module _ (boards tasks : ℕ) (line : List ℕ) (k : ℕ) where
-  pub line-count : (length (fields line) ≡ 7 → ⊥) → noLine 3 ≡ lineRead boards tasks line k
-  unfolding lineRead lineCode
-  line-count n = rw (ne-eqb (length (fields line)) 7 n)
+-- the codes that are read, beside those that are defined
+items-code : (spelt fine : Bool) (stop : ℕ) (l : List ℕ) → itemsOf spelt fine stop l .code ≡ codeFor spelt fine
+items-code false fine stop l = refl
+items-code true false stop l = refl
+items-code true true stop l = refl
 
-  module _ (seven : length (fields line) ≡ 7) {word : Bool} (w : word ≡ same (field line 0) (bytes "task")) where
-    pub line-word : not word ≡ true → noLine 3 ≡ lineRead boards tasks line k
-    unfolding lineRead lineCode
-    line-word h = rw (eq-eqb (length (fields line)) 7 seven, sym w ∙ not-true word h)
+holds-code : (s : List ℕ) → holdsRead s .code ≡ codeFor (isHolds s) (holdsOk (holdsOf s))
+unfolding holdsRead
+holds-code s = items-code (isHolds s) (holdsOk (holdsOf s)) _ (holdsOf s)
 
-    module _ (is-task : not word ≡ false)
-        {number board : Ranged} {times : Times} {holds after : Items} {one two three four : ℕ}
-        (n : number ≡ rangedRead k k (field line 1)) (b : board ≡ rangedRead 1 boards (field line 2)) (t : times ≡ timesRead (field line 3) (field line 4))
-        (h : holds ≡ holdsRead (field line 5)) (a : after ≡ afterRead (field line 6) tasks) (few : tasks ≤ 64) (b-few : boards ≤ 8) (k-few : k ≤ 64)
-        (o : one ≡ worse (number .code) (board .code)) (u : two ≡ worse one (times .code)) (r : three ≡ worse (holds .code) (after .code)) (f : four ≡ worse two three) where
-      holds-code : holds .code ≡ codeFor (isHolds (field line 5)) (holdsOk (holdsOf (field line 5)))
-      unfolding holdsRead
-      holds-code = rw h (items-code (isHolds (field line 5)) (holdsOk (holdsOf (field line 5))) (holdsOf (field line 5)))
+after-code : (s : List ℕ) (tasks : ℕ) → tasks ≤ 64 → afterRead s tasks .code ≡ codeFor (isAfter s) (afterOk tasks (afterOf s))
+unfolding afterRead
+after-code s tasks few =
+    let m : min tasks 64 ≡ tasks = omega arith in
+    items-code (isAfter s) (afterOk (min tasks 64) (afterOf s)) _ (afterOf s)
+    ∙ ap (λ (n : ℕ). codeFor (isAfter s) (afterOk n (afterOf s))) m
 
-      holds-some : isHolds (field line 5) ≡ true → holdsOk (holdsOf (field line 5)) ≡ true → holds ≡ someItems (holdsOf (field line 5))
-      unfolding holdsRead
-      holds-some s g = h ∙ rw (s, g)
+module _ (ended : Bool) (boards tasks : ℕ) (line : List ℕ) (k : ℕ)
+    {word : ℕ} {number board begin finish : Ranged} {holds after : Items} {end : ℕ}
+    (w : word ≡ wordCode (bytes "task") (field line 0)) (n : number ≡ rangedRead k k (field line 1)) (b : board ≡ rangedRead 1 boards (field line 2))
+    (s : begin ≡ rangedRead 0 most (field line 3)) (f : finish ≡ rangedRead (begin .value + 1) most (field line 4)) (h : holds ≡ holdsRead (field line 5))
+    (a : after ≡ afterRead (field line 6) tasks) (few : tasks ≤ 64) (e : end ≡ endCode ended 7 line) where
+  abbrev codes : List ℕ
+  codes = word ∷ number .code ∷ board .code ∷ begin .code ∷ finish .code ∷ holds .code ∷ after .code ∷ end ∷ []
 
-      after-is : after ≡ itemsOf (isAfter (field line 6)) (afterOk tasks (afterOf (field line 6))) (afterOf (field line 6))
-      unfolding afterRead
-      after-is = let m : min tasks 64 ≡ tasks = omega arith in a ∙ rw m
+  -- with a planned finish above any tick low
+  abbrev defined : ℕ → List ℕ
+  defined low =
+      wordCode (bytes "task") (field line 0)
+      ∷ fieldCode k k (field line 1)
+      ∷ fieldCode 1 boards (field line 2)
+      ∷ fieldCode 0 most (field line 3)
+      ∷ fieldCode (low + 1) most (field line 4)
+      ∷ codeFor (isHolds (field line 5)) (holdsOk (holdsOf (field line 5)))
+      ∷ codeFor (isAfter (field line 6)) (afterOk tasks (afterOf (field line 6)))
+      ∷ endCode ended 7 line
+      ∷ []
 
-      after-code : after .code ≡ codeFor (isAfter (field line 6)) (afterOk tasks (afterOf (field line 6)))
-      after-code = rw after-is (items-code (isAfter (field line 6)) (afterOk tasks (afterOf (field line 6))) (afterOf (field line 6)))
+  codes-are : codes ≡ defined (begin .value)
+  codes-are =
+      let p1 : number .code ≡ fieldCode k k (field line 1) = ap (λ (x : Ranged). x .code) n ∙ ranged-code k k (field line 1) in
+      let p2 : board .code ≡ fieldCode 1 boards (field line 2) = ap (λ (x : Ranged). x .code) b ∙ ranged-code 1 boards (field line 2) in
+      let p3 : begin .code ≡ fieldCode 0 most (field line 3) = ap (λ (x : Ranged). x .code) s ∙ ranged-code 0 most (field line 3) in
+      let p4 : finish .code ≡ fieldCode (begin .value + 1) most (field line 4) =
+      ap (λ (x : Ranged). x .code) f ∙ ranged-code (begin .value + 1) most (field line 4) in
+      let p5 : holds .code ≡ codeFor (isHolds (field line 5)) (holdsOk (holdsOf (field line 5))) =
+      ap (λ (x : Items). x .code) h ∙ holds-code (field line 5) in
+      let p6 : after .code ≡ codeFor (isAfter (field line 6)) (afterOk tasks (afterOf (field line 6))) =
+      ap (λ (x : Items). x .code) a ∙ after-code (field line 6) tasks few in
+      λ i. w i ∷ p1 i ∷ p2 i ∷ p3 i ∷ p4 i ∷ p5 i ∷ p6 i ∷ e i ∷ []
 
-      abbrev spelt : Bool
-      spelt = ((isNumber (field line 1) && isNumber (field line 2)) && (isNumber (field line 3) && isNumber (field line 4))) && (isHolds (field line 5) && isAfter (field line 6))
+  begin-value : fieldCode 0 most (field line 3) ≡ 0 → begin .value ≡ valueOf (field line 3)
+  begin-value z =
+      ap (λ (x : Ranged). x .value) s ∙ ranged-value 0 most (field line 3) (ranged-code 0 most (field line 3) ∙ z)
 
-      abbrev fine : Bool
-      fine =
-          ((between k k (valueOf (field line 1)) && between 1 boards (valueOf (field line 2)))
-          && (ltb (valueOf (field line 3)) (valueOf (field line 4)) && leb (valueOf (field line 4)) most))
-          && (holdsOk (holdsOf (field line 5)) && afterOk tasks (afterOf (field line 6)))
+  -- a planned start that is refused leaves the planned finish unseen
+  fault-is : faultOf line codes ≡ faultOf line (taskCodes ended boards tasks line k)
+  unfolding taskCodes
+  fault-is =
+      ap (faultOf line) codes-are
+      ∙ by-eq (fieldCode 0 most (field line 3)) 0
+      (λ z. ap (λ (low : ℕ). faultOf line (defined low)) (begin-value z))
+      (λ n. behind-refused line _ _ _ _ _ _ most (field line 4) _ (field-is-code 0 most (field line 3)) n)
 
-      one-is : one ≡ codeFor (isNumber (field line 1) && isNumber (field line 2)) (between k k (valueOf (field line 1)) && between 1 boards (valueOf (field line 2)))
-      one-is = o ∙ rw (n, b, ranged-code k k (field line 1), ranged-code 1 boards (field line 2)) (worse-both (isNumber (field line 1)) (between k k (valueOf (field line 1))) (isNumber (field line 2)) (between 1 boards (valueOf (field line 2))))
+  all-codes : allOf isCode codes ≡ true
+  unfolding allOf
+  all-codes =
+      ap (allOf isCode) codes-are
+      ∙ (and-of (word-is-code (bytes "task") (field line 0))
+      (and-of (field-is-code k k (field line 1))
+      (and-of (field-is-code 1 boards (field line 2))
+      (and-of (field-is-code 0 most (field line 3))
+      (and-of (field-is-code (begin .value + 1) most (field line 4))
+      (and-of (for-code (isHolds (field line 5)) (holdsOk (holdsOf (field line 5))))
+      (and-of (for-code (isAfter (field line 6)) (afterOk tasks (afterOf (field line 6)))) (and-of (end-is-code ended 7 line) refl))))))))
 
-      four-is : four ≡ codeFor spelt fine
-      four-is =
-          f
-          ∙ rw (u, one-is, t, times-code (field line 3) (field line 4), r, holds-code, after-code)
-          (rw (
-            worse-both (isNumber (field line 1) && isNumber (field line 2)) (between k k (valueOf (field line 1)) && between 1 boards (valueOf (field line 2))) (isNumber (field line 3) && isNumber (field line 4)) (ltb (valueOf (field line 3)) (valueOf (field line 4)) && leb (valueOf (field line 4)) most),
-            worse-both (isHolds (field line 5)) (holdsOk (holdsOf (field line 5))) (isAfter (field line 6)) (afterOk tasks (afterOf (field line 6))),
-          )
-          (worse-both ((isNumber (field line 1) && isNumber (field line 2)) && (isNumber (field line 3) && isNumber (field line 4))) ((between k k (valueOf (field line 1)) && between 1 boards (valueOf (field line 2))) && (ltb (valueOf (field line 3)) (valueOf (field line 4)) && leb (valueOf (field line 4)) most)) (isHolds (field line 5) && isAfter (field line 6)) (holdsOk (holdsOf (field line 5)) && afterOk tasks (afterOf (field line 6)))))
+  module _ {t : Bool} (z : t ≡ allOf (eqb 0) codes) where
+    clean : t ≡ eqb (faultOf line codes .code) 0
+    unfolding faultOf
+    clean = z ∙ faultless-is codes all-codes
 
-      code-is : four ≡ lineCode boards tasks line k
-      unfolding isTaskLine lineTask
-      code-is =
-          four-is
-          ∙ rw (
-            line-code-is boards tasks line k (omega arith) (omega arith),
-            regroup-spelt (isNumber (field line 1)) (isNumber (field line 2)) (isNumber (field line 3)) (isNumber (field line 4)) (isHolds (field line 5)) (isAfter (field line 6)),
-            regroup-fine (between k k (valueOf (field line 1))) (between 1 boards (valueOf (field line 2))) (ltb (valueOf (field line 3)) (valueOf (field line 4)) && leb (valueOf (field line 4)) most) (holdsOk (holdsOf (field line 5))) (afterOk tasks (afterOf (field line 6))),
-            only k (valueOf (field line 1)),
-            eq-eqb (length (fields line)) 7 seven,
-            sym w ∙ not-false word is-task,
-          )
+    pub line-refused : not t ≡ true → {fault : Fault} → fault ≡ faultOf line codes → noLine fault ≡ lineRead ended boards tasks line k
+    unfolding lineRead
+    line-refused r q =
+        let no : eqb (faultOf line (taskCodes ended boards tasks line k) .code) 0 ≡ false = rw fault-is at (sym clean ∙ not-true t r) in
+        ap noLine (q ∙ fault-is) ∙ rw no
 
-      pub line-refused : four ≢ 0 → noLine four ≡ lineRead boards tasks line k
-      unfolding lineRead
-      line-refused x = rw (← code-is, ne-eqb four 0 x)
+    zero-at : not t ≡ false → (i : ℕ) → i ≤ 7 → eqb 0 (lib.ListN.getD codes i 0) ≡ true
+    zero-at r i l = all-at (eqb 0) codes (sym z ∙ not-false t r) i 0 (omega arith)
 
-      pub line-in : four ≡ 0
-          → _≡_ {A = Line} (record { code = 0; board = board .value; begin = times .begin; finish = times .finish; holds = holds; after = after }) (lineRead boards tasks line k)
-      unfolding lineRead
-      line-in z =
-          let all = code-zero spelt fine (sym four-is ∙ z) in
-          let nums = and-l ((isNumber (field line 1) && isNumber (field line 2)) && (isNumber (field line 3) && isNumber (field line 4))) (isHolds (field line 5) && isAfter (field line 6)) (all .0) in
-          let lists = and-r ((isNumber (field line 1) && isNumber (field line 2)) && (isNumber (field line 3) && isNumber (field line 4))) (isHolds (field line 5) && isAfter (field line 6)) (all .0) in
-          let n2 = and-r (isNumber (field line 1)) (isNumber (field line 2)) (and-l (isNumber (field line 1) && isNumber (field line 2)) (isNumber (field line 3) && isNumber (field line 4)) nums) in
-          let n34 = and-r (isNumber (field line 1) && isNumber (field line 2)) (isNumber (field line 3) && isNumber (field line 4)) nums in
-          let vals = and-l ((between k k (valueOf (field line 1)) && between 1 boards (valueOf (field line 2))) && (ltb (valueOf (field line 3)) (valueOf (field line 4)) && leb (valueOf (field line 4)) most)) (holdsOk (holdsOf (field line 5)) && afterOk tasks (afterOf (field line 6))) (all .1) in
-          let oks = and-r ((between k k (valueOf (field line 1)) && between 1 boards (valueOf (field line 2))) && (ltb (valueOf (field line 3)) (valueOf (field line 4)) && leb (valueOf (field line 4)) most)) (holdsOk (holdsOf (field line 5)) && afterOk tasks (afterOf (field line 6))) (all .1) in
-          let b2 = and-r (between k k (valueOf (field line 1))) (between 1 boards (valueOf (field line 2))) (and-l (between k k (valueOf (field line 1)) && between 1 boards (valueOf (field line 2))) (ltb (valueOf (field line 3)) (valueOf (field line 4)) && leb (valueOf (field line 4)) most) vals) in
-          let t34 = and-r (between k k (valueOf (field line 1)) && between 1 boards (valueOf (field line 2))) (ltb (valueOf (field line 3)) (valueOf (field line 4)) && leb (valueOf (field line 4)) most) vals in
-          let bv : board .value ≡ valueOf (field line 2) = rw b (ranged-value 1 boards (field line 2) (ranged-code 1 boards (field line 2) ∙ rw (n2, b2))) in
-          let tv = t ∙ times-values (field line 3) (field line 4) (times-code (field line 3) (field line 4) ∙ rw (n34, t34)) in
-          let hv : holds ≡ someItems (holdsOf (field line 5)) = holds-some (and-l (isHolds (field line 5)) (isAfter (field line 6)) lists) (and-l (holdsOk (holdsOf (field line 5))) (afterOk tasks (afterOf (field line 6))) oks) in
-          let av : after ≡ someItems (afterOf (field line 6)) = after-is ∙ items-some (isAfter (field line 6)) (afterOk tasks (afterOf (field line 6))) (afterOf (field line 6)) (rw (and-r (isHolds (field line 5)) (isAfter (field line 6)) lists, and-r (holdsOk (holdsOf (field line 5))) (afterOk tasks (afterOf (field line 6))) oks)) in
-          rw (← code-is, z, bv, tv, hv, av)
+    value-at :
+        {x : Ranged} (low high : ℕ) (s : List ℕ) → x ≡ rangedRead low high s → eqb 0 (x .code) ≡ true → x .value ≡ valueOf s
+    value-at {x} low high s p q =
+        ap (λ (y : Ranged). y .value) p ∙ ranged-value low high s (ap (λ (y : Ranged). y .code) (sym p) ∙ sym (eqb-true 0 (x .code) q))
+
+    pub line-in :
+        not t ≡ false
+        → _≡_ {A = Line}
+        (record { fault = record { code = 0; column = 0 }; board = board .value; begin = begin .value; finish = finish .value; holds = holds; after = after })
+        (lineRead ended boards tasks line k)
+    unfolding lineRead
+    line-in r =
+        let yes : eqb (faultOf line (taskCodes ended boards tasks line k) .code) 0 ≡ true = rw fault-is at (sym clean ∙ not-false t r) in
+        let v2 = value-at 1 boards (field line 2) b (zero-at r 2 (omega arith)) in
+        let v3 = value-at 0 most (field line 3) s (zero-at r 3 (omega arith)) in
+        let v4 = value-at (begin .value + 1) most (field line 4) f (zero-at r 4 (omega arith)) in
+        rw (yes, v2, v3, v4, h, a)

@@ -2,36 +2,40 @@
 use Prim.Native.Nat.{ℕ, suc, _+_, _-_, _*_, _≤_, _<_}
 use mathlib.Core.Path.{_≡_, refl, sym, ap, _∙_}
 use mathlib.Core.Logic.{_≢_}
-use mathlib.Core.Bool.{true, false, not, cond}
+use mathlib.Core.Bool.{true, false, cond}
 use mathlib.Core.List.{List}
 use native.Mathlib.Omega.{arith}
-use lib.Dec.{ltb, leb, eqb}
-use lib.ListN.{length, take, drop, set, replicate, length-replicate}
+use lib.Dec.{ltb, leb}
+use lib.ListN.{length, take, drop, set, replicate, length-replicate, length-take}
 use lib.Seq.{sets, take-at, length-take-le}
-use borrow.Author.Tests.{le-ltb, lt-ltb, le-leb, eq-eqb, ne-eqb, eqb-true}
-use Rattle.laws.proofs.Cases.{by-bool, guard-passed}
+use borrow.Author.Tests.{le-ltb, lt-ltb, le-leb, ne-eqb}
 use Rattle.laws.specs.Each.{each, rows}
 use Rattle.laws.proofs.Each.{each-turn, rows-turn, length-each, length-rows}
 use Rattle.laws.specs.Scan.{scanTo}
 use Rattle.laws.proofs.Scan.{scan-turn, scan-hit, scan-end}
 use Rattle.laws.specs.Split
-use Rattle.laws.specs.Split.{indexOf, before}
+use Rattle.laws.specs.Split.{indexOf, skipOn}
+use Rattle.laws.proofs.Split.{index-le, skip-le}
 use Rattle.text.specs.Line.{LF, hasLine, skip, lineAt}
-use Rattle.text.proofs.Parts.{found-le}
 use Rattle.text.specs.Items.{someItems}
+use Rattle.faults.specs.Faults.{faultOf}
 use Rattle.text.specs.declared.Items.{Items}
+use Rattle.faults.specs.declared.Fault.{Fault}
 use Rattle.text.proofs.Answers.{items-kept}
+use Rattle.faults.proofs.FaultLaws.{column-most}
 use Rattle.plan.specs.Answer.{refuse, granted, isRefused}
+use Rattle.plan.specs.declared.Answer.{Answer}
 use Rattle.plan.specs.Task.{Task}
 use Rattle.plan.specs.Value.{planOf}
-use Rattle.plan.specs.Read.{boardsOf, tasksOf, lineTask, lineCode, lineAnswer, linesAnswer, textTask, formAnswer, linesOf}
-use Rattle.reader.specs.private.Fields.{noLine, lineRead, nextLine, FirstRead, ListFits}
-use Rattle.reader.specs.declared.Line.{Line}
+use Rattle.plan.specs.Read.{boardsOf, tasksOf, taskCodes, lineAnswer, linesAnswer, textTask, formAnswer, linesOf}
 use Rattle.plan.proofs.PlanTasks.{TaskFits, task-fits}
 use Rattle.plan.proofs.TextLines.{skip-turn}
 use Rattle.plan.proofs.ReadOk.{LineOk, line-ok}
 use Rattle.plan.specs.declared.Reading.{Reading}
+use Rattle.reader.specs.private.Fields.{nextLine, FirstRead, ListFits}
+use Rattle.reader.specs.declared.Line.{Line}
 use Rattle.reader.proofs.FormLaws.{refusedReading, reading-refused, answer-lines}
+use Rattle.reader.proofs.SaysLaws.{LineSays, next-fault, read-says}
 
 -- a column of 64 numbers and a grid of rows, the first n made, the rest 0
 unfoldable pub column : (ℕ → ℕ) → ℕ → List ℕ
@@ -80,50 +84,12 @@ pub plan-made : (boards tasks : ℕ) (task : ℕ → Task)
 unfolding planOf column grid
 plan-made boards tasks task = refl
 
--- the line that begins the text
-module _ (boards tasks : ℕ) (s : List ℕ) (k : ℕ) {r : ℕ} (p : r ≡ indexOf LF s) where
-  pub next-missing : r ≡ length s → noLine 3 ≡ nextLine boards tasks s k
-  unfolding nextLine
-  next-missing e = rw (le-ltb (indexOf LF s) (length s) (omega arith))
-
-  pub next-there : (r ≡ length s → ⊥) → lineRead boards tasks (before LF s) k ≡ nextLine boards tasks s k
-  unfolding nextLine
-  next-there n = rw (lt-ltb (indexOf LF s) (length s) (omega (arith, found-le LF s p, n)))
-
 pub past-line : (s : List ℕ) {r : ℕ} {more : List ℕ} → r ≡ indexOf LF s → more ≡ drop (suc r) s → more ≡ Split.after LF s
 past-line s p q = q ∙ ap (λ (n : ℕ). drop (suc n) s) p
 
-line-code : (boards tasks : ℕ) (line : List ℕ) (k : ℕ) → lineRead boards tasks line k .code ≡ lineCode boards tasks line k
-unfolding lineRead
-line-code boards tasks line k = by-bool (eqb (lineCode boards tasks line k) 0)
-    (λ e. rw e (sym (eqb-true (lineCode boards tasks line k) 0 e)))
-    (λ e. rw e)
-
-next-code : (boards tasks : ℕ) (s : List ℕ) (k : ℕ) → nextLine boards tasks s k .code ≡ cond (not (hasLine s)) 3 (lineCode boards tasks (before LF s) k)
-unfolding nextLine
-next-code boards tasks s k = by-bool (hasLine s) (λ e. rw e (line-code boards tasks (before LF s) k)) (λ e. rw e)
-
--- what a granted line says is the text's task
-pub record LineSays (line : Line) (task : Task) : Type 0 where
-  pub board : line .board ≡ task .board
-  pub begin : line .begin ≡ task .begin
-  pub finish : line .finish ≡ task .finish
-  pub holds : line .holds ≡ someItems (task .holds)
-  pub after : line .after ≡ someItems (task .after)
-
-read-says : (boards tasks : ℕ) (s : List ℕ) (k : ℕ) → lineCode boards tasks s k ≡ 0 → LineSays (lineRead boards tasks s k) (lineTask s)
-unfolding lineRead lineTask
-read-says boards tasks s k z =
-    let e : eqb (lineCode boards tasks s k) 0 ≡ true = eq-eqb (lineCode boards tasks s k) 0 z in
-    record { board = rw e; begin = rw e; finish = rw e; holds = rw e; after = rw e }
-
-next-says : (boards tasks : ℕ) (s : List ℕ) (k : ℕ) → hasLine s ≡ true → lineCode boards tasks (before LF s) k ≡ 0 → LineSays (nextLine boards tasks s k) (lineTask (before LF s))
-unfolding nextLine
-next-says boards tasks s k h z = rw h (read-says boards tasks (before LF s) k z)
-
 -- the items of a list that has at most 64 are what is taken of its places
-pub items-back : (l : List ℕ) → length l ≤ 64 → take (someItems l .count) (someItems l .items) ≡ l
-items-back l h = ap (take (length l)) (items-kept l h) ∙ take-at l (replicate (64 - length l) 0) (length l) refl
+pub items-back : (stop : ℕ) (l : List ℕ) → length l ≤ 64 → take (someItems stop l .count) (someItems stop l .items) ≡ l
+items-back stop l h = ap (take (length l)) (items-kept l h) ∙ take-at l (replicate (64 - length l) 0) (length l) refl
 
 -- a list put where it fits
 pub list-put : (out : List ℕ) (at : ℕ) (list : Items) {written : List ℕ} → ListFits out at list → length (list .items) ≡ 64
@@ -146,7 +112,7 @@ pub record Going (s : List ℕ) (k : ℕ) (board begin finish holds after rest :
 
 pub going-start : (s : List ℕ) {rest : List ℕ} → rest ≡ Split.after LF s
     → Going s 0 (replicate 64 0) (replicate 64 0) (replicate 64 0) (replicate 2048 0) (replicate 4096 0) rest
-unfolding skip linesAnswer
+unfolding skipOn linesAnswer
 going-start s e = record {
   rest-is = e;
   passed = refl;
@@ -213,33 +179,37 @@ module _ (s : List ℕ) (k : ℕ) {board begin finish holds after rest : List �
     l : line ≡ nextLine (boardsOf s) (tasksOf s) rest (k + 1)
     l = said ∙ rw (first .boards-are, first .tasks-are)
 
-    the-code : line .code ≡ lineAnswer s (k + 1) .code
-    unfolding lineAnswer
-    the-code = rw (l, g .rest-is) (next-code (boardsOf s) (tasksOf s) (skip (k + 1) s) (k + 1))
+    the-fault : line .fault ≡ faultOf (lineAt s (k + 1)) (taskCodes (hasLine (skip (k + 1) s)) (boardsOf s) (tasksOf s) (lineAt s (k + 1)) (k + 1))
+    the-fault = rw (l, g .rest-is) (next-fault (boardsOf s) (tasksOf s) (skip (k + 1) s) (k + 1))
 
-    the-answer : lineAnswer s (k + 1) ≡ refuse (line .code) (k + 2) 0
+    the-answer : lineAnswer s (k + 1) ≡ refuse (line .fault .code) (k + 2) (line .fault .column)
     unfolding lineAnswer
-    the-answer = let e : k + 1 + 1 ≡ k + 2 = omega arith in λ i. refuse (sym the-code i) (e i) 0
+    the-answer = let e : k + 1 + 1 ≡ k + 2 = omega arith in rw (the-fault, e)
 
-    pub going-refused : line .code ≢ 0 → refusedReading (refuse (line .code) (k + 2) 0) ≡ linesOf s
+    -- the column is no larger than the text
+    pub column-small : line .fault .column < 4294967296
+    column-small =
+        let c = column-most (lineAt s (k + 1)) (taskCodes (hasLine (skip (k + 1) s)) (boardsOf s) (tasksOf s) (lineAt s (k + 1)) (k + 1)) in
+        let e : line .fault .column ≡ _ = ap (λ (x : Fault). x .column) the-fault in
+        omega (arith, c, e, index-le LF (skip (k + 1) s), length-take (indexOf LF (skip (k + 1) s)) (skip (k + 1) s), skip-le LF (k + 1) s, first .short)
+
+    pub going-refused : line .fault .code ≢ 0 → refusedReading (refuse (line .fault .code) (k + 2) (line .fault .column)) ≡ linesOf s
     going-refused n =
-        let stops : isRefused (lineAnswer s (k + 1)) ≡ true = rw (the-answer, ne-eqb (line .code) 0 n) in
-        let hit : linesAnswer s ≡ refuse (line .code) (k + 2) 0 =
+        let stops : isRefused (lineAnswer s (k + 1)) ≡ true = rw (the-answer, ne-eqb (line .fault .code) 0 n) in
+        let hit : linesAnswer s ≡ refuse (line .fault .code) (k + 2) (line .fault .column) =
         g .passed ∙ scan-hit _ _ _ (k + 1) (tasksOf s + 1) (omega (arith, below)) stops ∙ the-answer in
-        reading-refused s (answer-lines s first ∙ rw (hit, ne-eqb (line .code) 0 n)) n
+        reading-refused s (answer-lines s first ∙ rw (hit, ne-eqb (line .fault .code) 0 n)) n
 
-    module _ (z : line .code ≡ 0) where
+    module _ (z : line .fault .code ≡ 0) where
       line-there : LineOk s k
-      line-there = line-ok s (first .sizes) k below (sym the-code ∙ z)
-
-      line-clean : lineCode (boardsOf s) (tasksOf s) (lineAt s (k + 1)) (k + 1) ≡ 0
-      unfolding lineAnswer
-      line-clean =
-          guard-passed (not (hasLine (skip (k + 1) s))) 3 (lineCode (boardsOf s) (tasksOf s) (lineAt s (k + 1)) (k + 1)) (omega arith)
-          (sym the-code ∙ z) .1
+      line-there = line-ok s (first .sizes) k below (ap (λ (x : Answer). x .code) the-answer ∙ z)
 
       pub says : LineSays line (textTask s k)
-      says = rw (l, g .rest-is) (next-says (boardsOf s) (tasksOf s) (skip (k + 1) s) (k + 1) (line-there .there) line-clean)
+      unfolding nextLine
+      says =
+          rw (l, g .rest-is)
+          (read-says (hasLine (skip (k + 1) s)) (boardsOf s) (tasksOf s) (lineAt s (k + 1)) (k + 1) (omega (arith, first .few-tasks, first .tasks-are))
+          (line-there .formed) (line-there .ranges) (ap (λ (x : Fault). x .code) (sym the-fault) ∙ z))
 
       pub fits : TaskFits (boardsOf s) (tasksOf s) (textTask s k)
       fits = task-fits (boardsOf s) (tasksOf s) (textTask s k) (line-there .ranges)
@@ -262,8 +232,8 @@ module _ (s : List ℕ) (k : ℕ) {board begin finish holds after rest : List �
             fits = omega (arith, fits .after .room, first .few-tasks, first .tasks-are);
           }
 
-      list-back : {list : Items} {l : List ℕ} → list ≡ someItems l → length l ≤ 64 → take (list .count) (list .items) ≡ l
-      list-back {l = l} e h = rw e (items-back l h)
+      list-back : {list : Items} {stop : ℕ} {l : List ℕ} → list ≡ someItems stop l → length l ≤ 64 → take (list .count) (list .items) ≡ l
+      list-back {stop = stop} {l = l} e h = rw e (items-back stop l h)
 
       pub going-turn : {holds2 after2 rest2 : List ℕ}
           → holds2 ≡ sets holds (32 * k) (take (line .holds .count) (line .holds .items))

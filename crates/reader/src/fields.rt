@@ -1,17 +1,16 @@
-// The fields of a plan line. A code is 3 where something is misspelt, else 4 where something is out of range, else 0.
+// The fields of the first line and of a task line.
 ghost use mathlib.Core.Path.{_≡_};
-ghost use mathlib.Core.Bool.{cond};
 ghost use Prim.Native.Nat.{_≤_};
-ghost use Rattle.text.specs.Number.{isNumber};
-ghost use Rattle.reader.specs.private.Fields.{worse, rangedRead, timesRead, sizesRead, lineRead, noRanged, noTimes, noSizes, noLine};
+ghost use Rattle.reader.specs.private.Fields.{sizesRead, lineRead, noSizes, noLine};
 use crate::Line;
-use crate::Ranged;
 use crate::Sizes;
-use crate::Times;
+use faults::Fault;
+use faults::end_code;
+use faults::fault_of;
+use faults::is_faultless;
+use faults::read_ranged;
+use faults::word_code;
 use text::Items;
-use text::Number;
-use text::decimal::is_number;
-use text::decimal::read_number;
 use text::list::read_after;
 use text::list::read_holds;
 use text::part::TAB;
@@ -22,79 +21,6 @@ use text::part::past;
 use text::part::same;
 
 const MOST: u32 = 1000000;
-
-fn no_ranged(code: u32) -> Ranged
-    ensures { λ r. ⌜ r ≡ noRanged code ⌝ }
-{
-    Ranged { code, value: 0 }
-}
-
-// A field that is no number, or one too large for any range.
-fn unread(field: &[u8]) -> Ranged
-    ensures { λ r. ⌜ r ≡ cond (isNumber (now (field .entry))) (noRanged 4) (noRanged 3) ⌝ }
-{
-    if is_number(field) {
-        return no_ranged(4);
-    }
-    no_ranged(3)
-}
-
-// A number from low to high.
-fn read_ranged(field: &[u8], low: u32, high: u32) -> Ranged
-    requires { ⌜ high ≤ 1000000 ⌝ }
-    ensures { λ r. ⌜ r ≡ rangedRead low high (now (field .entry)) ⌝ }
-{
-    let Number::Value(value) = read_number(field) else {
-        return unread(field);
-    };
-    if !((low <= value) & (value <= high)) {
-        return no_ranged(4);
-    }
-    Ranged { code: 0, value }
-}
-
-// 3 before 4.
-fn worse_of(one: u32, other: u32) -> u32
-    ensures { λ r. ⌜ r ≡ worse one other ⌝ }
-{
-    if (one == 3) | (other == 3) {
-        return 3;
-    }
-    if (one == 4) | (other == 4) {
-        return 4;
-    }
-    0
-}
-
-fn no_times(code: u32) -> Times
-    ensures { λ r. ⌜ r ≡ noTimes code ⌝ }
-{
-    Times {
-        code,
-        begin: 0,
-        finish: 0,
-    }
-}
-
-// Planned start and finish.
-fn read_times<'a>(begin: &'a [u8], finish: &'a [u8]) -> Times
-    ensures { λ r. ⌜ r ≡ timesRead (now (begin .entry)) (now (finish .entry)) ⌝ }
-{
-    let b = read_ranged(begin, 0, MOST);
-    let f = read_ranged(finish, 0, MOST);
-    let code = worse_of(b.code, f.code);
-    if code != 0 {
-        return no_times(code);
-    }
-    if f.value <= b.value {
-        return no_times(4);
-    }
-    Times {
-        code: 0,
-        begin: b.value,
-        finish: f.value,
-    }
-}
 
 fn no_sizes() -> Sizes
     ensures { λ r. ⌜ r ≡ noSizes ⌝ }
@@ -128,16 +54,17 @@ pub(crate) fn read_sizes(line: &[u8]) -> Sizes
     }
 }
 
-pub(crate) fn no_line(code: u32) -> Line
-    ensures { λ r. ⌜ r ≡ noLine code ⌝ }
+fn no_line(fault: Fault) -> Line
+    ensures { λ r. ⌜ r ≡ noLine fault ⌝ }
 {
     let none = Items {
         code: 0,
+        stop: 0,
         count: 0,
         items: [0u8; 64],
     };
     Line {
-        code,
+        fault,
         board: 0,
         begin: 0,
         finish: 0,
@@ -146,26 +73,12 @@ pub(crate) fn no_line(code: u32) -> Line
     }
 }
 
-// The code of a task line's parts.
-fn line_code(number: u32, board: u32, times: u32, holds: u32, after: u32) -> u32
-    ensures { λ r. ⌜ r ≡ worse (worse (worse number board) times) (worse holds after) ⌝ }
-{
-    let numbers = worse_of(worse_of(number, board), times);
-    worse_of(numbers, worse_of(holds, after))
-}
-
 // The k-th task line. Each field is looked for where the one before it ends.
-pub(crate) fn read_line(line: &[u8], boards: u32, tasks: u32, k: u32) -> Line
-    requires { ⌜ (boards ≤ 8) × (tasks ≤ 64) × (k ≤ 64) ⌝ }
-    ensures { λ r. ⌜ r ≡ lineRead boards tasks (now (line .entry)) k ⌝ }
+pub(crate) fn read_line(line: &[u8], ended: bool, boards: u32, tasks: u32, k: u32) -> Line
+    requires { ⌜ tasks ≤ 64 ⌝ }
+    ensures { λ r. ⌜ r ≡ lineRead ended boards tasks (now (line .entry)) k ⌝ }
 {
-    if count_fields(line) != 7 {
-        return no_line(3);
-    }
     let word = part_before(line, TAB);
-    if !same(word, b"task") {
-        return no_line(3);
-    }
     let from_number = past(line, word.len());
     let number_field = part_before(from_number, TAB);
     let from_board = past(from_number, number_field.len());
@@ -179,18 +92,28 @@ pub(crate) fn read_line(line: &[u8], boards: u32, tasks: u32, k: u32) -> Line
     let from_after = past(from_holds, holds_field.len());
     let number = read_ranged(number_field, k, k);
     let board = read_ranged(board_field, 1, boards);
-    let times = read_times(begin_field, finish_field);
+    let begin = read_ranged(begin_field, 0, MOST);
+    let finish = read_ranged(finish_field, begin.value + 1, MOST);
     let holds = read_holds(holds_field);
     let after = read_after(part_before(from_after, TAB), tasks);
-    let code = line_code(number.code, board.code, times.code, holds.code, after.code);
-    if code != 0 {
-        return no_line(code);
+    let codes = [
+        word_code(word, b"task"),
+        number.code,
+        board.code,
+        begin.code,
+        finish.code,
+        holds.code,
+        after.code,
+        end_code(line, 7, ended),
+    ];
+    if !is_faultless(&codes) {
+        return no_line(fault_of(line, &codes));
     }
     Line {
-        code: 0,
+        fault: Fault { code: 0, column: 0 },
         board: board.value,
-        begin: times.begin,
-        finish: times.finish,
+        begin: begin.value,
+        finish: finish.value,
         holds,
         after,
     }

@@ -1,21 +1,11 @@
 // Reading the lines of a plan text.
+use faults::Fault;
 use text::Items;
 
 mod fields;
 pub mod lines;
 
-// What single fields and lines say: a code, and values that are 0 where it refuses.
-pub(crate) struct Ranged {
-    pub code: u32,
-    pub value: u32,
-}
-
-pub(crate) struct Times {
-    pub code: u32,
-    pub begin: u32,
-    pub finish: u32,
-}
-
+// What the first line and the task lines say; zeros where they are refused.
 pub(crate) struct Sizes {
     pub ok: bool,
     pub boards: u32,
@@ -23,7 +13,7 @@ pub(crate) struct Sizes {
 }
 
 pub(crate) struct Line {
-    pub code: u32,
+    pub fault: Fault,
     pub board: u32,
     pub begin: u32,
     pub finish: u32,

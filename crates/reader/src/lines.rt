@@ -10,7 +10,6 @@ ghost use Rattle.plan.specs.Value.{zeroPlan};
 ghost use Rattle.plan.specs.Read.{linesOf};
 ghost use Rattle.reader.specs.private.Fields.{nextLine, FirstRead, ListFits};
 use crate::Line;
-use crate::fields::no_line;
 use crate::fields::read_line;
 use crate::fields::read_sizes;
 use plan::Answer;
@@ -26,13 +25,10 @@ use text::put::put_text;
 
 // The k-th task line, which begins the rest of the text and ends at the first LF.
 fn next_line(rest: &[u8], end: usize, boards: u32, tasks: u32, k: u32) -> Line
-    requires { ⌜ (boards ≤ 8) × (tasks ≤ 64) × (k ≤ 64) × (end ≡ indexOf LF (now rest)) ⌝ }
+    requires { ⌜ (tasks ≤ 64) × (end ≡ indexOf LF (now rest)) ⌝ }
     ensures { λ r. ⌜ r ≡ nextLine boards tasks (now (rest .entry)) k ⌝ }
 {
-    if end == rest.len() {
-        return no_line(3);
-    }
-    read_line(&rest[..end], boards, tasks, k)
+    read_line(&rest[..end], end < rest.len(), boards, tasks, k)
 }
 
 fn zero_plan() -> Plan
@@ -59,13 +55,13 @@ pub fn refused(answer: Answer) -> Reading
     }
 }
 
-fn answer_of(code: u32, first: u32) -> Answer
-    ensures { λ r. ⌜ r ≡ refuse code first 0 ⌝ }
+fn answer_of(code: u32, first: u32, second: u32) -> Answer
+    ensures { λ r. ⌜ r ≡ refuse code first second ⌝ }
 {
     Answer {
         code,
         first,
-        second: 0,
+        second,
     }
 }
 
@@ -94,8 +90,9 @@ fn read_tasks(text: &[u8], boards: u32, tasks: u32) -> Reading
     while k < tasks {
         let end = find(rest, LF);
         let line = next_line(rest, end, boards, tasks, k + 1);
-        if line.code != 0 {
-            return refused(answer_of(line.code, k + 2));
+        let fault = line.fault;
+        if fault.code != 0 {
+            return refused(answer_of(fault.code as u32, k + 2, fault.column as u32));
         }
         let i = k as usize;
         board[i] = line.board as u8;
@@ -108,10 +105,10 @@ fn read_tasks(text: &[u8], boards: u32, tasks: u32) -> Reading
         k += 1;
     }
     if rest.len() != 0 {
-        return refused(answer_of(5, tasks + 2));
+        return refused(answer_of(5, tasks + 2, 0));
     }
     Reading {
-        answer: answer_of(0, 0),
+        answer: answer_of(0, 0, 0),
         plan: Plan {
             boards: boards as u8,
             tasks: tasks as u8,
@@ -129,14 +126,14 @@ pub fn read_lines(text: &[u8]) -> Reading
     ensures { λ r. ⌜ r ≡ linesOf (now (text .entry)) ⌝ }
 {
     if 32768 < text.len() {
-        return refused(answer_of(1, 0));
+        return refused(answer_of(1, 0, 0));
     }
     if find(text, LF) == text.len() {
-        return refused(answer_of(2, 1));
+        return refused(answer_of(2, 1, 0));
     }
     let sizes = read_sizes(part_before(text, LF));
     if !sizes.ok {
-        return refused(answer_of(2, 1));
+        return refused(answer_of(2, 1, 0));
     }
     read_tasks(text, sizes.boards, sizes.tasks)
 }

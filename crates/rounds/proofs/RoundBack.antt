@@ -12,7 +12,7 @@ use Rattle.laws.specs.Digits.{digitsOf}
 use Rattle.laws.proofs.Digits.{value-digits}
 use Rattle.laws.specs.Lists.{allOf}
 use Rattle.laws.proofs.Lists.{same-refl}
-use Rattle.laws.specs.Split.{indexOf, before, after, joinOn}
+use Rattle.laws.specs.Split.{indexOf, before, after, joinOn, skipOn}
 use Rattle.laws.proofs.Split.{free, split-join, index-seam, before-seam, after-seam}
 use Rattle.text.proofs.Numerals.{digits-number, digits-free}
 use Rattle.text.proofs.Lists.{free-join, holds-back, holds-free, after-back, after-free}
@@ -157,7 +157,7 @@ module _ (number : ℕ) (task : Task) where
 module _ (task : ℕ → Task) where
   -- past the lines of the first n tasks stands what follows them
   pub skip-texts : (n : ℕ) (rest : List ℕ) → skip n (taskTexts task n ++ rest) ≡ rest
-  unfolding skip taskTexts taskText
+  unfolding skipOn taskTexts taskText
   skip-texts zero rest = refl
   skip-texts (suc n) rest =
       skip-suc n (taskTexts task (suc n) ++ rest)

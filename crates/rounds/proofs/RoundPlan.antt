@@ -9,7 +9,7 @@ use lib.ListN.{length, length-append}
 use borrow.Author.Tests.{eqb-true}
 use Rattle.laws.proofs.Cases.{and-l, and-r}
 use Rattle.laws.proofs.Digits.{value-digits}
-use Rattle.laws.specs.Split.{before, joinOn}
+use Rattle.laws.specs.Split.{before, joinOn, skipOn}
 use Rattle.text.specs.Number.{valueOf}
 use Rattle.text.specs.Line.{TAB, LF, hasLine, skip, lineAt, field}
 use Rattle.plan.specs.Answer.{granted, isGranted}
@@ -68,7 +68,7 @@ module _ (plan : Plan) (ok : isAccepted plan ≡ true) where
 
   -- its first line
   first-line : lineAt (textOf plan) 0 ≡ joinOn TAB (sizesFields (plan .boards) (plan .tasks))
-  unfolding textOf sizesText skip
+  unfolding textOf sizesText skipOn
   first-line = made-line _ _ (sizes-whole (plan .boards) (plan .tasks)) lines
 
   first-has : hasLine (textOf plan) ≡ true
@@ -83,7 +83,7 @@ module _ (plan : Plan) (ok : isAccepted plan ≡ true) where
 
   -- its task lines
   text-rest : (n : ℕ) → skip (n + 1) (textOf plan) ≡ skip n lines
-  unfolding textOf sizesText skip
+  unfolding textOf sizesText skipOn
   text-rest n = rw add-one (ap (skip n) (made-rest _ _ (sizes-whole (plan .boards) (plan .tasks)) lines))
 
   module _ (k : ℕ) (h : k < plan .tasks) where

@@ -4,6 +4,7 @@ use mathlib.Core.List.{List, [], _++_, append-assoc, append-nil}
 use mathlib.Core.Path.{_≡_, refl, sym, ap, _∙_}
 use native.Mathlib.Omega.{arith}
 use lib.Seq.{take-all}
+use Rattle.laws.specs.Split.{skipOn}
 use Rattle.text.specs.Line.{skip, lineAt}
 use Rattle.plan.specs.Task.{Task}
 use Rattle.plan.specs.Value.{taskAt, planOf}
@@ -32,7 +33,7 @@ module _ (s : List ℕ) (z : textAnswer s .code ≡ 0) where
 
   -- the text is the text of the plan
   pub read-back : textOf (readingOf s .plan) ≡ s
-  unfolding textOf planOf skip
+  unfolding textOf planOf skipOn
   read-back =
       let n : ℕ = tasksOf s in
       let none : skip (n + 1) s ≡ [] = sym (take-all 0 (skip (n + 1) s) (omega (arith, text-ok s z .form .ends))) in

@@ -1,5 +1,6 @@
 pub mod Parts
 pub mod Spell
+pub mod ItemLaws
 pub mod Rise
 pub mod Store
 pub mod Numerals

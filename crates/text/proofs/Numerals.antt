@@ -7,14 +7,13 @@ use native.Mathlib.Omega.{arith}
 use lib.ListN.{length}
 use lib.Dec.{eqb, leb}
 use borrow.Author.Tests.{leb-true, le-leb, eqb-false, ne-eqb, not-true}
-use Rattle.laws.proofs.Cases.{by-bool, by-le, and-l, and-r, and-of, true-false}
+use Rattle.laws.proofs.Cases.{by-le, and-l, and-r, and-of, true-false}
 use Rattle.laws.specs.Lists.{allOf}
 use Rattle.laws.proofs.Lists.{all-append}
 use Rattle.laws.proofs.Split.{free}
 use Rattle.laws.specs.Digits.{digitsOf, valueAfter}
-use Rattle.laws.proofs.Digits.{digits-small, digits-big, digits-turn, value-digits}
-use Rattle.text.specs.declared.Number.the-variants.{Value, Over, Misspelt}
-use Rattle.text.specs.Number.{isDigit, isNumber, valueOf, numberOf}
+use Rattle.laws.proofs.Digits.{digits-small, digits-big, digits-turn}
+use Rattle.text.specs.Number.{isDigit, isNumber, valueOf}
 use Rattle.text.proofs.Spell.{width-small, width-big}
 
 -- ---- digits
@@ -110,26 +109,6 @@ number-spelt (b ∷ c ∷ s) h =
     let lo = digit-low b d in
     value-spelt (0 * 10 + (b - 48)) (c ∷ s) (omega (arith, ne)) (and-r (isDigit b) (allOf isDigit (c ∷ s)) a)
     ∙ ap (λ (l : List ℕ). l ++ (c ∷ s)) (first-spelt b d)
-
--- ---- the same of the number reader's answer
-
-pub number-back : (n : ℕ) → n ≤ 1000000 → numberOf (digitsOf n) ≡ Value n
-unfolding numberOf
-number-back n h = rw (digits-number n, value-digits n, le-leb n 1000000 h)
-
-pub number-only : (s : List ℕ) (n : ℕ) → numberOf s ≡ Value n → (s ≡ digitsOf n) × (n ≤ 1000000)
-unfolding numberOf
-number-only s n e =
-    by-bool (isNumber s)
-    (λ a.
-    by-bool (leb (valueOf s) 1000000)
-    (λ b.
-    let f : Value (valueOf s) ≡ Value n = rw (a, b) at e in
-    let v : valueOf s ≡ n = cc in
-    let m = leb-true (valueOf s) 1000000 b in
-    (sym (number-spelt s a) ∙ ap digitsOf v, omega arith))
-    (λ b. let f : Over ≡ Value n = rw (a, b) at e in let z : _≡_ {A = ℕ} 0 1 = cc in absurd (omega arith)))
-    (λ a. let f : Misspelt ≡ Value n = rw a at e in let z : _≡_ {A = ℕ} 0 1 = cc in absurd (omega arith))
 
 -- ---- what digits are free of, and how many there are
 

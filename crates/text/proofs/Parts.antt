@@ -11,7 +11,7 @@ use lib.Dec.{eqb}
 use borrow.Author.Tests.{eq-eqb, ne-eqb}
 use Rattle.laws.proofs.Cases.{by-le}
 use Rattle.laws.specs.Lists.{same}
-use Rattle.laws.specs.Split.{indexOf, before, after, splitOn, consFirst}
+use Rattle.laws.specs.Split.{indexOf, before, after, skipOn, splitOn, consFirst}
 use Rattle.laws.proofs.Split.{index-le, split-found, split-none}
 
 -- ---- a search
@@ -60,8 +60,11 @@ past-none s k h =
 
 -- the first part, by its length: whether more follow
 module _ (c : ℕ) (s p : List ℕ) (e : p ≡ before c s) where
-  part-length : length p ≡ indexOf c s
+  pub part-length : length p ≡ indexOf c s
   part-length = ap length e ∙ length-take-le (indexOf c s) s (index-le c s)
+
+  pub part-within : length p ≤ length s
+  part-within = omega (arith, part-length, index-le c s)
 
   pub past-part : (n : List ℕ) → n ≡ drop (suc (length p)) s → n ≡ after c s
   past-part n q = q ∙ ap (λ (k : ℕ). drop (suc k) s) part-length
@@ -110,6 +113,25 @@ field-turn c s r (suc n) x h e p =
     let q : after c s ≡ [] = drop-of-length-le s {i = suc (indexOf c s)} (omega arith) in
     rw (m, e, q) (none-at n ∙ (rw (split-none c s g) at p)))
     (λ g. rw (m, e) (rw (split-found c s g) at p))
+
+-- the rest of a line, field by field
+pub skip-turn :
+    (c : ℕ) (s r : List ℕ) (n : ℕ) (x : List ℕ) → 0 < n → r ≡ after c s → skipOn c n s ≡ x → skipOn c (n - 1) r ≡ x
+unfolding skipOn
+skip-turn c s r zero x h e p = absurd (omega arith)
+skip-turn c s r (suc n) x h e p = let m : suc n - 1 ≡ n = omega arith in rw (m, e) p
+
+pub skip-done : (c : ℕ) (s : List ℕ) (n : ℕ) (x : List ℕ) → n ≤ 0 → skipOn c n s ≡ x → s ≡ x
+unfolding skipOn
+skip-done c s zero x h p = p
+skip-done c s (suc n) x h p = absurd (omega arith)
+
+pub field-at : (c : ℕ) (s : List ℕ) (n : ℕ) → before c (skipOn c n s) ≡ getD (splitOn c s) n []
+unfolding skipOn
+field-at c s zero = sym (field-first c s)
+field-at c s (suc n) =
+    let m : suc n - 1 ≡ n = omega arith in
+    field-at c (after c s) n ∙ rw m at (field-turn c s (after c s) (suc n) _ (omega arith) refl refl)
 
 -- fields found one after another: the rest of a line from its field n on
 pub record From (c : ℕ) (line : List ℕ) (n : ℕ) (rest : List ℕ) : Type 0 where

@@ -1,142 +1,28 @@
--- The readers of list fields: an item by its letter and number, and a list that rises, item by item.
-use Prim.Native.Nat.{ℕ, suc, _+_, _-_, _*_, _≤_, _<_, min}
+-- The readers of list fields: where a misspelt list stops, and a list that rises, item by item.
+use Prim.Native.Nat.{ℕ, zero, suc, _+_, _-_, _≤_, _<_, min}
 use mathlib.Core.Path.{_≡_, refl, sym, ap, _∙_}
 use mathlib.Core.Logic.{⊎-elim}
 use mathlib.Core.Bool.{Bool, true, false, not, cond, _&&_, _||_}
 use mathlib.Core.List.{List, [], _∷_, map}
 use native.Mathlib.Omega.{arith}
 use native.Mathlib.Numerals.{add-one}
-use lib.ListN.{length, take, drop, getD, set, replicate}
+use lib.ListN.{length, set, replicate, length-drop}
 use lib.Seq.{sets}
-use lib.Dec.{eqb, leb, ltb}
-use borrow.Author.Tests.{eq-eqb, ne-eqb, leb-true, leb-false, ltb-true, ltb-false, le-leb, lt-leb, lt-ltb, le-ltb, not-true, not-false}
-use types.Run.{OneOf}
+use lib.Dec.{leb, ltb}
+use borrow.Author.Tests.{leb-true, leb-false, ltb-true, ltb-false, le-leb, lt-leb, lt-ltb, le-ltb, not-true, not-false}
 use denote.Enum.Declared
-use Rattle.laws.proofs.Cases.{by-bool, and-l, and-r, or-at, or-l, or-r, true-false}
-use Rattle.laws.specs.Lists.{allOf, rising, same, risesFrom}
+use Rattle.laws.proofs.Cases.{by-bool, by-eq, and-l, and-r, or-at, or-l, or-r, true-false}
+use Rattle.laws.specs.Lists.{allOf, firstNot, rising, same, risesFrom}
 use Rattle.laws.proofs.Rise.{rises-is}
-use Rattle.laws.specs.Split.{splitOn, before, after}
-use Rattle.laws.specs.Digits.{valueAfter}
+use Rattle.laws.specs.Split.{indexOf, skipOn, splitOn, before, after}
+use Rattle.laws.proofs.Split.{index-le, begin-first, begin-next}
 use Rattle.text.specs.declared.Items.{Items}
-use Rattle.text.specs.declared.Number.{Number}
-use Rattle.text.specs.declared.Number.the-variants.{Value, Over, Misspelt}
-use Rattle.text.specs.Number.{isNumber, valueOf, numberOf}
-use Rattle.text.specs.Items.{COMMA, NONE, between, isList, listOf, isHold, holdOf, noItems, itemsOf, holdsOk, holdsRead, afterOk, afterRead}
+use Rattle.text.specs.Number.{isNumber, valueOf, numberStop}
+use Rattle.text.specs.Items.{COMMA, NONE, between, isList, listOf, holdStop, listStop, noItems, itemsOf, holdsOk, holdsRead, afterOk, afterRead}
 use Rattle.text.proofs.ListFields.{isAfter, afterOf}
-use Rattle.text.specs.private.Lettered.{isItem, itemOf, digitsIn, itemNumber, keyOf, listOk, itemsRead, listRead}
-use Rattle.text.proofs.Number.{the-type}
-use Rattle.text.proofs.Parts.{tail-is, parts-last, parts-more, First, first, first-part}
-
--- ---- an item
-
-pub plain-item : (lettered : Bool) (part : List ℕ) (t : Bool) → not lettered ≡ true → t ≡ isNumber part → t ≡ isItem lettered part
-unfolding isItem
-plain-item true part t n e = true-false n refl
-plain-item false part t n e = e
-
-pub no-item : (lettered : Bool) (part : List ℕ) → not lettered ≡ false → length part ≡ 0 → false ≡ isItem lettered part
-unfolding isHold isItem
-no-item true [] n h = refl
-no-item true (b ∷ s) n h = absurd (omega arith)
-no-item false part n h = true-false refl n
-
-pub letter-item :
-    (lettered : Bool) (part : List ℕ) (t : Bool) → not lettered ≡ false → (length part ≡ 0 → ⊥)
-    → t ≡ isNumber (take (length part - 1) (drop 1 part))
-    → ((eqb (getD part 0 0) 101 || eqb (getD part 0 0) 115) && t) ≡ isItem lettered part
-unfolding isHold isItem
-letter-item true [] t n h e = absurd (h refl)
-letter-item true (b ∷ s) t n h e = let f : t ≡ isNumber s = e ∙ ap isNumber (tail-is (b ∷ s) 1) in rw f
-letter-item false part t n h e = true-false refl n
-
-pub item-some : (lettered : Bool) (part : List ℕ) → lettered ≡ true → isItem lettered part ≡ true → 0 < length part
-unfolding isHold isItem
-item-some true [] l h = true-false h refl
-item-some true (b ∷ s) l h = omega arith
-item-some false part l h = true-false l refl
-
-pub item-digits : (lettered : Bool) (part : List ℕ) → isItem lettered part ≡ true → isNumber (digitsIn lettered part) ≡ true
-unfolding isHold isItem digitsIn
-item-digits true [] h = true-false h refl
-item-digits true (b ∷ s) h = and-r (eqb b 101 || eqb b 115) (isNumber s) h
-item-digits false part h = h
-
-pub item-plain :
-    (lettered : Bool) (part : List ℕ) (n : ℕ) → not lettered ≡ true → n ≡ valueOf (digitsIn lettered part)
-    → n ≡ itemOf lettered part
-unfolding itemOf digitsIn
-item-plain true part n l e = true-false l refl
-item-plain false part n l e = e
-
-pub item-shared :
-    (lettered : Bool) (part : List ℕ) (n : ℕ) → not lettered ≡ false → n ≡ valueOf (digitsIn lettered part)
-    → getD part 0 0 ≡ 115 → n * 2 + 1 ≡ itemOf lettered part
-unfolding holdOf itemOf digitsIn
-item-shared true [] n l e h = absurd (omega arith)
-item-shared true (b ∷ s) n l e h = let f : n ≡ valueOf s = e in rw (eq-eqb b 115 h, f)
-item-shared false part n l e h = true-false refl l
-
-pub item-alone :
-    (lettered : Bool) (part : List ℕ) (n : ℕ) → not lettered ≡ false → n ≡ valueOf (digitsIn lettered part)
-    → (getD part 0 0 ≡ 115 → ⊥) → n * 2 ≡ itemOf lettered part
-unfolding holdOf valueAfter itemOf digitsIn
-item-alone true [] n l e h = let f : n ≡ 0 = e in omega arith
-item-alone true (b ∷ s) n l e h =
-    let f : n ≡ valueOf s = e in let z : n * 2 ≡ n * 2 + 0 = omega arith in rw (ne-eqb b 115 h, ← f) z
-item-alone false part n l e h = true-false refl l
-
--- ---- a part read as an item
-
-pub plain-number : (lettered : Bool) (part : List ℕ) (r : Number) → not lettered ≡ true → r ≡ numberOf part → r ≡ itemNumber lettered part
-unfolding itemNumber isItem digitsIn numberOf
-plain-number true part r n e = true-false n refl
-plain-number false part r n e = by-bool (isNumber part) (λ a. e ∙ rw a) (λ a. e ∙ rw a)
-
-pub none-number : (lettered : Bool) (part : List ℕ) → not lettered ≡ false → length part ≡ 0 → Misspelt ≡ itemNumber lettered part
-unfolding itemNumber
-none-number lettered part n h = let f : isItem lettered part ≡ false = sym (no-item lettered part n h) in rw f
-
-abbrev pub isLetter : ℕ → Bool
-isLetter b = eqb b 101 || eqb b 115
-
-pub other-number :
-    (lettered : Bool) (part : List ℕ) → not lettered ≡ false → (length part ≡ 0 → ⊥) → not (isLetter (getD part 0 0)) ≡ true
-    → Misspelt ≡ itemNumber lettered part
-unfolding itemNumber isItem isHold
-other-number true [] n h t = absurd (h refl)
-other-number true (b ∷ s) n h t = let f : isLetter b ≡ false = not-true (isLetter b) t in rw f
-other-number false part n h t = true-false refl n
-
-pub letter-number :
-    (lettered : Bool) (part : List ℕ) (r : Number) → not lettered ≡ false → (length part ≡ 0 → ⊥)
-    → not (isLetter (getD part 0 0)) ≡ false → r ≡ numberOf (take (length part - 1) (drop 1 part))
-    → r ≡ itemNumber lettered part
-unfolding itemNumber isItem isHold digitsIn numberOf
-letter-number true [] r n h t e = absurd (h refl)
-letter-number true (b ∷ s) r n h t e =
-    let f : isLetter b ≡ true = not-false (isLetter b) t in
-    let q : r ≡ numberOf s = e ∙ ap numberOf (tail-is (b ∷ s) 1) in
-    by-bool (isNumber s) (λ a. q ∙ rw (f, a)) (λ a. q ∙ rw (f, a))
-letter-number false part r n h t e = true-false refl n
-
-pub number-spelt : (lettered : Bool) (part : List ℕ) (r : Number) → isItem lettered part ≡ true → r ≡ itemNumber lettered part → r ≡ numberOf (digitsIn lettered part)
-unfolding itemNumber
-number-spelt lettered part r a e = e ∙ rw a
-
--- what reads as a value is an item
-pub value-item : (lettered : Bool) (part : List ℕ) (r : Number) (k : ℕ) → r ≡ itemNumber lettered part → r ≡ Value k → isItem lettered part ≡ true
-unfolding itemNumber
-value-item lettered part r k e f =
-    by-bool (isItem lettered part)
-    (λ a. a)
-    (λ a. let h : Misspelt ≡ Value k = sym (e ∙ rw a) ∙ f in let z : _≡_ {A = ℕ} 0 1 = cc in absurd (omega arith))
-
--- an item's key is its number
-key-item : (lettered : Bool) (part : List ℕ) → keyOf lettered (itemOf lettered part) ≡ valueOf (digitsIn lettered part)
-unfolding holdOf valueAfter itemOf digitsIn keyOf
-key-item true [] = omega arith
-key-item true (b ∷ s) = by-bool (eqb b 115) (λ e. rw e (omega arith)) (λ e. rw e (omega arith))
-key-item false part = refl
+use Rattle.text.specs.private.Lettered.{isItem, itemOf, itemStop, digitsIn, keyOf, listOk, partsStop, itemsRead, listRead}
+use Rattle.text.proofs.ItemLaws.{key-item}
+use Rattle.text.proofs.Parts.{part-length, parts-last, parts-more, after-less, First, first, first-part}
 
 -- ---- a list that rises from a key, up to a highest
 
@@ -174,140 +60,6 @@ module _ (key : ℕ → ℕ) (high : ℕ) where
       no true = refl
       no false = refl
 
--- ---- the answer of a reader that keeps items from place n on, and has a list yet to read
-
-unfoldable pub kept : Bool → ℕ → List ℕ → Items
-kept fine n items = cond fine (record { code = 0; count = n; items = items }) (noItems 4)
-
-abbrev pub itemsLeft : Bool → ℕ → List ℕ → ℕ → ℕ → List (List ℕ) → Items
-itemsLeft lettered high items n last parts =
-    let l = map (itemOf lettered) parts in kept (risesFrom (keyOf lettered) high last l) (n + length l) (sets items n l)
-
-kept-start : (fine : Bool) (l : List ℕ) → kept fine (0 + length l) (sets (replicate 64 0) 0 l) ≡ itemsOf true fine l
-unfolding kept
-kept-start true l =
-    let e : 0 + length l ≡ length l = omega arith in
-    ap (λ (n : ℕ). record { code = 0; count = n; items = sets (replicate 64 0) 0 l }) e
-kept-start false l = refl
-
--- the answer where every part is an item
-unfoldable pub speltRead : Bool → ℕ → List (List ℕ) → Items
-speltRead lettered high parts = let l = map (itemOf lettered) parts in itemsOf true (listOk lettered high l) l
-
-module _ (lettered : Bool) (high : ℕ) (parts : List (List ℕ)) where
-  pub items-start : itemsLeft lettered high (replicate 64 0) 0 0 parts ≡ speltRead lettered high parts
-  unfolding listOk speltRead
-  items-start =
-      let l = map (itemOf lettered) parts in
-      ap (λ (b : Bool). kept b (0 + length l) (sets (replicate 64 0) 0 l)) (sym (rises-is (keyOf lettered) high l))
-      ∙ kept-start (allOf (λ x. between 1 high (keyOf lettered x)) l && rising (keyOf lettered) l) l
-
-  pub all-spelt : allOf (isItem lettered) parts ≡ true → speltRead lettered high parts ≡ itemsRead lettered high parts
-  unfolding itemsRead speltRead
-  all-spelt a = rw a
-
-  pub refused-is :
-      (t : Bool) → t ≡ allOf (isItem lettered) parts → (t ≡ true → noItems 4 ≡ speltRead lettered high parts)
-      → cond t (noItems 4) (noItems 3) ≡ itemsRead lettered high parts
-  unfolding itemsRead
-  refused-is true e f = f refl ∙ all-spelt (sym e)
-  refused-is false e f = let a : allOf (isItem lettered) parts ≡ false = sym e in rw a
-
-pub refused-by : (t : Bool) {u : Bool} → t ≡ u → cond t (noItems 4) (noItems 3) ≡ cond u (noItems 4) (noItems 3)
-refused-by t e = ap (λ (b : Bool). cond b (noItems 4) (noItems 3)) e
-
--- the reader's test of a number: above the last, and not above the highest
-abbrev pub refused : ℕ → ℕ → ℕ → Bool
-refused last high k = leb k last || ltb high k
-
-pub passed : (last high k : ℕ) → refused last high k ≡ false → (last < k) × (k ≤ high)
-passed last high k t = (
-  leb-false k last (by-bool (leb k last) (λ h. true-false (or-l (ltb high k) h) t) (λ h. h)),
-  ltb-false high k (by-bool (ltb high k) (λ h. true-false (or-r (leb k last) h) t) (λ h. h)),
-)
-
-module _
-    (lettered : Bool) (high : ℕ) (items : List ℕ) (n last : ℕ) (rest part : List ℕ) (k : ℕ) (x : Items)
-    (e : part ≡ before COMMA rest) (q : k ≡ valueOf (digitsIn lettered part))
-    (inv : itemsLeft lettered high items n last (splitOn COMMA rest) ≡ x)
-  where
-    here : keyOf lettered (itemOf lettered part) ≡ k
-    here = key-item lettered part ∙ sym q
-
-    pub refuse : refused last high k ≡ true → noItems 4 ≡ x
-    unfolding kept
-    refuse t = go (first-part COMMA rest)
-      where
-        go : First COMMA rest → noItems 4 ≡ x
-        go (first later f) =
-            let l = map (itemOf lettered) later in
-            let f′ : splitOn COMMA rest ≡ part ∷ later = f ∙ rw e in
-            sym
-            (ap (itemsLeft lettered high items n last) f′
-            ∙ ap (λ (b : Bool). kept b (n + suc (length l)) (sets items n (itemOf lettered part ∷ l)))
-            (rises-stop (keyOf lettered) high last (itemOf lettered part) k l here t))
-            ∙ inv
-
-    -- one item kept
-    keep :
-        (later : List (List ℕ)) (y : ℕ) → refused last high k ≡ false → y ≡ itemOf lettered part
-        → splitOn COMMA rest ≡ part ∷ later → itemsLeft lettered high (set items n y) (n + 1) k later ≡ x
-    keep later y t i f =
-        let l = map (itemOf lettered) later in
-        let p = passed last high k t in
-        let c : n + suc (length l) ≡ n + 1 + length l = omega arith in
-        rw i
-        (sym
-        (ap (itemsLeft lettered high items n last) f
-        ∙ ap (λ (b : Bool). kept b (n + suc (length l)) (sets items n (itemOf lettered part ∷ l)))
-        (rises-next (keyOf lettered) high last (itemOf lettered part) k l here (p .0) (p .1))
-        ∙ rw (c, add-one))
-        ∙ inv)
-
-    pub keep-last :
-        (y : ℕ) → refused last high k ≡ false → y ≡ itemOf lettered part → length part ≡ length rest
-        → record { code = 0; count = n + 1; items = set items n y } ≡ x
-    unfolding kept risesFrom
-    keep-last y t i h =
-        let c : n + 1 + 0 ≡ n + 1 = omega arith in
-        ap (λ (m : ℕ). kept true m (set items n y)) (sym c) ∙ keep [] y t i (parts-last COMMA rest part e h)
-
-    pub keep-more :
-        (more : List ℕ) (y : ℕ) → refused last high k ≡ false → y ≡ itemOf lettered part
-        → (length part ≡ length rest → ⊥) → more ≡ after COMMA rest
-        → itemsLeft lettered high (set items n y) (n + 1) k (splitOn COMMA more) ≡ x
-    keep-more more y t i h m = rw m (keep (splitOn COMMA (after COMMA rest)) y t i (parts-more COMMA rest part e h))
-
--- ---- what a part's number says
-
-pub value-is : (s : List ℕ) (r : Number) (k : ℕ) → r ≡ numberOf s → r ≡ Value k → k ≡ valueOf s
-unfolding numberOf
-value-is s r k e f =
-    let g : numberOf s ≡ Value k = sym e ∙ f in
-    by-bool (isNumber s)
-    (λ a.
-    by-bool (leb (valueOf s) 1000000)
-    (λ b. let h : Value (valueOf s) ≡ Value k = rw (a, b) at g in cc)
-    (λ b. let h : Over ≡ Value k = rw (a, b) at g in let z : _≡_ {A = ℕ} 0 1 = cc in absurd (omega arith)))
-    (λ a. let h : Misspelt ≡ Value k = rw a at g in let z : _≡_ {A = ℕ} 0 1 = cc in absurd (omega arith))
-
--- a number that is no value
-abbrev pub NoValue : Number → Type 0
-NoValue r = OneOf (1 ∷ 2 ∷ []) (Declared.tagOf the-type r)
-
-value-tag : (v : ℕ) → NoValue (Value v) → ⊥
-value-tag v t = ⊎-elim (λ e. omega arith) (λ e. omega arith) t
-
-pub over-is : (s : List ℕ) (r : Number) → isNumber s ≡ true → r ≡ numberOf s → NoValue r → 1000000 < valueOf s
-unfolding numberOf
-over-is s r a e t =
-    by-bool (leb (valueOf s) 1000000)
-    (λ b. let f : r ≡ Value (valueOf s) = e ∙ rw (a, b) in absurd (value-tag (valueOf s) (rw f at t)))
-    (λ b. leb-false (valueOf s) 1000000 b)
-
-pub refuse-over : (last high k : ℕ) → high ≤ 64 → 1000000 < k → refused last high k ≡ true
-refuse-over last high k h g = or-r (leb k last) (lt-ltb high k (omega arith))
-
 -- ---- tests of every part
 
 module _ (p : List ℕ → Bool) (rest part : List ℕ) (x : Bool) (e : part ≡ before COMMA rest) (inv : allOf p (splitOn COMMA rest) ≡ x) where
@@ -338,22 +90,207 @@ module _ (p : List ℕ → Bool) (rest part : List ℕ) (x : Bool) (e : part ≡
 pub first-passes : (p : List ℕ → Bool) (rest part : List ℕ) → part ≡ before COMMA rest → allOf p (splitOn COMMA rest) ≡ true → p part ≡ true
 first-passes p rest part e inv = by-bool (p part) (λ h. h) (λ h. true-false refl (sym (parts-stop p rest part true e inv false (sym h) refl)))
 
+-- ---- where the first misspelt part stops
+
+module _ (lettered : Bool) (rest part : List ℕ) (e : part ≡ before COMMA rest) where
+  pub stop-here : isItem lettered part ≡ false → partsStop lettered rest ≡ itemStop lettered part
+  unfolding partsStop firstNot
+  stop-here h = go (first-part COMMA rest)
+    where
+      go : First COMMA rest → partsStop lettered rest ≡ itemStop lettered part
+      go (first later f) =
+          let g : splitOn COMMA rest ≡ part ∷ later = f ∙ rw e in
+          rw (g, h, begin-first COMMA rest) (omega arith)
+
+  pub stop-next :
+      isItem lettered part ≡ true → (length part ≡ length rest → ⊥) → {more : List ℕ} → more ≡ after COMMA rest
+      → partsStop lettered rest ≡ (length rest - length more) + partsStop lettered more
+  unfolding partsStop firstNot
+  stop-next h n m =
+      let i = part-length COMMA rest part e in
+      let l = index-le COMMA rest in
+      let f = parts-more COMMA rest part e n in
+      let w = firstNot (isItem lettered) (splitOn COMMA (after COMMA rest)) in
+      let b = begin-next COMMA w rest (omega (arith, i, l, n)) in
+      let d = length-drop (suc (indexOf COMMA rest)) rest in
+      rw (m, f, h, b) (omega (arith, d, i, l, n))
+
+  pub stop-last : isItem lettered part ≡ true → length part ≡ length rest → partsStop lettered rest ≡ length rest
+  unfolding partsStop firstNot itemStop holdStop numberStop skipOn
+  stop-last h n =
+      let f = parts-last COMMA rest part e n in
+      let z : length (skipOn COMMA 1 rest) ≡ 0 = omega (arith, length-drop (suc (indexOf COMMA rest)) rest, part-length COMMA rest part e) in
+      by-bool lettered (λ b. rw (f, h, b) (omega (arith, z))) (λ b. rw (f, h, b) (omega (arith, z)))
+
+-- a refused list, by what is left of it
+module _
+    (lettered : Bool) (s rest part : List ℕ) (e : part ≡ before COMMA rest) (within : length rest ≤ length s)
+    (all : allOf (isItem lettered) (splitOn COMMA rest) ≡ allOf (isItem lettered) (splitOn COMMA s))
+    (stops : length s - length rest + partsStop lettered rest ≡ partsStop lettered s) {t : Bool} (i : t ≡ isItem lettered part)
+  where
+    pub refused-three :
+        not t ≡ true → {stop : ℕ} → stop ≡ itemStop lettered part
+        → noItems 3 (length s - length rest + stop)
+        ≡ noItems (cond (allOf (isItem lettered) (splitOn COMMA s)) 4 3) (partsStop lettered s)
+    refused-three n q =
+        let no = sym (parts-stop (isItem lettered) rest part _ e all t i n) in
+        let here = stop-here lettered rest part e (sym i ∙ not-true t n) in
+        rw (no, ← stops, here, q)
+
+    pub refused-four :
+        not t ≡ false → length part ≡ length rest
+        → noItems 4 (length s) ≡ noItems (cond (allOf (isItem lettered) (splitOn COMMA s)) 4 3) (partsStop lettered s)
+    refused-four n h =
+        let yes = sym (parts-end (isItem lettered) rest part _ e all t i n h) in
+        let last = stop-last lettered rest part e (sym i ∙ not-false t n) h in
+        let whole : length s ≡ length s - length rest + length rest = omega arith in
+        rw (yes, ← stops, last) (ap (noItems 4) whole)
+
+    pub refused-next :
+        not t ≡ false → (length part ≡ length rest → ⊥) → {more : List ℕ} → more ≡ after COMMA rest → length more < length rest
+        → length s - length more + partsStop lettered more ≡ partsStop lettered s
+    refused-next n h m less = let next = stop-next lettered rest part e (sym i ∙ not-false t n) h m in omega (arith, next, stops, within, less)
+
+-- where every part is an item, the reader comes to the end
+stop-whole : (lettered : Bool) (s : List ℕ) → allOf (isItem lettered) (splitOn COMMA s) ≡ true → partsStop lettered s ≡ length s
+stop-whole lettered s a = go (suc (length s)) s (omega arith) a
+  where
+    go : (f : ℕ) (s : List ℕ) → length s < f → allOf (isItem lettered) (splitOn COMMA s) ≡ true → partsStop lettered s ≡ length s
+    go zero s h a = absurd (omega arith)
+    go (suc f) s h a =
+        let item = first-passes (isItem lettered) s (before COMMA s) refl a in
+        by-eq (length (before COMMA s)) (length s)
+        (λ n. stop-last lettered s (before COMMA s) refl item n)
+        (λ n.
+        let less = after-less COMMA s (before COMMA s) refl (after COMMA s) n refl in
+        let all = parts-next (isItem lettered) s (before COMMA s) true refl a (after COMMA s) true (sym item) refl n refl in
+        stop-next lettered s (before COMMA s) refl item n refl ∙ rw (go f (after COMMA s) (omega arith) all) (omega arith))
+
+-- ---- the answer of a reader that keeps items from place n on, and has a list yet to read
+
+unfoldable pub kept : Bool → ℕ → ℕ → List ℕ → Items
+kept fine stop n items = cond fine (record { code = 0; stop = stop; count = n; items = items }) (noItems 4 stop)
+
+abbrev pub itemsLeft : Bool → ℕ → ℕ → List ℕ → ℕ → ℕ → List (List ℕ) → Items
+itemsLeft lettered high stop items n last parts =
+    let l = map (itemOf lettered) parts in
+    kept (risesFrom (keyOf lettered) high last l) stop (n + length l) (sets items n l)
+
+kept-start : (fine : Bool) (stop : ℕ) (l : List ℕ) → kept fine stop (0 + length l) (sets (replicate 64 0) 0 l) ≡ itemsOf true fine stop l
+unfolding kept
+kept-start true stop l =
+    let e : 0 + length l ≡ length l = omega arith in
+    ap (λ (n : ℕ). record { code = 0; stop = stop; count = n; items = sets (replicate 64 0) 0 l }) e
+kept-start false stop l = refl
+
+-- the answer where every part is an item
+unfoldable pub speltRead : Bool → ℕ → ℕ → List (List ℕ) → Items
+speltRead lettered high stop parts = let l = map (itemOf lettered) parts in itemsOf true (listOk lettered high l) stop l
+
+module _ (lettered : Bool) (high : ℕ) (s : List ℕ) where
+  abbrev parts : List (List ℕ)
+  parts = splitOn COMMA s
+
+  pub items-start : (stop : ℕ) → itemsLeft lettered high stop (replicate 64 0) 0 0 parts ≡ speltRead lettered high stop parts
+  unfolding listOk speltRead
+  items-start stop =
+      let l = map (itemOf lettered) parts in
+      ap (λ (b : Bool). kept b stop (0 + length l) (sets (replicate 64 0) 0 l)) (sym (rises-is (keyOf lettered) high l))
+      ∙ kept-start (allOf (λ x. between 1 high (keyOf lettered x)) l && rising (keyOf lettered) l) stop l
+
+  pub all-spelt : allOf (isItem lettered) parts ≡ true → speltRead lettered high (length s) parts ≡ itemsRead lettered high s
+  unfolding itemsRead speltRead
+  all-spelt a = rw (a, stop-whole lettered s a)
+
+  pub refused-is :
+      (allOf (isItem lettered) parts ≡ true → noItems 4 (length s) ≡ speltRead lettered high (length s) parts)
+      → noItems (cond (allOf (isItem lettered) parts) 4 3) (partsStop lettered s) ≡ itemsRead lettered high s
+  unfolding itemsRead speltRead
+  refused-is f = by-bool (allOf (isItem lettered) parts) (λ a. rw (a, stop-whole lettered s a) (f a)) (λ a. rw a)
+
+-- the reader's test of a number: above the last, and not above the highest
+abbrev pub refused : ℕ → ℕ → ℕ → Bool
+refused last high k = leb k last || ltb high k
+
+pub passed : (last high k : ℕ) → refused last high k ≡ false → (last < k) × (k ≤ high)
+passed last high k t = (
+  leb-false k last (by-bool (leb k last) (λ h. true-false (or-l (ltb high k) h) t) (λ h. h)),
+  ltb-false high k (by-bool (ltb high k) (λ h. true-false (or-r (leb k last) h) t) (λ h. h)),
+)
+
+module _
+    (lettered : Bool) (high stop : ℕ) (items : List ℕ) (n last : ℕ) (rest part : List ℕ) (k : ℕ) (x : Items)
+    (e : part ≡ before COMMA rest) (q : k ≡ valueOf (digitsIn lettered part))
+    (inv : itemsLeft lettered high stop items n last (splitOn COMMA rest) ≡ x)
+  where
+    here : keyOf lettered (itemOf lettered part) ≡ k
+    here = key-item lettered part ∙ sym q
+
+    pub refuse : refused last high k ≡ true → noItems 4 stop ≡ x
+    unfolding kept
+    refuse t = go (first-part COMMA rest)
+      where
+        go : First COMMA rest → noItems 4 stop ≡ x
+        go (first later f) =
+            let l = map (itemOf lettered) later in
+            let f′ : splitOn COMMA rest ≡ part ∷ later = f ∙ rw e in
+            sym
+            (ap (itemsLeft lettered high stop items n last) f′
+            ∙ ap (λ (b : Bool). kept b stop (n + suc (length l)) (sets items n (itemOf lettered part ∷ l)))
+            (rises-stop (keyOf lettered) high last (itemOf lettered part) k l here t))
+            ∙ inv
+
+    -- one item kept
+    keep :
+        (later : List (List ℕ)) (y : ℕ) → refused last high k ≡ false → y ≡ itemOf lettered part
+        → splitOn COMMA rest ≡ part ∷ later → itemsLeft lettered high stop (set items n y) (n + 1) k later ≡ x
+    keep later y t i f =
+        let l = map (itemOf lettered) later in
+        let p = passed last high k t in
+        let c : n + suc (length l) ≡ n + 1 + length l = omega arith in
+        rw i
+        (sym
+        (ap (itemsLeft lettered high stop items n last) f
+        ∙ ap (λ (b : Bool). kept b stop (n + suc (length l)) (sets items n (itemOf lettered part ∷ l)))
+        (rises-next (keyOf lettered) high last (itemOf lettered part) k l here (p .0) (p .1))
+        ∙ rw (c, add-one))
+        ∙ inv)
+
+    pub keep-last :
+        (y : ℕ) → refused last high k ≡ false → y ≡ itemOf lettered part → length part ≡ length rest
+        → record { code = 0; stop = stop; count = n + 1; items = set items n y } ≡ x
+    unfolding kept risesFrom
+    keep-last y t i h =
+        let c : n + 1 + 0 ≡ n + 1 = omega arith in
+        ap (λ (m : ℕ). kept true stop m (set items n y)) (sym c) ∙ keep [] y t i (parts-last COMMA rest part e h)
+
+    pub keep-more :
+        (more : List ℕ) (y : ℕ) → refused last high k ≡ false → y ≡ itemOf lettered part
+        → (length part ≡ length rest → ⊥) → more ≡ after COMMA rest
+        → itemsLeft lettered high stop (set items n y) (n + 1) k (splitOn COMMA more) ≡ x
+    keep-more more y t i h m = rw m (keep (splitOn COMMA (after COMMA rest)) y t i (parts-more COMMA rest part e h))
+
+pub refuse-over : (last high k : ℕ) → high ≤ 64 → 1000000 < k → refused last high k ≡ true
+refuse-over last high k h g = or-r (leb k last) (lt-ltb high k (omega arith))
+
 -- ---- the whole field
 
 module _ (lettered : Bool) (high : ℕ) (s : List ℕ) (t : Bool) (e : t ≡ same s NONE) where
-  pub list-none : t ≡ true → noItems 0 ≡ listRead lettered high s
-  unfolding listRead isList listOf listOk allOf rising
+  pub list-none : t ≡ true → noItems 0 1 ≡ listRead lettered high s
+  unfolding listRead isList listOf listStop listOk allOf rising
   list-none h = let f : same s NONE ≡ true = sym e ∙ h in rw f
 
-  pub list-items : t ≡ false → itemsRead lettered high (splitOn COMMA s) ≡ listRead lettered high s
-  unfolding listRead isList listOf itemsRead
+  pub list-items : t ≡ false → itemsRead lettered high s ≡ listRead lettered high s
+  unfolding listRead isList listOf listStop itemsRead partsStop
   list-items h = let f : same s NONE ≡ false = sym e ∙ h in rw f
 
 pub holds-is : (s : List ℕ) → listRead true 32 s ≡ holdsRead s
-unfolding listRead holdsRead listOk holdsOk isItem itemOf keyOf
+unfolding listRead holdsRead listOk holdsOk isItem itemOf itemStop keyOf
 holds-is s = refl
 
 pub after-is : (s : List ℕ) (tasks high : ℕ) → high ≡ min tasks 64 → listRead false high s ≡ afterRead s tasks
-unfolding listRead afterRead listOk afterOk isItem itemOf keyOf
+unfolding listRead afterRead listOk afterOk isItem itemOf itemStop keyOf
 after-is s tasks high e =
-    ap (λ (n : ℕ). itemsOf (isAfter s) (allOf (between 1 n) (afterOf s) && rising (λ m. m) (afterOf s)) (afterOf s)) e
+    ap
+    (λ (n : ℕ). itemsOf (isAfter s) (allOf (between 1 n) (afterOf s) && rising (λ m. m) (afterOf s)) (listStop isNumber numberStop s) (afterOf s))
+    e

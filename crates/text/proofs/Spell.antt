@@ -8,14 +8,15 @@ use native.Mathlib.Numerals.{add-one}
 use lib.ListN.{length, drop, getD, drop-of-length-le, length-append}
 use lib.Seq.{drop-cons}
 use lib.Dec.{eqb, leb, ltb}
-use borrow.Author.Tests.{lt-ltb, eq-eqb, ne-eqb, leb-true, le-leb, lt-leb, not-true, not-false}
-use Rattle.laws.proofs.Cases.{and-l, and-r}
-use Rattle.laws.specs.Lists.{allOf}
+use borrow.Author.Tests.{lt-ltb, eq-eqb, ne-eqb, eqb-true, leb-true, le-leb, lt-leb, not-true, not-false}
+use Rattle.laws.proofs.Cases.{by-bool, and-l, and-r, true-false}
+use Rattle.laws.specs.Lists.{allOf, firstNot}
 use Rattle.laws.proofs.Lists.{all-turn, all-end}
 use Rattle.laws.specs.Digits.{digitsOf, valueAfter}
 use Rattle.laws.proofs.Digits.{digits-small, digits-big}
+use Rattle.text.specs.declared.Number.{Number}
 use Rattle.text.specs.declared.Number.the-variants.{Value, Over, Misspelt}
-use Rattle.text.specs.Number.{isDigit, isNumber, valueOf, numberOf}
+use Rattle.text.specs.Number.{isDigit, isNumber, valueOf, numberStop, numberOf}
 use Rattle.text.specs.private.Spelling.{startsWell}
 
 -- ---- a test of every item, from a place on
@@ -102,26 +103,82 @@ pub held-end :
 unfolding valueAfter
 held-end v s i x h g p = let p′ : held v ≡ x = rw (drop-of-length-le s h) at p in omega arith
 
+-- ---- how far it is spelt
+
+pub stop-empty : (s : List ℕ) → length s ≡ 0 → 0 ≡ numberStop s
+unfolding numberStop
+stop-empty [] h = refl
+stop-empty (b ∷ s) h = absurd (omega arith)
+
+first-le : (p : ℕ → Bool) (l : List ℕ) → firstNot p l ≤ length l
+unfolding firstNot
+first-le p [] = omega arith
+first-le p (x ∷ l) = let r = first-le p l in by-bool (p x) (λ e. rw e (omega arith)) (λ e. rw e (omega arith))
+
+pub stop-le : (s : List ℕ) → numberStop s ≤ length s
+unfolding numberStop
+stop-le [] = omega arith
+stop-le (b ∷ s) = by-bool (eqb b 48) (λ e. rw e (omega arith)) (λ e. rw e (first-le isDigit (b ∷ s)))
+
+module _ (s : List ℕ) (t : Bool) (e : t ≡ startsWell s) where
+  -- a leading zero is itself read
+  pub stop-zero : not t ≡ true → (length s ≡ 0 → ⊥) → 1 ≡ numberStop s
+  unfolding startsWell numberStop
+  stop-zero n some = go s (sym e ∙ not-true t n) some
+    where
+      go : (s : List ℕ) → startsWell s ≡ false → (length s ≡ 0 → ⊥) → 1 ≡ numberStop s
+      go [] h some = absurd (some refl)
+      go (b ∷ []) h some = true-false refl h
+      go (b ∷ c ∷ s) h some =
+          let lead : eqb b 48 ≡ true = by-bool (eqb b 48) (λ q. q) (λ q. true-false refl (rw (q, ne-eqb (length (b ∷ c ∷ s)) 0 (λ z. omega arith), lt-ltb 1 (length (b ∷ c ∷ s)) (omega arith)) at h)) in
+          rw lead
+
+  pub stop-well : not t ≡ false → {i : ℕ} → i ≡ firstNot isDigit s → i ≡ numberStop s
+  unfolding startsWell numberStop firstNot
+  stop-well n q = q ∙ go s (sym e ∙ not-false t n)
+    where
+      go : (s : List ℕ) → startsWell s ≡ true → firstNot isDigit s ≡ numberStop s
+      go [] h = true-false h refl
+      go (b ∷ []) h = by-bool (eqb b 48) (λ q. let z : b ≡ 48 = eqb-true b 48 q in rw z) (λ q. rw q)
+      go (b ∷ c ∷ s) h =
+          by-bool (eqb b 48)
+          (λ q. true-false h (rw (q, ne-eqb (length (b ∷ c ∷ s)) 0 (λ z. omega arith), lt-ltb 1 (length (b ∷ c ∷ s)) (omega arith))))
+          (λ q. rw q)
+
 -- ---- the answers
 
-module _ (s : List ℕ) (t : Bool) (e : t ≡ isNumber s) where
-  pub read-misspelt : not t ≡ true → Misspelt ≡ numberOf s
+module _ (s : List ℕ) (t : Bool) (e : t ≡ isNumber s) {stop : ℕ} (at : stop ≡ numberStop s) where
+  pub read-misspelt : not t ≡ true → Misspelt stop ≡ numberOf s
   unfolding numberOf
-  read-misspelt n = let f : isNumber s ≡ false = sym e ∙ not-true t n in rw f
+  read-misspelt n = let f : isNumber s ≡ false = sym e ∙ not-true t n in rw (f, at)
 
-  pub read-value : (v : ℕ) → not t ≡ false → v ≡ held (valueOf s) → v ≤ 1000000 → Value v ≡ numberOf s
+  pub read-value : (v : ℕ) → not t ≡ false → v ≡ held (valueOf s) → v ≤ 1000000 → Value v stop ≡ numberOf s
   unfolding numberOf
   read-value v n q h =
       let f : isNumber s ≡ true = sym e ∙ not-false t n in
       let m : v ≡ valueOf s = omega arith in
-      rw (f, ← m, le-leb v 1000000 h)
+      rw (f, ← m, le-leb v 1000000 h, at)
 
-  pub read-over : (v : ℕ) → not t ≡ false → v ≡ held (valueOf s) → 1000000 < v → Over ≡ numberOf s
+  pub read-over : (v : ℕ) → not t ≡ false → v ≡ held (valueOf s) → 1000000 < v → Over stop ≡ numberOf s
   unfolding numberOf
   read-over v n q h =
       let f : isNumber s ≡ true = sym e ∙ not-false t n in
       let m : 1000000 < valueOf s = omega arith in
-      rw (f, lt-leb (valueOf s) 1000000 m)
+      rw (f, lt-leb (valueOf s) 1000000 m, at)
+
+-- whatever it says, it stopped there
+abbrev pub stopOf : Number → ℕ
+stopOf (Value v stop) = stop
+stopOf (Over stop) = stop
+stopOf (Misspelt stop) = stop
+
+pub stop-at : (s : List ℕ) (r : Number) → r ≡ numberOf s → stopOf r ≡ numberStop s
+unfolding numberOf
+stop-at s r e =
+    ap stopOf e
+    ∙ by-bool (isNumber s)
+    (λ a. by-bool (leb (valueOf s) 1000000) (λ b. rw (a, b)) (λ b. rw (a, b)))
+    (λ a. rw a)
 
 -- ---- how many digits
 

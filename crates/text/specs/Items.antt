@@ -3,13 +3,13 @@ use Prim.Native.Nat.{ℕ, _+_, _*_, _/_, _%_, min}
 use mathlib.Core.Bool.{Bool, false, not, cond, _&&_, _||_}
 use mathlib.Core.List.{List, [], _∷_, map}
 use lib.Dec.{leb, eqb}
-use Rattle.laws.specs.Lists.{allOf, rising, same}
-use Rattle.laws.specs.Split.{splitOn, joinOn}
+use Rattle.laws.specs.Lists.{allOf, firstNot, rising, same}
+use Rattle.laws.specs.Split.{beginOf, splitOn, joinOn}
 use Rattle.laws.specs.Digits.{digitsOf}
 use Rattle.text.specs.Bytes.{bytes}
-use Rattle.text.specs.Number.{isNumber, valueOf}
+use Rattle.text.specs.Number.{isNumber, valueOf, numberStop}
 use Rattle.text.specs.declared.Items.{Items}
-use lib.ListN.{length, replicate}
+use lib.ListN.{length, getD, replicate}
 use lib.Seq.{sets}
 
 abbrev pub between : ℕ → ℕ → ℕ → Bool
@@ -60,19 +60,32 @@ holdsOk holds = allOf (λ h. between 1 32 (driveOf h)) holds && rising driveOf h
 unfoldable pub afterOk : ℕ → List ℕ → Bool
 afterOk tasks after = allOf (between 1 tasks) after && rising (λ n. n) after
 
--- a list reader's answer: 3 for a misspelt list, 4 for one out of range or not rising, else its items, zeros after them
-abbrev pub noItems : ℕ → Items
-noItems code = record { code = code; count = 0; items = replicate 64 0 }
+-- how far a hold is spelt
+unfoldable pub holdStop : List ℕ → ℕ
+holdStop [] = 0
+holdStop (b ∷ s) = cond (eqb b 101 || eqb b 115) (numberStop s + 1) 0
 
-abbrev pub someItems : List ℕ → Items
-someItems l = record { code = 0; count = length l; items = sets (replicate 64 0) 0 l }
+-- how far a list is spelt: to where its first misspelt item stops, or to its end
+unfoldable pub listStop : (List ℕ → Bool) → (List ℕ → ℕ) → List ℕ → ℕ
+listStop isItem itemStop s =
+    let parts = splitOn COMMA s in
+    let wrong = firstNot isItem parts in cond (same s NONE) 1 (beginOf COMMA s wrong + itemStop (getD parts wrong []))
 
-abbrev pub itemsOf : Bool → Bool → List ℕ → Items
-itemsOf spelt fine l = cond (not spelt) (noItems 3) (cond (not fine) (noItems 4) (someItems l))
+-- a list reader's answer, with where it stopped: 3 for a misspelt list, 4 for one out of range or not rising, else its items,
+-- zeros after them
+abbrev pub noItems : ℕ → ℕ → Items
+noItems code stop = record { code = code; stop = stop; count = 0; items = replicate 64 0 }
+
+abbrev pub someItems : ℕ → List ℕ → Items
+someItems stop l = record { code = 0; stop = stop; count = length l; items = sets (replicate 64 0) 0 l }
+
+abbrev pub itemsOf : Bool → Bool → ℕ → List ℕ → Items
+itemsOf spelt fine stop l = cond (not spelt) (noItems 3 stop) (cond (not fine) (noItems 4 stop) (someItems stop l))
 
 unfoldable pub holdsRead : List ℕ → Items
-holdsRead s = itemsOf (isList isHold s) (holdsOk (listOf holdOf s)) (listOf holdOf s)
+holdsRead s = let l = listOf holdOf s in itemsOf (isList isHold s) (holdsOk l) (listStop isHold holdStop s) l
 
 -- there are never more than 64 tasks to come after
 unfoldable pub afterRead : List ℕ → ℕ → Items
-afterRead s tasks = itemsOf (isList isNumber s) (afterOk (min tasks 64) (listOf valueOf s)) (listOf valueOf s)
+afterRead s tasks =
+    let l = listOf valueOf s in itemsOf (isList isNumber s) (afterOk (min tasks 64) l) (listStop isNumber numberStop s) l

@@ -1,10 +1,10 @@
 -- Lines of text, one record a line, fields parted by one tab, each line ended by one LF.
-use Prim.Native.Nat.{ℕ, zero, suc}
+use Prim.Native.Nat.{ℕ}
 use mathlib.Core.Bool.{Bool}
 use mathlib.Core.List.{List, [], _∷_, _++_}
 use lib.Dec.{ltb}
 use lib.ListN.{length, getD}
-use Rattle.laws.specs.Split.{indexOf, before, after, splitOn, joinOn}
+use Rattle.laws.specs.Split.{indexOf, before, skipOn, splitOn, joinOn}
 
 abbrev pub TAB : ℕ
 TAB = 9
@@ -17,9 +17,8 @@ abbrev pub hasLine : List ℕ → Bool
 hasLine s = ltb (indexOf LF s) (length s)
 
 -- the text after its first n lines
-unfoldable pub skip : ℕ → List ℕ → List ℕ
-skip zero s = s
-skip (suc n) s = skip n (after LF s)
+abbrev pub skip : ℕ → List ℕ → List ℕ
+skip n s = skipOn LF n s
 
 -- line n of the text, from 0, without its LF
 abbrev pub lineAt : List ℕ → ℕ → List ℕ

@@ -3,7 +3,7 @@ use Prim.Native.Nat.{ℕ}
 use mathlib.Core.Bool.{Bool, false, not, cond, _&&_}
 use mathlib.Core.List.{List, [], _∷_}
 use lib.Dec.{leb, eqb}
-use Rattle.laws.specs.Lists.{allOf}
+use Rattle.laws.specs.Lists.{allOf, firstNot}
 use Rattle.laws.specs.Digits.{valueAfter}
 use Rattle.text.specs.declared.Number.{Number}
 use Rattle.text.specs.declared.Number.the-variants.{Value, Over, Misspelt}
@@ -26,6 +26,13 @@ valueOf s = valueAfter 0 s
 abbrev pub most : ℕ
 most = 1000000
 
--- the number reader's answer
+-- how far a number is spelt: `0` alone, or digits, up to the first byte that does not go on with it
+unfoldable pub numberStop : List ℕ → ℕ
+numberStop [] = 0
+numberStop (b ∷ s) = cond (eqb b 48) 1 (firstNot isDigit (b ∷ s))
+
+-- the number reader's answer, with where it stopped
 unfoldable pub numberOf : List ℕ → Number
-numberOf s = cond (isNumber s) (cond (leb (valueOf s) most) (Value (valueOf s)) Over) Misspelt
+numberOf s =
+    let stop = numberStop s in
+    cond (isNumber s) (cond (leb (valueOf s) most) (Value (valueOf s) stop) (Over stop)) (Misspelt stop)

@@ -4,7 +4,7 @@ ghost use Prim.Native.Nat.{_+_, _-_, _*_, _≤_, min};
 ghost use lib.ListN.{length};
 ghost use Rattle.laws.specs.Lists.{allOf};
 ghost use Rattle.laws.specs.Digits.{digitsOf};
-ghost use Rattle.text.specs.Number.{isDigit, isNumber, numberOf};
+ghost use Rattle.text.specs.Number.{isDigit, isNumber, numberStop, numberOf};
 ghost use Rattle.text.specs.private.Spelling.{startsWell};
 use crate::Number;
 
@@ -60,27 +60,40 @@ fn grown(v: u32, b: u8) -> u32
     if w <= MOST { w } else { HELD }
 }
 
-// Spelling and value in one walk.
+// Spelling and value in one walk. A leading zero is itself read.
 pub fn read_number(field: &[u8]) -> Number
     ensures { λ r. ⌜ r ≡ numberOf (now (field .entry)) ⌝ }
 {
     if !starts_well(field) {
-        return Number::Misspelt;
+        if field.len() == 0 {
+            return Number::Misspelt(0);
+        }
+        return Number::Misspelt(1);
     }
     let mut v = 0;
     let mut i = 0;
     while i < field.len() {
         let b = field[i];
         if !is_digit(b) {
-            return Number::Misspelt;
+            return Number::Misspelt(i);
         }
         v = grown(v, b);
         i += 1;
     }
     if v <= MOST {
-        Number::Value(v)
+        Number::Value(v, i)
     } else {
-        Number::Over
+        Number::Over(i)
+    }
+}
+
+pub fn number_stop(field: &[u8]) -> usize
+    ensures { λ r. ⌜ r ≡ numberStop (now (field .entry)) ⌝ }
+{
+    match read_number(field) {
+        Number::Value(_, stop) => stop,
+        Number::Over(stop) => stop,
+        Number::Misspelt(stop) => stop,
     }
 }
 

@@ -7,10 +7,11 @@ ghost use Rattle.laws.specs.Lists.{allOf};
 ghost use Rattle.laws.specs.Split.{splitOn};
 ghost use Rattle.text.specs.Number.{valueOf};
 ghost use Rattle.text.specs.Items.{COMMA, noItems, holdsRead, afterRead};
-ghost use Rattle.text.specs.private.Lettered.{isItem, itemOf, digitsIn, itemNumber, itemsRead, listRead};
+ghost use Rattle.text.specs.private.Lettered.{startsItem, isItem, itemOf, digitsIn, itemNumber, itemStop, partsStop, itemsRead, listRead};
 use crate::Items;
 use crate::Number;
 use crate::decimal::is_number;
+use crate::decimal::number_stop;
 use crate::decimal::read_number;
 use crate::part::part_before;
 use crate::part::past;
@@ -22,71 +23,87 @@ const DRIVES: u32 = 32;
 
 const TASKS: u32 = 64;
 
-fn no_items(code: u32) -> Items
-    ensures { λ r. ⌜ r ≡ noItems code ⌝ }
+fn no_items(code: u8, stop: usize) -> Items
+    ensures { λ r. ⌜ r ≡ noItems code stop ⌝ }
 {
     Items {
         code,
+        stop,
         count: 0,
         items: [0u8; 64],
     }
 }
 
-fn is_item(part: &[u8], lettered: bool) -> bool
-    ensures { λ r. ⌜ r ≡ isItem lettered (now (part .entry)) ⌝ }
+// Does a part begin as an item does?
+fn starts_item(part: &[u8], lettered: bool) -> bool
+    ensures { λ r. ⌜ r ≡ startsItem lettered (now (part .entry)) ⌝ }
 {
     if !lettered {
-        return is_number(part);
+        return true;
     }
     if part.len() == 0 {
         return false;
     }
     let letter = part[0];
-    ((letter == b'e') | (letter == b's')) & is_number(&part[1..])
+    (letter == b'e') | (letter == b's')
 }
 
-// Is every part between commas an item?
-fn all_items(s: &[u8], lettered: bool) -> bool
-    ensures { λ r. ⌜ r ≡ allOf (isItem lettered) (splitOn COMMA (now (s .entry))) ⌝ }
+// The part of an item that spells its number.
+fn digits_in<'a>(part: &'a [u8], lettered: bool) -> &'a [u8]
+    ensures { λ r. ⌜ now r ≡ digitsIn lettered (now (part .entry)) ⌝ }
 {
-    let mut rest = s;
-    loop {
-        let part = part_before(rest, COMMA);
-        if !is_item(part, lettered) {
-            return false;
-        }
-        if part.len() == rest.len() {
-            return true;
-        }
-        let next = past(rest, part.len());
-        rest = next;
+    if !lettered {
+        return part;
     }
+    past(part, 0)
 }
 
-// What a refused list's rest says: 3 where a part of it is misspelt, else 4.
-fn refused_items(rest: &[u8], lettered: bool) -> Items
-    ensures { λ r. ⌜ r ≡ cond (allOf (isItem lettered) (splitOn COMMA (now (rest .entry)))) (noItems 4) (noItems 3) ⌝ }
+fn is_item(part: &[u8], lettered: bool) -> bool
+    ensures { λ r. ⌜ r ≡ isItem lettered (now (part .entry)) ⌝ }
 {
-    if all_items(rest, lettered) {
-        return no_items(4);
-    }
-    no_items(3)
+    starts_item(part, lettered) & is_number(digits_in(part, lettered))
 }
 
 fn item_number(part: &[u8], lettered: bool) -> Number
     ensures { λ r. ⌜ r ≡ itemNumber lettered (now (part .entry)) ⌝ }
 {
-    if !lettered {
-        return read_number(part);
+    if !starts_item(part, lettered) {
+        return Number::Misspelt(0);
     }
-    if part.len() == 0 {
-        return Number::Misspelt;
+    read_number(digits_in(part, lettered))
+}
+
+// Where an item's reader stops.
+fn item_stop(part: &[u8], lettered: bool) -> usize
+    ensures { λ r. ⌜ r ≡ itemStop lettered (now (part .entry)) ⌝ }
+{
+    if !starts_item(part, lettered) {
+        return 0;
     }
-    let letter = part[0];
-    if !((letter == b'e') | (letter == b's')) {
-        return Number::Misspelt;
+    let stop = number_stop(digits_in(part, lettered));
+    if lettered {
+        return stop + 1;
     }
-    read_number(&part[1..])
+    stop
+}
+
+// A refused list is walked once more: 3 at its first misspelt item, or 4 at its end.
+fn refused_items(s: &[u8], lettered: bool) -> Items
+    ensures { λ r. ⌜ r ≡ noItems (cond (allOf (isItem lettered) (splitOn COMMA (now (s .entry)))) 4 3) (partsStop lettered (now (s .entry))) ⌝ }
+{
+    let mut rest = s;
+    loop {
+        let part = part_before(rest, COMMA);
+        if !is_item(part, lettered) {
+            let begin = s.len() - rest.len();
+            return no_items(3, begin + item_stop(part, lettered));
+        }
+        if part.len() == rest.len() {
+            return no_items(4, s.len());
+        }
+        let next = past(rest, part.len());
+        rest = next;
+    }
 }
 
 // The item whose number is n.
@@ -106,7 +123,7 @@ fn item_of(part: &[u8], lettered: bool, n: u32) -> u8
 // The items of a list: a part that is no item, a number out of range, or one not above the last refuses it.
 fn read_items(s: &[u8], lettered: bool, high: u32) -> Items
     requires { ⌜ high ≤ 64 ⌝ }
-    ensures { λ r. ⌜ r ≡ itemsRead lettered high (splitOn COMMA (now (s .entry))) ⌝ }
+    ensures { λ r. ⌜ r ≡ itemsRead lettered high (now (s .entry)) ⌝ }
 {
     let mut items = [0u8; 64];
     let mut count = 0;
@@ -114,11 +131,11 @@ fn read_items(s: &[u8], lettered: bool, high: u32) -> Items
     let mut rest = s;
     loop {
         let part = part_before(rest, COMMA);
-        let Number::Value(n) = item_number(part, lettered) else {
-            return refused_items(rest, lettered);
+        let Number::Value(n, _) = item_number(part, lettered) else {
+            return refused_items(s, lettered);
         };
         if (n <= last) | (high < n) {
-            return refused_items(rest, lettered);
+            return refused_items(s, lettered);
         }
         items[count] = item_of(part, lettered, n);
         count += 1;
@@ -126,6 +143,7 @@ fn read_items(s: &[u8], lettered: bool, high: u32) -> Items
         if part.len() == rest.len() {
             return Items {
                 code: 0,
+                stop: s.len(),
                 count,
                 items,
             };
@@ -141,7 +159,7 @@ fn read_list(s: &[u8], lettered: bool, high: u32) -> Items
     ensures { λ r. ⌜ r ≡ listRead lettered high (now (s .entry)) ⌝ }
 {
     if same(s, b"-") {
-        return no_items(0);
+        return no_items(0, 1);
     }
     read_items(s, lettered, high)
 }

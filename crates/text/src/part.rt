@@ -3,8 +3,8 @@ ghost use mathlib.Core.Path.{_≡_};
 ghost use Prim.Native.Nat.{suc};
 ghost use lib.ListN.{length, drop};
 ghost use Rattle.laws.specs.Lists.{same};
-ghost use Rattle.laws.specs.Split.{indexOf, before, after};
-ghost use Rattle.text.specs.Line.{fields, field};
+ghost use Rattle.laws.specs.Split.{indexOf, before, after, skipOn};
+ghost use Rattle.text.specs.Line.{TAB, fields, field};
 
 pub const TAB: u8 = 9;
 
@@ -64,9 +64,9 @@ pub fn count_fields(line: &[u8]) -> usize
     n
 }
 
-// The n-th field of a line, from 0; past the last, the empty part.
-pub fn field<'a>(line: &'a [u8], n: usize) -> &'a [u8]
-    ensures { λ r. ⌜ now r ≡ field (now (line .entry)) n ⌝ }
+// What is left of a line after its first n fields.
+pub fn past_fields<'a>(line: &'a [u8], n: usize) -> &'a [u8]
+    ensures { λ r. ⌜ now r ≡ skipOn TAB n (now (line .entry)) ⌝ }
 {
     let mut rest = line;
     let mut left = n;
@@ -75,7 +75,14 @@ pub fn field<'a>(line: &'a [u8], n: usize) -> &'a [u8]
         rest = next;
         left -= 1;
     }
-    part_before(rest, TAB)
+    rest
+}
+
+// The n-th field of a line, from 0; past the last, the empty part.
+pub fn field<'a>(line: &'a [u8], n: usize) -> &'a [u8]
+    ensures { λ r. ⌜ now r ≡ field (now (line .entry)) n ⌝ }
+{
+    part_before(past_fields(line, n), TAB)
 }
 
 pub fn same(s: &[u8], w: &[u8]) -> bool

@@ -178,7 +178,7 @@ fn first_line_fault(rng: &mut Rng, plan: &Plan) -> OneFault {
         2 => lines[0][1] = rng.pick(&["", "0", "2", "01", "-", "11"]).into(),
         3 => lines[0][2] = rng.pick(&["0", "9", "-", "", "08", FORTY_DIGITS]).into(),
         4 => lines[0][3] = rng.pick(&["0", "65", "-", "", "064", FORTY_DIGITS]).into(),
-        _ => change_field_count(rng, &mut lines[0]),
+        _ => drop(change_field_count(rng, &mut lines[0])),
     }
     OneFault {
         text: text_of(&lines),
@@ -189,7 +189,7 @@ fn first_line_fault(rng: &mut Rng, plan: &Plan) -> OneFault {
 fn misspelt_fault(rng: &mut Rng, plan: &Plan) -> OneFault {
     let mut lines = lines_of(plan);
     let at = 1 + rng.index(plan.task_count());
-    let field = rng.within(1, 6) as usize;
+    let field = 1 + rng.index(6);
     lines[at][field] = match field {
         5 => rng.pick(&MISSPELT_HOLDS).into(),
         6 => rng.pick(&MISSPELT_AFTERS).into(),
@@ -199,34 +199,44 @@ fn misspelt_fault(rng: &mut Rng, plan: &Plan) -> OneFault {
         // A number out of range in the same line must not be seen first.
         lines[at][1 + field % 4] = FORTY_DIGITS.into();
     }
-    fault_in_line(&lines, 3, at)
+    fault_in_line(&lines, 3, at, field)
 }
 
 fn line_shape_fault(rng: &mut Rng, plan: &Plan) -> OneFault {
     let mut lines = lines_of(plan);
     let at = 1 + rng.index(plan.task_count());
-    if rng.chance(30) {
+    let field = if rng.chance(30) {
         lines[at][0] = rng.pick(&["", "Task", "tasks", "plan", "end"]).into();
+        0
     } else {
-        change_field_count(rng, &mut lines[at]);
-    }
-    fault_in_line(&lines, 3, at)
+        change_field_count(rng, &mut lines[at])
+    };
+    fault_in_line(&lines, 3, at, field)
 }
 
 fn out_of_range_fault(rng: &mut Rng, plan: &Plan) -> OneFault {
     let mut lines = lines_of(plan);
     let at = 1 + rng.index(plan.task_count());
-    let begin = lines[at][3].clone();
-    match rng.within(1, 7) {
-        1 => lines[at][1] = rng.pick(&["0", "65", FORTY_DIGITS]).into(),
-        2 => lines[at][2] = (u32::from(plan.boards) + 1).to_string(),
-        3 => lines[at][2] = rng.pick(&["0", "256", "257", FORTY_DIGITS]).into(),
-        4 => lines[at][4] = begin,
-        5 => lines[at][4] = rng.pick(&["1000001", "4294967296", FORTY_DIGITS]).into(),
-        6 => lines[at][5] = rng.pick(&HOLDS_OUT_OF_RULE).into(),
-        _ => lines[at][6] = rng.pick(&AFTERS_OUT_OF_RULE).into(),
-    }
-    fault_in_line(&lines, 4, at)
+    let (begin, finish) = (lines[at][3].clone(), lines[at][4].clone());
+    let board_past_the_last = (u32::from(plan.boards) + 1).to_string();
+    let over = rng.pick(&["1000001", "4294967296", FORTY_DIGITS]);
+    let (field, value): (usize, &str) = match rng.within(1, 9) {
+        1 => (1, rng.pick(&["0", "65", FORTY_DIGITS])),
+        2 => (2, &board_past_the_last),
+        3 => (2, rng.pick(&["0", "256", "257", FORTY_DIGITS])),
+        4 => (3, over),
+        5 => (4, &begin),
+        6 => (4, over),
+        7 => (5, rng.pick(&HOLDS_OUT_OF_RULE)),
+        8 => (6, rng.pick(&AFTERS_OUT_OF_RULE)),
+        _ => {
+            // The start is in range, and the finish no longer above it.
+            lines[at][3] = finish.clone();
+            (4, &finish)
+        }
+    };
+    lines[at][field] = value.into();
+    fault_in_line(&lines, 4, at, field)
 }
 
 /// The text ends inside or just before some task line.
@@ -235,26 +245,57 @@ fn cut_short(rng: &mut Rng, plan: &Plan) -> OneFault {
     let at = 1 + rng.index(plan.task_count());
     let mut text = text_of(&lines[..at]);
     let line = text_of(&lines[at..at + 1]);
-    text.extend_from_slice(&line[..rng.index(line.len())]);
+    let cut = &line[..rng.index(line.len())];
+    text.extend_from_slice(cut);
     OneFault {
         text,
-        answer: refusal(3, at as u32 + 1, 0),
+        answer: refusal(3, at as u32 + 1, cut_column(cut)),
     }
 }
 
-fn change_field_count(rng: &mut Rng, fields: &mut Vec<String>) {
+/// Just past the cut, unless it leaves a part of the word or of a list behind.
+fn cut_column(cut: &[u8]) -> u32 {
+    let in_a_word_or_list = cut.last().is_some_and(|byte| b"tase,".contains(byte));
+    let last_tab = cut.iter().rposition(|&byte| byte == b'\t');
+    let column = if in_a_word_or_list {
+        last_tab.map_or(1, |tab| tab + 2)
+    } else {
+        cut.len() + 1
+    };
+    column as u32
+}
+
+/// The first field, from 0, that is then faulty in a task line.
+fn change_field_count(rng: &mut Rng, fields: &mut Vec<String>) -> usize {
     match rng.within(1, 3) {
-        1 => fields.push(String::new()),
-        2 => fields.insert(1, "1".into()),
-        _ => drop(fields.pop()),
+        1 => {
+            fields.push(String::new());
+            fields.len() - 1
+        }
+        2 => {
+            fields.insert(1, "1".into());
+            // The planned finish stands where holds are looked for.
+            5
+        }
+        _ => {
+            fields.pop();
+            fields.len()
+        }
     }
 }
 
-fn fault_in_line(lines: &[Vec<String>], code: u32, at: usize) -> OneFault {
+fn fault_in_line(lines: &[Vec<String>], code: u32, at: usize, field: usize) -> OneFault {
     OneFault {
         text: text_of(lines),
-        answer: refusal(code, at as u32 + 1, 0),
+        answer: refusal(code, at as u32 + 1, column_of(&lines[at], field)),
     }
+}
+
+/// Where that field begins; of one that is missing, just past the line.
+fn column_of(fields: &[String], field: usize) -> u32 {
+    let before = fields[..field].join("\t").len();
+    let is_behind_a_tab = field > 0 && field < fields.len();
+    (before + usize::from(is_behind_a_tab)) as u32 + 1
 }
 
 fn lines_of(plan: &Plan) -> Vec<Vec<String>> {

@@ -12,7 +12,7 @@ const USUAL_BYTES: &[u8] = b"\t\t\t\n\n-,es0123456789plantask";
 
 /// Lines of `ends.txt` that are not well formed or out of range, and some that
 /// are neither but look so.
-const ODD_ENDS_LINES: [&[u8]; 24] = [
+const ODD_ENDS_LINES: [&[u8]; 30] = [
     b"drop\n",
     b"drop\t\n",
     b"drop\t1",
@@ -29,6 +29,12 @@ const ODD_ENDS_LINES: [&[u8]; 24] = [
     b"\tdrop\t1\n",
     b"skip\t1\n",
     b"end\t1\n",
+    b"end\t1\t1",
+    b"end\t\t1\n",
+    b"end\t1\t1\t\n",
+    b"end\t1000001\t01\n",
+    b"end\t1000001\t1000001\n",
+    b"end\t1000001\n",
     b"1\n",
     b"\n",
     b"drop\t1000001\n",

@@ -1,5 +1,6 @@
 //! Inputs for tests: seeded random plans, texts, damaged values, reports and drops.
 
+pub mod columns;
 pub mod damage;
 pub mod events;
 pub mod every_book;

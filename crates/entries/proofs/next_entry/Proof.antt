@@ -1,24 +1,24 @@
-use mathlib.Core.Path.{_∙_}
-use Rattle.entries.proofs.TextLaws.{entry-none, entry-there}
+-- `entries::next_entry` meets its contract: the line is what stands before its LF, if it has one.
 use borrow.Author.Needs.{needs}
+use mathlib.Core.Path.{sym, _∙_}
+use lib.Seq.{length-take-le}
+use Rattle.text.proofs.Parts.{found-le}
+use Rattle.entries.proofs.TextLaws.{next-is}
 use Rattle.entries.proofs.next_entry.Statement.{statement}
 use Rattle.entries.proofs.next_entry.Tie as tie
 
 find-requires : tie.Need-find-requires
 find-requires c κs = search needs
 
-returns : tie.Need-returns
-returns c = entry-none _ (c .before .find .ensures) (c .if1 .taken)
-
-part-before-requires : tie.Need-part-before-requires
-part-before-requires c κs = search needs
+slice-aggregate-read-entry : tie.Need-slice-aggregate-read-entry
+slice-aggregate-read-entry c = sym (length-take-le _ _ (found-le _ _ (c .before .find .ensures)))
 
 read-entry-requires : tie.Need-read-entry-requires
 read-entry-requires c κs = search needs
 
-returns-2 : tie.Need-returns-2
-returns-2 c = rw (c .before .part-before .ensures) at (c .read-entry .ensures) ∙ entry-there _ (c .before .before .before .find .ensures) (c .before .before .if1 .left)
+returns : tie.Need-returns
+returns c = c .read-entry .ensures ∙ next-is _ (c .before .before .find .ensures)
 
 pub next-entry-spec : {M : Type 1} → statement M
 next-entry-spec =
-    tie.close (tie.spec find-requires returns part-before-requires read-entry-requires returns-2)
+    tie.close (tie.spec find-requires slice-aggregate-read-entry read-entry-requires returns)

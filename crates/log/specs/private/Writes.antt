@@ -48,7 +48,7 @@ linesIn (End task tick) old mark dropped board begin start finish end tasks =
     endedIn task old mark dropped board begin start finish end tasks
 linesIn (Drop task) old mark dropped board begin start finish end tasks =
     numbersLine (bytes "drop") (task ∷ at board (task - 1) ∷ [])
-linesIn (Refused code) old mark dropped board begin start finish end tasks = []
+linesIn (Refused code column) old mark dropped board begin start finish end tasks = []
 
 abbrev pub toldIn :
     Entry → Answer → List ℕ → List ℕ → List ℕ → List ℕ → List ℕ → List ℕ → List ℕ → List ℕ → ℕ → ℕ → ℕ → List ℕ
@@ -61,13 +61,19 @@ toldIn entry answer old mark dropped board begin start finish end tasks clock ea
 abbrev pub linesMost : Entry → ℕ → ℕ
 linesMost (End task tick) started = 52 + 52 * started
 linesMost (Drop task) started = 30
-linesMost (Refused code) started = 0
+linesMost (Refused code column) started = 0
 
 abbrev pub toldMost : Entry → Answer → ℕ → ℕ
 toldMost entry answer started = cond (isGranted answer) (linesMost entry started + 30) 41
+
+-- a column that an answer can say
+abbrev pub Short : Entry → Type 0
+Short (End task tick) = 0 ≤ tick
+Short (Drop task) = 0 ≤ task
+Short (Refused code column) = column < 4294967296
 
 -- what is accepted names a task
 abbrev pub Named : Entry → ℕ → Type 0
 Named (End task tick) tasks = (0 < task) × (task ≤ 64) × (tasks ≤ 64)
 Named (Drop task) tasks = (0 < task) × (task ≤ 64) × (0 ≤ tasks)
-Named (Refused code) tasks = 0 ≤ tasks
+Named (Refused code column) tasks = 0 ≤ tasks

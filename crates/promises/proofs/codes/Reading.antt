@@ -10,44 +10,33 @@ use lib.ListN.{length}
 use borrow.Author.Tests.{eq-eqb, ne-eqb}
 use Rattle.laws.proofs.Cases.{by-bool, by-eq}
 use Rattle.laws.proofs.Scan.{Found, Nothing, scan-cases}
-use Rattle.laws.specs.Lists.{anyOf, same}
-use Rattle.text.specs.Bytes.{bytes}
-use Rattle.text.specs.Line.{hasLine, skip, lineAt, fields, field}
+use Rattle.text.specs.Line.{hasLine, skip, lineAt}
+use Rattle.faults.specs.Faults.{worst, columnOf, faultOf}
 use Rattle.plan.specs.Answer.{refuse, granted, isGranted, isRefused}
 use Rattle.plan.specs.Task.{Task}
 use Rattle.plan.specs.Pairs.{overlap, sameBoard, clashByDrive, breaksAfter, pairCode, firstFault}
 use Rattle.plan.specs.Judged.{beginsAtZero, leastStart, tasksAnswer}
 use Rattle.plan.specs.Value.{zeroPlan}
-use Rattle.plan.specs.Read.{sizesOk, boardsOf, tasksOf, worst, lineCode, lineAnswer, linesAnswer, textTask, formAnswer, textAnswer, readingOf}
+use Rattle.plan.specs.Read.{sizesOk, boardsOf, tasksOf, lineAnswer, linesAnswer, textTask, formAnswer, textAnswer, readingOf}
 use Rattle.plan.specs.declared.Answer.{Answer}
 use Rattle.plan.specs.declared.Reading.{Reading}
-use Rattle.plan.proofs.FirstFault.{FirstPair, refused-code, fault-first, fault-granted}
+use Rattle.plan.proofs.FirstFault.{FirstPair, refused-code, passed-code, fault-first, fault-granted}
 use Rattle.plan.proofs.Judged.{begins-none, none-begins, start-under, start-met, tasks-late, tasks-pairs}
 use Rattle.plan.proofs.PlanTasks.{planOf-sized}
 use Rattle.plan.proofs.ReadOk.{form-ok, form-tasks, read-answer, read-accepted}
 use Rattle.book.specs.Sized.{SizedPlan}
-use Rattle.promises.specs.Says.{FirstFaulty, BeginsLate, ReadingSays}
+use Rattle.promises.specs.Says.{FirstFaulty, BeginsLate, codesOf, FirstFaultyLine, ReadingSays}
+use Rattle.promises.proofs.codes.Columns.{worst-kind, task-column, task-faultless}
 
-abbrev LineNumber : ℕ → Type 0
-LineNumber code = (code ≡ 0) ⊎ ((code ≡ 3) ⊎ (code ≡ 4))
-
-worst-number : (codes : List ℕ) → LineNumber (worst codes)
-unfolding worst
-worst-number codes =
-    by-bool (anyOf (eqb 3) codes) (λ e. rw e (inr (inl refl)))
-    (λ e. by-bool (anyOf (eqb 4) codes) (λ f. rw (e, f) (inr (inr refl))) (λ f. rw (e, f) (inl refl)))
-
-line-number : (s : List ℕ) (k : ℕ) → LineNumber (lineAnswer s k .code)
-unfolding lineAnswer lineCode
-line-number s k =
-    by-bool (not (hasLine (skip k s))) (λ e. rw e (inr (inl refl)))
-    (λ e.
-    by-bool (not (eqb (length (fields (lineAt s k))) 7 && same (field (lineAt s k) 0) (bytes "task"))) (λ f. rw (e, f) (inr (inl refl)))
-    (λ f. rw (e, f) (worst-number _)))
-
-line-says : (s : List ℕ) (k : ℕ) → lineAnswer s k ≡ refuse (lineAnswer s k .code) (k + 1) 0
-unfolding lineAnswer
+line-says :
+    (s : List ℕ) (k : ℕ)
+    → lineAnswer s k ≡ refuse (worst (codesOf s k)) (k + 1) (faultOf (lineAt s k) (codesOf s k) .column)
+unfolding lineAnswer faultOf
 line-says s k = refl
+
+line-column : (s : List ℕ) (k : ℕ) → worst (codesOf s k) ≢ 0 → faultOf (lineAt s k) (codesOf s k) .column ≡ columnOf (lineAt s k) (codesOf s k) (worst (codesOf s k))
+unfolding faultOf
+line-column s k n = rw (ne-eqb (worst (codesOf s k)) 0 n)
 
 abbrev PairNumber : ℕ → Type 0
 PairNumber code = (code ≡ 0) ⊎ ((6 ≤ code) × (code ≤ 8))
@@ -84,13 +73,23 @@ module _ (s : List ℕ) where
   unfolding linesAnswer
   lines-say r e = go (scan-cases isRefused granted (lineAnswer s) 1 (tasksOf s + 1))
     where
+      first-line-at :
+          (f : Found isRefused granted (lineAnswer s) 1 (tasksOf s + 1)) → worst (codesOf s (f .place)) ≢ 0
+          → FirstFaultyLine s (worst (codesOf s (f .place))) (f .place) (columnOf (lineAt s (f .place)) (codesOf s (f .place)) (worst (codesOf s (f .place))))
+      first-line-at f n = record {
+        from = f .from;
+        to = omega (arith, f .below);
+        earlier = λ j m p h l.
+            task-faultless (lineAt s j) (hasLine (skip j s)) (boardsOf s) (tasksOf s) j
+            (ap (λ (x : Answer). x .code) (sym (line-says s j)) ∙ passed-code (lineAnswer s j) (f .first j p h)) m l;
+        says = task-column (lineAt s (f .place)) (hasLine (skip (f .place) s)) (boardsOf s) (tasksOf s) (f .place) n;
+      }
+
       go : Found isRefused granted (lineAnswer s) 1 (tasksOf s + 1) ⊎ Nothing isRefused granted (lineAnswer s) 1 (tasksOf s + 1) → Says
       go (inl f) =
-          let n = refused-code (lineAnswer s (f .place)) (f .stops) in
-          let is = e ∙ f .is ∙ line-says s (f .place) in
-          ⊎-elim (λ z. absurd (n z))
-          (λ c. ReadingSays.task-line (lineAnswer s (f .place) .code) (f .place + 1) c (omega (arith, f .from)) (omega (arith, f .below)) (refused-reading _ is n))
-          (line-number s (f .place))
+          let n : worst (codesOf s (f .place)) ≢ 0 = λ z. refused-code (lineAnswer s (f .place)) (f .stops) (ap (λ (x : Answer). x .code) (line-says s (f .place)) ∙ z) in
+          let is = e ∙ f .is ∙ line-says s (f .place) ∙ ap (refuse (worst (codesOf s (f .place))) (f .place + 1)) (line-column s (f .place) n) in
+          ReadingSays.task-line (worst (codesOf s (f .place))) (f .place) _ (worst-kind (codesOf s (f .place)) n) (first-line-at f n) (refused-reading _ is n)
       go (inr f) = let z : _≡_ {A = ℕ} 0 1 = cc (rw (f .is) at r) in absurd (omega arith)
 
   -- what the search finds, with tasks counted from 1
@@ -179,7 +178,7 @@ reading-code s = go (readingOf s) (reading-says s)
     go r (ReadingSays.read e a) = rw e (inl (omega arith))
     go r (ReadingSays.too-long e) = rw e (inl (omega arith))
     go r (ReadingSays.first-line e) = rw e (inl (omega arith))
-    go r (ReadingSays.task-line code line c l h e) = rw e (inl (⊎-elim (λ q. omega arith) (λ q. omega arith) c))
+    go r (ReadingSays.task-line code k column c l e) = rw e (inl (⊎-elim (λ q. omega arith) (λ q. omega arith) c))
     go r (ReadingSays.more-bytes e) = rw e (inl (omega arith))
     go r (ReadingSays.late start l e) = rw e (inr refl)
     go r (ReadingSays.faulty-pair code a b f e) = rw e (inl (f .number .1))
@@ -196,7 +195,7 @@ reading-pair s h below = go (readingOf s) (reading-says s) h below
     go r (ReadingSays.read e a) h b = let z : 6 ≤ 0 = rw e at h in absurd (omega arith)
     go r (ReadingSays.too-long e) h b = let z : 6 ≤ 1 = rw e at h in absurd (omega arith)
     go r (ReadingSays.first-line e) h b = let z : 6 ≤ 2 = rw e at h in absurd (omega arith)
-    go r (ReadingSays.task-line code line c l m e) h b =
+    go r (ReadingSays.task-line code k column c l e) h b =
         let z : 6 ≤ code = rw e at h in ⊎-elim (λ q. absurd (omega arith)) (λ q. absurd (omega arith)) c
     go r (ReadingSays.more-bytes e) h b = let z : 6 ≤ 5 = rw e at h in absurd (omega arith)
     go r (ReadingSays.late start l e) h b = let z : 17 ≤ 8 = rw e at b in absurd (omega arith)
@@ -210,7 +209,7 @@ reading-start s h = go (readingOf s) (reading-says s) (omega (arith, h))
     go r (ReadingSays.read e a) h = let z : 17 ≤ 0 = rw e at h in absurd (omega arith)
     go r (ReadingSays.too-long e) h = let z : 17 ≤ 1 = rw e at h in absurd (omega arith)
     go r (ReadingSays.first-line e) h = let z : 17 ≤ 2 = rw e at h in absurd (omega arith)
-    go r (ReadingSays.task-line code line c l m e) h =
+    go r (ReadingSays.task-line code k column c l e) h =
         let z : 17 ≤ code = rw e at h in ⊎-elim (λ q. absurd (omega arith)) (λ q. absurd (omega arith)) c
     go r (ReadingSays.more-bytes e) h = let z : 17 ≤ 5 = rw e at h in absurd (omega arith)
     go r (ReadingSays.late start l e) h = rw e l
@@ -236,3 +235,20 @@ reading-sized s =
     by-bool (isGranted (textAnswer s))
     (λ e. rw e (planOf-sized (boardsOf s) (tasksOf s) (textTask s)))
     (λ e. rw e zero-sized)
+
+-- one refused with 3 or 4 names its first faulty line, and the column of that line's fault
+pub reading-column :
+    (s : List ℕ) → 3 ≤ readingOf s .answer .code → readingOf s .answer .code ≤ 4
+    → (k : ℕ) × (readingOf s .answer .first ≡ k + 1) × FirstFaultyLine s (readingOf s .answer .code) k (readingOf s .answer .second)
+reading-column s h below = go (readingOf s) (reading-says s) h below
+  where
+    go :
+        (r : Reading) → ReadingSays s r → 3 ≤ r .answer .code → r .answer .code ≤ 4
+        → (k : ℕ) × (r .answer .first ≡ k + 1) × FirstFaultyLine s (r .answer .code) k (r .answer .second)
+    go r (ReadingSays.read e a) h b = let z : 3 ≤ 0 = rw e at h in absurd (omega arith)
+    go r (ReadingSays.too-long e) h b = let z : 3 ≤ 1 = rw e at h in absurd (omega arith)
+    go r (ReadingSays.first-line e) h b = let z : 3 ≤ 2 = rw e at h in absurd (omega arith)
+    go r (ReadingSays.task-line code k column c l e) h b = rw e (k, refl, l)
+    go r (ReadingSays.more-bytes e) h b = let z : 5 ≤ 4 = rw e at b in absurd (omega arith)
+    go r (ReadingSays.late start l e) h b = let z : 17 ≤ 4 = rw e at b in absurd (omega arith)
+    go r (ReadingSays.faulty-pair code x y f e) h b = let z : code ≤ 4 = rw e at b in absurd (omega (arith, f .number .0))

@@ -1,19 +1,19 @@
 -- The one list of definitions that the tables compute with: a proof that says `unfolding computing` unfolds them all.
 use mathlib.Core.Bool.{Bool, true}
 use Rattle.laws.specs.Digits.{valueAfter, digitsFrom, digitsOf}
-use Rattle.laws.specs.Lists.{allOf, anyOf, rising, same}
+use Rattle.laws.specs.Lists.{allOf, anyOf, firstNot, rising, same}
 use Rattle.laws.specs.Scan.{scan}
 use Rattle.laws.specs.Each.{each, rows}
 use Rattle.laws.specs.Every.{every, any}
 use Rattle.laws.specs.Picked.{latest, least}
-use Rattle.laws.specs.Split.{indexOf, splitOn, consFirst, joinOn}
-use Rattle.text.specs.Number.{isNumber, numberOf}
-use Rattle.text.specs.Line.{skip}
+use Rattle.laws.specs.Split.{indexOf, skipOn, splitOn, consFirst, joinOn}
+use Rattle.text.specs.Number.{isNumber, numberStop, numberOf}
 use Rattle.text.specs.Items.{isList, listOf, isHold, holdOf, holdsOk, afterOk}
+use Rattle.faults.specs.Faults.{wordCode, endCode, worst, faultOf}
 use Rattle.plan.specs.Pairs.{clashByDrive, isListed, pairCode, rowFault, firstFault}
 use Rattle.plan.specs.Judged.{tasksAnswer}
 use Rattle.plan.specs.Value.{planOf, blankFrom, keptOk, rangesOk, isAccepted}
-use Rattle.plan.specs.Read.{sizesOk, lineTask, worst, lineCode, lineAnswer, linesAnswer, formAnswer, textAnswer, readingOf}
+use Rattle.plan.specs.Read.{sizesOk, lineTask, taskCodes, lineAnswer, linesAnswer, formAnswer, textAnswer, readingOf}
 use Rattle.theory.specs.Book.{allEnded, taskTest, soundTest}
 use Rattle.theory.specs.Report.{nonePast, reportCode, dropCode, goes, skipTimes, next, opened}
 use Rattle.theory.specs.Figure.{minimumEarly}
@@ -24,7 +24,7 @@ use Rattle.book.specs.Open.{openedOn, openingOf}
 use Rattle.book.specs.Report.{codeOf, reportAnswer, nextBook, reportedOf}
 use Rattle.book.specs.Drop.{dropCodeOf, dropAnswer, droppedIn, droppedOf}
 use Rattle.book.specs.Early.{figureOf}
-use Rattle.entries.specs.Entries.{namesTask, endEntry, dropEntry, entryOf, nextEntry}
+use Rattle.entries.specs.Entries.{endCodes, dropCodes, entryOf, nextEntry}
 use Rattle.lines.specs.Lines.{numbersLine}
 use Rattle.log.specs.Lines.{startLines}
 use Rattle.log.specs.Log.{openLog, toldOf, toldLog, endsLog, logOf}
@@ -36,13 +36,14 @@ use Rattle.promises.specs.tables.Weaker.{planTwo}
 -- by crate: laws, text, plan, theory, book with those below it, log with those below it, promises
 unfoldable pub computing : Bool
 unfolding
-    valueAfter digitsFrom digitsOf allOf anyOf rising same scan each rows every any latest least indexOf splitOn consFirst joinOn
-    isNumber numberOf skip isList listOf isHold holdOf holdsOk afterOk
+    valueAfter digitsFrom digitsOf allOf anyOf firstNot rising same scan each rows every any latest least indexOf skipOn splitOn consFirst
+    joinOn
+    isNumber numberStop numberOf isList listOf isHold holdOf holdsOk afterOk wordCode endCode worst faultOf
     clashByDrive isListed pairCode rowFault firstFault tasksAnswer planOf blankFrom keptOk rangesOk isAccepted
-    sizesOk lineTask worst lineCode lineAnswer linesAnswer formAnswer textAnswer readingOf
+    sizesOk lineTask taskCodes lineAnswer linesAnswer formAnswer textAnswer readingOf
     allEnded taskTest soundTest nonePast reportCode dropCode goes skipTimes next opened minimumEarly
     laid soundOn layOut openedOn openingOf codeOf reportAnswer nextBook reportedOf
     dropCodeOf dropAnswer droppedIn droppedOf figureOf
-    namesTask endEntry dropEntry entryOf nextEntry numbersLine startLines openLog toldOf toldLog endsLog logOf
+    endCodes dropCodes entryOf nextEntry numbersLine startLines openLog toldOf toldLog endsLog logOf
     bookAfter planA onlyEnds firstOnly startOn ownBoard planFour startFree shortcut planTwo
 computing = true

@@ -1,13 +1,11 @@
 -- Sentences near to the promises are false: on plan A, and on two tasks of which the second is planned first.
-use Prim.Native.Nat.{ℕ}
 use native.Mathlib.Omega.{arith}
 use mathlib.Core.Path.{_≡_, refl}
 use mathlib.Core.Bool.{true}
 use mathlib.Core.Logic.{⊎-elim}
-use mathlib.Core.List.{[], _∷_}
+use mathlib.Core.List.{[]}
 use Rattle.plan.specs.Pairs.{clash}
 use Rattle.plan.specs.Value.{at, taskAt, isAccepted}
-use Rattle.plan.specs.declared.Plan.{Plan}
 use Rattle.book.specs.Sized.{SizedPlan}
 use Rattle.book.specs.Report.{reportedOf}
 use Rattle.book.specs.Early.{figureOf}

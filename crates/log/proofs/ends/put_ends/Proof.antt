@@ -3,8 +3,7 @@ use native.Mathlib.Omega.{arith}
 use lib.ListN.{length}
 use Rattle.lines.proofs.WriteLaws.{wrote-length}
 use Rattle.log.proofs.ReportLaws.{told-names}
-use Rattle.log.proofs.EndsLaws.{Walk, walk-start, walk-end, walk-stops, walk-less, walk-goes}
-use borrow.Author.Needs.{needs}
+use Rattle.log.proofs.EndsLaws.{Walk, walk-start, walk-short, walk-end, walk-stops, walk-less, walk-goes}
 use Rattle.log.proofs.ends.put_ends.Statement.{statement}
 use Rattle.log.proofs.ends.put_ends.Tie as tie
 
@@ -21,7 +20,7 @@ next-entry-requires : tie.Need-next-entry-requires Inv-loop μ-loop
 next-entry-requires c κs = tt
 
 tell-requires : tie.Need-tell-requires Inv-loop μ-loop
-tell-requires c κs = tt
+tell-requires c κs = walk-short (c .before .before .loop .inv) (c .before .before .before .before .before .pre .short) (c .next-entry .ensures)
 
 put-told-requires : tie.Need-put-told-requires Inv-loop μ-loop
 put-told-requires c κs = let w = c .before .before .before .before .before .before .before .before .before .before .before .before .before .before .before .loop .inv in (omega (arith, w .kept, w .room, c .before .before .before .before .before .before .before .before .before .before .before .before .before .before .before .before .before .before .pre .room), told-names _ _ _ (c .before .before .before .before .before .before .before .before .before .before .before .before .tell .ensures))

@@ -5,7 +5,6 @@ use Rattle.lines.proofs.WriteLaws.{wrote-line, wrote-length}
 use Rattle.log.specs.private.Writes.{starting}
 use Rattle.log.proofs.StartLaws.{count-below}
 use Rattle.log.proofs.ToldLaws.{opened-wrote}
-use borrow.Author.Needs.{needs}
 use Rattle.log.proofs.told.put_opened.Statement.{statement}
 use Rattle.log.proofs.told.put_opened.Tie as tie
 

@@ -5,7 +5,6 @@ use Rattle.laws.specs.Picked.{count}
 use Rattle.log.specs.private.Writes.{starting}
 use Rattle.log.proofs.StartLaws.{count-below}
 use Rattle.log.proofs.ToldLaws.{told-no, told-yes}
-use borrow.Author.Needs.{needs}
 use Rattle.log.proofs.told.put_told.Statement.{statement}
 use Rattle.log.proofs.told.put_told.Tie as tie
 

@@ -1,6 +1,5 @@
 use Prim.{tt}
 use Rattle.log.proofs.ToldLaws.{shown-refused, shown-granted}
-use borrow.Author.Needs.{needs}
 use Rattle.log.proofs.told.show.Statement.{statement}
 use Rattle.log.proofs.told.show.Tie as tie
 

@@ -1,5 +1,5 @@
 use Prim.{tt}
-use Rattle.log.proofs.ToldLaws.{tell-end, tell-drop, tell-refused}
+use Rattle.log.proofs.ToldLaws.{tell-end, tell-drop, tell-refused, short-column}
 use Rattle.log.proofs.BookLaws.{report-stays, drop-stays}
 use borrow.Author.Needs.{needs}
 use Rattle.log.proofs.told.tell.Statement.{statement}
@@ -26,6 +26,9 @@ show-requires-2 c κs = drop-stays _ _ (c .drop .ensures)
 enum-known-entry-3 : tie.Need-enum-known-entry-3
 enum-known-entry-3 c = search needs
 
+cast-refuse : tie.Need-cast-refuse
+cast-refuse c = record { fits = short-column (c .before .entry3 .given .1) (c .before .before .before .pre) }
+
 refuse-requires : tie.Need-refuse-requires
 refuse-requires c κs = tt
 
@@ -49,6 +52,7 @@ tell-spec =
     drop-requires
     show-requires-2
     enum-known-entry-3
+    cast-refuse
     refuse-requires
     returns
     returns-2

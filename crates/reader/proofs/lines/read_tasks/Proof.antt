@@ -2,7 +2,7 @@
 use Prim.Native.Nat.{_-_, _≤_}
 use mathlib.Core.Path.{ap, _∙_}
 use Rattle.reader.proofs.FormLaws.{refusedReading}
-use Rattle.reader.proofs.TaskLaws.{Going, going-start, past-line, going-refused, going-turn, going-more, going-end, board-small, holds-room, after-room, holds-whole, after-whole}
+use Rattle.reader.proofs.TaskLaws.{Going, going-start, past-line, going-refused, column-small, going-turn, going-more, going-end, board-small, holds-room, after-room, holds-whole, after-whole}
 use native.Mathlib.Omega.{arith}
 use borrow.Author.Needs.{needs}
 use Rattle.reader.proofs.lines.read_tasks.Statement.{statement}
@@ -30,10 +30,16 @@ add-next-line c = search needs
 
 next-line-requires : tie.Need-next-line-requires Inv-loop μ-loop
 next-line-requires c κs =
-    let f = c .before .before .before .before .before .pre in (f .few-boards, f .few-tasks, omega (arith, f .few-tasks), c .find .ensures)
+    let f = c .before .before .before .before .before .pre in (f .few-tasks, c .find .ensures)
+
+cast-answer-of : tie.Need-cast-answer-of Inv-loop μ-loop
+cast-answer-of c = search needs
 
 add-answer-of : tie.Need-add-answer-of Inv-loop μ-loop
 add-answer-of c = search needs
+
+cast-answer-of-2 : tie.Need-cast-answer-of-2 Inv-loop μ-loop
+cast-answer-of-2 c = record { fits = column-small _ _ (c .before .before .before .before .before .before .before .before .loop .inv .1) (c .before .before .before .before .before .before .before .before .before .before .before .pre) (c .before .before .before .before .before .before .before .loop-test .taken) (c .before .before .before .before .before .next-line .ensures) }
 
 answer-of-requires : tie.Need-answer-of-requires Inv-loop μ-loop
 answer-of-requires c κs = search needs
@@ -44,13 +50,13 @@ refused-requires c κs = search needs
 returns : tie.Need-returns Inv-loop μ-loop
 returns c =
     c .refused .ensures ∙ ap refusedReading (c .before .answer-of .ensures)
-    ∙ going-refused _ _ (c .before .before .before .before .before .before .before .loop .inv .1) (c .before .before .before .before .before .before .before .before .before .before .pre) (c .before .before .before .before .before .before .loop-test .taken) (c .before .before .before .before .next-line .ensures) (c .before .before .if1 .taken)
+    ∙ going-refused _ _ (c .before .before .before .before .before .before .before .before .before .before .loop .inv .1) (c .before .before .before .before .before .before .before .before .before .before .before .before .before .pre) (c .before .before .before .before .before .before .before .before .before .loop-test .taken) (c .before .before .before .before .before .before .before .next-line .ensures) (c .before .before .before .before .if1 .taken)
 
 cast-i : tie.Need-cast-i Inv-loop μ-loop
 cast-i c = search needs
 
 cast-board : tie.Need-cast-board Inv-loop μ-loop
-cast-board c = record { fits = board-small _ _ (c .before .before .before .before .before .before .loop .inv .1) (c .before .before .before .before .before .before .before .before .before .pre) (c .before .before .before .before .before .loop-test .taken) (c .before .before .before .next-line .ensures) (c .before .if1 .left) }
+cast-board c = record { fits = board-small _ _ (c .before .before .before .before .before .before .before .loop .inv .1) (c .before .before .before .before .before .before .before .before .before .before .pre) (c .before .before .before .before .before .before .loop-test .taken) (c .before .before .before .before .next-line .ensures) (c .before .if1 .left) }
 
 array-write-board : tie.Need-array-write-board Inv-loop μ-loop
 array-write-board c = search needs
@@ -68,28 +74,28 @@ array-write-finish : tie.Need-array-write-finish Inv-loop μ-loop
 array-write-finish c = search needs
 
 slice-aggregate-put-items : tie.Need-slice-aggregate-put-items Inv-loop μ-loop
-slice-aggregate-put-items c = holds-whole _ _ (c .before .before .before .before .before .before .before .loop .inv .1)
+slice-aggregate-put-items c = holds-whole _ _ (c .before .before .before .before .before .before .before .before .loop .inv .1)
 
 mul-put-items : tie.Need-mul-put-items Inv-loop μ-loop
 mul-put-items c = search needs
 
 put-items-requires : tie.Need-put-items-requires Inv-loop μ-loop
-put-items-requires c κs = holds-room _ _ (c .before .before .before .before .before .before .before .loop .inv .1) (c .before .before .before .before .before .before .before .before .before .before .pre) (c .before .before .before .before .before .before .loop-test .taken) (c .before .before .before .before .next-line .ensures) (c .before .before .if1 .left)
+put-items-requires c κs = holds-room _ _ (c .before .before .before .before .before .before .before .before .loop .inv .1) (c .before .before .before .before .before .before .before .before .before .before .before .pre) (c .before .before .before .before .before .before .before .loop-test .taken) (c .before .before .before .before .before .next-line .ensures) (c .before .before .if1 .left)
 
 slice-aggregate-put-items-2 : tie.Need-slice-aggregate-put-items-2 Inv-loop μ-loop
-slice-aggregate-put-items-2 c = after-whole _ _ (c .before .before .before .before .before .before .before .before .before .before .loop .inv .1)
+slice-aggregate-put-items-2 c = after-whole _ _ (c .before .before .before .before .before .before .before .before .before .before .before .loop .inv .1)
 
 mul-put-items-2 : tie.Need-mul-put-items-2 Inv-loop μ-loop
 mul-put-items-2 c = search needs
 
 put-items-requires-2 : tie.Need-put-items-requires-2 Inv-loop μ-loop
-put-items-requires-2 c κs = after-room _ _ (c .before .before .before .before .before .before .before .before .before .before .loop .inv .1) (c .before .before .before .before .before .before .before .before .before .before .before .before .before .pre) (c .before .before .before .before .before .before .before .before .before .loop-test .taken) (c .before .before .before .before .before .before .before .next-line .ensures) (c .before .before .before .before .before .if1 .left)
+put-items-requires-2 c κs = after-room _ _ (c .before .before .before .before .before .before .before .before .before .before .before .loop .inv .1) (c .before .before .before .before .before .before .before .before .before .before .before .before .before .before .pre) (c .before .before .before .before .before .before .before .before .before .before .loop-test .taken) (c .before .before .before .before .before .before .before .before .next-line .ensures) (c .before .before .before .before .before .if1 .left)
 
 past-requires : tie.Need-past-requires Inv-loop μ-loop
 past-requires c κs = search needs
 
 add-k : tie.Need-add-k Inv-loop μ-loop
-add-k c = record { fits = omega (arith, c .before .before .before .before .before .before .before .before .before .before .before .before .before .before .before .before .pre .few-tasks, c .before .before .before .before .before .before .before .before .before .before .before .before .loop-test .taken) }
+add-k c = record { fits = omega (arith, c .before .before .before .before .before .before .before .before .before .before .before .before .before .before .before .before .before .pre .few-tasks, c .before .before .before .before .before .before .before .before .before .before .before .before .before .loop-test .taken) }
 
 loop-less : tie.Need-loop-less Inv-loop μ-loop
 loop-less c = search needs
@@ -97,8 +103,8 @@ loop-less c = search needs
 loop-again : tie.Need-loop-again Inv-loop μ-loop
 loop-again c = (
   search needs,
-  going-turn _ _ (c .before .before .before .before .before .before .before .before .before .before .before .before .before .loop .inv .1) (c .before .before .before .before .before .before .before .before .before .before .before .before .before .before .before .before .pre) (c .before .before .before .before .before .before .before .before .before .before .before .before .loop-test .taken) (c .before .before .before .before .before .before .before .before .before .before .next-line .ensures) (c .before .before .before .before .before .before .before .before .if1 .left)
-      (c .before .before .before .before .before .put-items .ensures) (c .before .before .put-items2 .ensures) (past-line _ (c .before .before .before .before .before .before .before .before .before .before .before .find .ensures) (c .past .ensures)),
+  going-turn _ _ (c .before .before .before .before .before .before .before .before .before .before .before .before .before .before .loop .inv .1) (c .before .before .before .before .before .before .before .before .before .before .before .before .before .before .before .before .before .pre) (c .before .before .before .before .before .before .before .before .before .before .before .before .before .loop-test .taken) (c .before .before .before .before .before .before .before .before .before .before .before .next-line .ensures) (c .before .before .before .before .before .before .before .before .if1 .left)
+      (c .before .before .before .before .before .put-items .ensures) (c .before .before .put-items2 .ensures) (past-line _ (c .before .before .before .before .before .before .before .before .before .before .before .before .find .ensures) (c .past .ensures)),
 )
 
 add-answer-of-2 : tie.Need-add-answer-of-2 Inv-loop μ-loop
@@ -118,11 +124,11 @@ returns-2 c =
 answer-of-requires-3 : tie.Need-answer-of-requires-3 Inv-loop μ-loop
 answer-of-requires-3 c κs = search needs
 
-cast-t37 : tie.Need-cast-t37 Inv-loop μ-loop
-cast-t37 c = search needs
+cast-t40 : tie.Need-cast-t40 Inv-loop μ-loop
+cast-t40 c = search needs
 
-cast-t38 : tie.Need-cast-t38 Inv-loop μ-loop
-cast-t38 c = search needs
+cast-t41 : tie.Need-cast-t41 Inv-loop μ-loop
+cast-t41 c = search needs
 
 returns-3 : tie.Need-returns-3 Inv-loop μ-loop
 returns-3 c = rw (c .answer-of3 .ensures) (going-end _ _ (c .before .before .before .loop .inv .1) (c .before .before .before .before .before .before .pre) (omega arith) (c .before .if2 .left))
@@ -138,7 +144,9 @@ read-tasks-spec =
     find-requires
     add-next-line
     next-line-requires
+    cast-answer-of
     add-answer-of
+    cast-answer-of-2
     answer-of-requires
     refused-requires
     returns
@@ -164,6 +172,6 @@ read-tasks-spec =
     refused-requires-2
     returns-2
     answer-of-requires-3
-    cast-t37
-    cast-t38
+    cast-t40
+    cast-t41
     returns-3)

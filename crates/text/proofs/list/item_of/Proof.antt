@@ -1,7 +1,7 @@
 -- `text::list::item_of` meets its contract: an item by its letter and its number.
 use borrow.Author.Needs.{needs}
 use borrow.Author.Tests.{not-false}
-use Rattle.text.proofs.Rise.{item-some, item-plain, item-shared, item-alone}
+use Rattle.text.proofs.ItemLaws.{item-some, item-plain, item-shared, item-alone}
 use Rattle.text.proofs.list.item_of.Statement.{statement}
 use Rattle.text.proofs.list.item_of.Tie as tie
 

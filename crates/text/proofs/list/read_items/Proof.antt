@@ -10,7 +10,8 @@ use Rattle.laws.specs.Split.{splitOn}
 use Rattle.text.specs.Items.{COMMA}
 use Rattle.text.specs.private.Lettered.{isItem}
 use Rattle.text.proofs.Parts.{after-less, past-part}
-use Rattle.text.proofs.Rise.{itemsLeft, speltRead, items-start, all-spelt, refused-is, refuse, keep-last, keep-more, number-spelt, value-item, value-is, over-is, refuse-over, passed, item-digits, first-passes, parts-next, parts-end}
+use Rattle.text.proofs.ItemLaws.{number-spelt, value-item, value-is, over-is, item-digits}
+use Rattle.text.proofs.Rise.{itemsLeft, speltRead, items-start, all-spelt, refused-is, refuse, keep-last, keep-more, refuse-over, passed, first-passes, parts-next, parts-end}
 use Rattle.text.proofs.list.read_items.Statement.{statement}
 use Rattle.text.proofs.list.read_items.Tie as tie
 
@@ -20,13 +21,13 @@ Inv-loop s lettered high items₀ count₀ last₀ rest₀ items count last rest
     × (last ≤ high)
     × (length items ≡ 64)
     × (allOf (isItem lettered) (splitOn COMMA rest) ≡ allOf (isItem lettered) (splitOn COMMA s))
-    × (itemsLeft lettered high items count last (splitOn COMMA rest) ≡ speltRead lettered high (splitOn COMMA s))
+    × (itemsLeft lettered high (length s) items count last (splitOn COMMA rest) ≡ speltRead lettered high (length s) (splitOn COMMA s))
 
 abbrev μ-loop : tie.MeasureT-loop
 μ-loop s lettered high items₀ count₀ last₀ rest₀ items count last rest = length rest
 
 loop-holds : tie.Need-loop-holds Inv-loop μ-loop
-loop-holds c = (omega arith, omega arith, search needs, refl, items-start _ _ _)
+loop-holds c = (omega arith, omega arith, search needs, refl, items-start _ _ _ _)
 
 part-before-requires : tie.Need-part-before-requires Inv-loop μ-loop
 part-before-requires c κs = search needs
@@ -45,11 +46,11 @@ returns c =
     let r = c .before .before in
     let part = r .before .part-before .ensures in
     c .refused-items .ensures
-    ∙ refused-is _ _ _ _ (r .before .before .loop .inv .3)
+    ∙ refused-is _ _ _
     (λ t.
-    let spelt = first-passes (isItem _) _ _ part t in
+    let spelt = first-passes (isItem _) _ _ part (r .before .before .loop .inv .3 ∙ t) in
     let over = over-is _ _ (item-digits _ _ spelt) (number-spelt _ _ _ spelt (r .item-number .ensures)) (c .before .match .keys2) in
-    refuse _ _ _ _ _ _ _ _ _ part refl (r .before .before .loop .inv .4) (refuse-over _ _ _ (r .before .before .before .before .pre) over))
+    refuse _ _ _ _ _ _ _ _ _ _ part refl (r .before .before .loop .inv .4) (refuse-over _ _ _ (r .before .before .before .before .pre) over))
 
 refused-items-requires-2 : tie.Need-refused-items-requires-2 Inv-loop μ-loop
 refused-items-requires-2 c κs = search needs
@@ -59,19 +60,19 @@ returns-2 c =
     let r = c .before .before .before in
     let part = r .before .before .before .part-before .ensures in
     let number = r .before .before .item-number .ensures in
-    let spelt = value-item _ _ _ _ number (r .n .given .1) in
+    let spelt = value-item _ _ _ _ _ number (r .n .given .1) in
     c .refused-items2 .ensures
-    ∙ refused-is _ _ _ _ (r .before .before .before .before .loop .inv .3)
-    (λ t. refuse _ _ _ _ _ _ _ _ _ part (value-is _ _ _ (number-spelt _ _ _ spelt number) (r .n .given .1)) (r .before .before .before .before .loop .inv .4) (c .before .if1 .taken))
+    ∙ refused-is _ _ _
+    (λ t. refuse _ _ _ _ _ _ _ _ _ _ part (value-is _ _ _ _ (number-spelt _ _ _ spelt number) (r .n .given .1)) (r .before .before .before .before .loop .inv .4) (c .before .if1 .taken))
 
 item-of-requires : tie.Need-item-of-requires Inv-loop μ-loop
 item-of-requires c κs =
     let r = c .before .before in
     let number = r .before .before .item-number .ensures in
-    let spelt = value-item _ _ _ _ number (r .n .given .1) in
+    let spelt = value-item _ _ _ _ _ number (r .n .given .1) in
     let p = passed (r .before .before .before .before .loop .last) (r .before .before .before .before .before .before .args .high) _ (c .if1 .left) in (
       omega arith,
-      value-is _ _ _ (number-spelt _ _ _ spelt number) (r .n .given .1),
+      value-is _ _ _ _ (number-spelt _ _ _ spelt number) (r .n .given .1),
       spelt,
     )
 
@@ -87,9 +88,9 @@ returns-3 c =
     let r = c .before .before .before .before in
     let part = r .before .before .before .part-before .ensures in
     let number = r .before .before .item-number .ensures in
-    let spelt = value-item _ _ _ _ number (r .n .given .1) in
-    keep-last _ _ _ _ _ _ _ _ _ part
-    (value-is _ _ _ (number-spelt _ _ _ spelt number) (r .n .given .1))
+    let spelt = value-item _ _ _ _ _ number (r .n .given .1) in
+    keep-last _ _ _ _ _ _ _ _ _ _ part
+    (value-is _ _ _ _ (number-spelt _ _ _ spelt number) (r .n .given .1))
     (r .before .before .before .before .loop .inv .4)
     _
     (c .before .before .if1 .left)
@@ -111,15 +112,15 @@ loop-again c =
     let r = c .before .before .before .before .before in
     let part = r .before .before .before .part-before .ensures in
     let number = r .before .before .item-number .ensures in
-    let spelt = value-item _ _ _ _ number (r .n .given .1) in
+    let spelt = value-item _ _ _ _ _ number (r .n .given .1) in
     let next = past-part COMMA _ _ part _ (c .past .ensures) in
     let p = passed (r .before .before .before .before .loop .last) (r .before .before .before .before .before .before .args .high) _ (c .before .before .before .if1 .left) in (
       omega arith,
       p .1,
       simp length-set (r .before .before .before .before .loop .inv .2),
       parts-next (isItem _) _ _ _ part (r .before .before .before .before .loop .inv .3) _ true (sym spelt) refl (c .before .if2 .left) next,
-      keep-more _ _ _ _ _ _ _ _ _ part
-          (value-is _ _ _ (number-spelt _ _ _ spelt number) (r .n .given .1))
+      keep-more _ _ _ _ _ _ _ _ _ _ part
+          (value-is _ _ _ _ (number-spelt _ _ _ spelt number) (r .n .given .1))
           (r .before .before .before .before .loop .inv .4)
           _
           _

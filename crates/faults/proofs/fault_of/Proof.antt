@@ -1,0 +1,41 @@
+-- `faults::fault_of` meets its contract: each return by the tests that led there.
+use borrow.Author.Needs.{needs}
+use Rattle.faults.proofs.FaultLaws.{fault-three, fault-four, fault-none}
+use Rattle.faults.proofs.fault_of.Statement.{statement}
+use Rattle.faults.proofs.fault_of.Tie as tie
+
+find-requires : tie.Need-find-requires
+find-requires c κs = search needs
+
+column-of-requires : tie.Need-column-of-requires
+column-of-requires c κs = search needs
+
+returns : tie.Need-returns
+returns c = fault-three _ _ (c .before .before .find .ensures) (c .before .if1 .taken) (c .column-of .ensures)
+
+find-requires-2 : tie.Need-find-requires-2
+find-requires-2 c κs = search needs
+
+column-of-requires-2 : tie.Need-column-of-requires-2
+column-of-requires-2 c κs = search needs
+
+returns-2 : tie.Need-returns-2
+returns-2 c =
+    fault-four _ _ (c .before .before .before .before .find .ensures) (c .before .before .before .if1 .left) (c .before .before .find2 .ensures)
+    (c .before .if2 .taken) (c .column-of2 .ensures)
+
+returns-3 : tie.Need-returns-3
+returns-3 c =
+    fault-none _ _ (c .before .before .before .find .ensures) (c .before .before .if1 .left) (c .before .find2 .ensures) (c .if2 .left)
+
+pub fault-of-spec : {M : Type 1} → statement M
+fault-of-spec =
+    tie.close
+    (tie.spec
+    find-requires
+    column-of-requires
+    returns
+    find-requires-2
+    column-of-requires-2
+    returns-2
+    returns-3)
