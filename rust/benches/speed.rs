@@ -4,8 +4,9 @@
 //! `cargo bench` takes the times; `cargo test` only calls everything once, and
 //! so does `cargo bench` where the proved implementation runs under an emulator.
 
-use dispatcher::sample::events::{droppable_tasks, must_take, passed_tasks, Event};
-use dispatcher::sample::plans::full_plan;
+use dispatcher::sample::events::{droppable_tasks, event_line, must_take, passed_tasks, Event};
+use dispatcher::sample::mornings::random_morning;
+use dispatcher::sample::plans::{full_plan, with_even_ready_ticks};
 use dispatcher::sample::reports::{accepted_report, Report};
 use dispatcher::sample::{announced_seed, Rng};
 use dispatcher::text::plan_text;
@@ -93,9 +94,9 @@ fn half_a_morning(rng: &mut Rng, plan: &Plan) -> (Book, Report) {
     (book, next)
 }
 
-fn time_book(rounds: u32, rng: &mut Rng, tasks: u8) {
-    let plan = full_plan(rng, tasks);
-    let (book, (task, tick)) = half_a_morning(rng, &plan);
+fn time_book(rounds: u32, rng: &mut Rng, plan: &Plan) {
+    let tasks = plan.tasks;
+    let (book, (task, tick)) = half_a_morning(rng, plan);
     assert_eq!(report(&book, task, tick).answer, Answer::ACCEPTED);
     time_both(
         rounds,
@@ -116,18 +117,23 @@ fn text_of_morning(name: &str) -> Vec<u8> {
     fs::read(format!("{folder}/{name}")).expect("the example has its texts")
 }
 
-/// The program's whole work on the example's morning: two texts in memory, the log to memory.
-fn time_morning(rounds: u32) {
-    let (plan, ends) = (text_of_morning("plan.txt"), text_of_morning("ends.txt"));
+/// The program's whole work: two texts in memory, the log to memory.
+fn time_run(rounds: u32, what: &str, plan: &[u8], ends: &[u8]) {
     let mut out = vec![0; proved::LONGEST_LOG];
-    let length = proved::write_log(&plan, &ends, &mut out);
-    assert!(out[..length] == run_log(&plan, &ends));
+    let length = proved::write_log(plan, ends, &mut out);
+    assert!(out[..length] == run_log(plan, ends));
     time_both(
         rounds,
-        "whole run, full morning",
-        || proved::write_log(black_box(&plan), black_box(&ends), black_box(&mut out)),
-        || run_log(black_box(&plan), black_box(&ends)).len(),
+        what,
+        || proved::write_log(black_box(plan), black_box(ends), black_box(&mut out)),
+        || run_log(black_box(plan), black_box(ends)).len(),
     );
+}
+
+fn time_random_morning(rounds: u32, rng: &mut Rng, plan: &Plan) {
+    let events = random_morning(rng, plan).events.into_iter();
+    let ends: Vec<u8> = events.flat_map(event_line).collect();
+    time_run(rounds, "whole run, 64 tasks", &plan_text(plan), &ends);
 }
 
 /// A fresh book with a quarter of its tasks dropped, those that follow each
@@ -159,9 +165,8 @@ fn report_with_most_passing(rng: &mut Rng, plan: &Plan) -> (Book, Report, usize)
     best
 }
 
-fn time_drops(rounds: u32, rng: &mut Rng) {
-    let plan = full_plan(rng, 64);
-    let (book, (task, tick), passed) = report_with_most_passing(rng, &plan);
+fn time_drops(rounds: u32, rng: &mut Rng, plan: &Plan) {
+    let (book, (task, tick), passed) = report_with_most_passing(rng, plan);
     assert!(passed >= 3, "no chain of dropped tasks");
     time_both(
         rounds,
@@ -189,10 +194,19 @@ fn main() {
     } else if times_wanted {
         println!("no times: the proved side runs under an emulator here, where they say nothing");
     }
-    time_morning(rounds);
+    let (plan, ends) = (text_of_morning("plan.txt"), text_of_morning("ends.txt"));
+    time_run(rounds, "whole run, full morning", &plan, &ends);
     time_texts(rounds, &full_plan(&mut rng, 64));
     for tasks in [8, 16, 32, 64] {
-        time_book(rounds, &mut rng, tasks);
+        let plan = full_plan(&mut rng, tasks);
+        time_book(rounds, &mut rng, &plan);
     }
-    time_drops(rounds, &mut rng);
+    let plan = full_plan(&mut rng, 64);
+    time_drops(rounds, &mut rng, &plan);
+    println!("edition 2");
+    let awaited = with_even_ready_ticks(&plan);
+    time_random_morning(rounds, &mut rng, &awaited);
+    time_texts(rounds, &awaited);
+    time_book(rounds, &mut rng, &awaited);
+    time_drops(rounds, &mut rng, &awaited);
 }

@@ -1,6 +1,9 @@
 //! The book of a morning: opening it, taking reports and drops, the
 //! minimum-early figure.
 //!
+//! A task whose start is known is marked as running also while that start lies
+//! past the clock.
+//!
 //! Settled here where the document is silent: a mark other than waiting,
 //! running and ended makes a book unsound, and so does a `dropped` other than
 //! 0 and 1; a report's tick above 1,000,000 is no fault of its own and meets
@@ -72,8 +75,7 @@ pub fn drop_task(book: &Book, task: u32) -> Dropped {
     Dropped { answer, book: next }
 }
 
-/// M, the least planned start less start over the running tasks, 0 if none
-/// runs; or refusal 9 and 0.
+/// M, the least of the tasks' terms, 0 if there is none; or refusal 9 and 0.
 pub fn minimum_early(book: &Book) -> Figure {
     if !sound(book) {
         return Figure {
@@ -81,11 +83,20 @@ pub fn minimum_early(book: &Book) -> Figure {
             early: 0,
         };
     }
-    let running = (0..usize::from(book.tasks)).filter(|&i| book.mark[i] == RUNNING);
-    let ticks_early = running.map(|i| book.begin[i] - book.start[i]);
+    let terms = (0..usize::from(book.tasks)).filter_map(|i| early_term(book, i));
     Figure {
         answer: Answer::ACCEPTED,
-        early: ticks_early.min().unwrap_or(0),
+        early: terms.min().unwrap_or(0),
+    }
+}
+
+/// How early task index i is, if it is at work; how early it can be at most, if
+/// it is still to come and not dropped.
+fn early_term(book: &Book, i: usize) -> Option<u32> {
+    match (book.mark[i], book.dropped[i]) {
+        (RUNNING, _) if book.start[i] <= book.clock => Some(book.begin[i] - book.start[i]),
+        (ENDED, _) | (_, DROPPED) => None,
+        _ => Some(book.begin[i] - book.ready[i]),
     }
 }
 
@@ -134,18 +145,21 @@ fn other_limit_passed(book: &Book, i: usize, tick: u32) -> bool {
         .any(|j| j != i && book.mark[j] == RUNNING && limit(book, j) < u64::from(tick))
 }
 
-/// Starts, at the clock, every waiting task whose awaited tasks have all ended.
-/// A dropped one also ends there, and those it held back may follow.
+/// Gives a start to every waiting task whose awaited tasks have all ended, the
+/// last of them at the clock: there or, if that is later, at its ready tick. A
+/// dropped one starts and ends at the clock, and those it held back may follow.
 fn let_go_all_that_can(book: &mut Book) {
     for i in waiting_by_planned_start(book) {
         if !all_awaited_ended(book, i) {
             continue;
         }
-        book.mark[i] = RUNNING;
-        book.start[i] = book.clock;
         if book.dropped[i] == DROPPED {
             book.mark[i] = ENDED;
+            book.start[i] = book.clock;
             book.end[i] = book.clock;
+        } else {
+            book.mark[i] = RUNNING;
+            book.start[i] = book.clock.max(book.ready[i]);
         }
     }
 }
@@ -209,14 +223,16 @@ fn task_is_sound(book: &Book, i: usize) -> bool {
     }
 }
 
-/// The start is 0 for a task that waits for nobody, else the latest awaited end.
+/// The start is the later of the ready tick, which counts for nothing in a
+/// dropped task, and the latest awaited end, if any is awaited.
 fn started_by_the_rule(book: &Book, i: usize) -> bool {
-    let mut latest_end = 0;
+    let is_dropped = book.dropped[i] == DROPPED;
+    let mut start = if is_dropped { 0 } else { book.ready[i] };
     for j in awaited(book, i) {
         if book.mark[j] != ENDED {
             return false;
         }
-        latest_end = latest_end.max(book.end[j]);
+        start = start.max(book.end[j]);
     }
-    book.start[i] == latest_end
+    book.start[i] == start
 }

@@ -5,8 +5,8 @@
 //! to its first empty place, so that it answers for any bytes.
 
 use crate::values::{
-    drive_of, is_exclusive, items, refusal, Answer, Plan, LAST_TICK, MOST_BOARDS, MOST_DRIVES,
-    MOST_TASKS,
+    drive_of, is_exclusive, items, refusal, Answer, Plan, EDITION_1, EDITION_2, LAST_TICK,
+    MOST_BOARDS, MOST_DRIVES, MOST_TASKS,
 };
 
 /// Whether the plan is accepted.
@@ -41,6 +41,9 @@ pub fn first_faulty_pair(plan: &Plan) -> Option<Answer> {
 /// Numbers and lists keep their ranges and rules, and nothing is kept past
 /// the last task or a list's last item.
 fn keeps_ranges(plan: &Plan) -> bool {
+    if ![EDITION_1, EDITION_2].contains(&plan.edition) {
+        return false;
+    }
     if !(1..=MOST_BOARDS).contains(&plan.boards) || !(1..=MOST_TASKS).contains(&plan.tasks) {
         return false;
     }
@@ -50,6 +53,8 @@ fn keeps_ranges(plan: &Plan) -> bool {
 
 fn task_keeps_ranges(plan: &Plan, i: usize) -> bool {
     (1..=plan.boards).contains(&plan.board[i])
+        && plan.ready[i] <= plan.begin[i]
+        && (plan.edition == EDITION_2 || plan.ready[i] == 0)
         && plan.begin[i] < plan.finish[i]
         && plan.finish[i] <= LAST_TICK
         && holds_keep_rules(plan.hold_places(i))
@@ -58,6 +63,7 @@ fn task_keeps_ranges(plan: &Plan, i: usize) -> bool {
 
 fn place_is_empty(plan: &Plan, i: usize) -> bool {
     plan.board[i] == 0
+        && plan.ready[i] == 0
         && plan.begin[i] == 0
         && plan.finish[i] == 0
         && is_all_zero(plan.hold_places(i))

@@ -7,6 +7,7 @@ pub mod judge;
 pub mod proved;
 pub mod runlog;
 pub mod sample;
+pub mod task_line;
 pub mod text;
 pub mod values;
 

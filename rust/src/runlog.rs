@@ -3,7 +3,8 @@
 //! Settled here where the document is silent: a line of `ends.txt` that is
 //! both malformed and out of range is 3; a task number over 1,000,000 is 4 as
 //! a tick over it is, in a `drop` line too; after a 3 or 4 nothing more is
-//! printed; with a refused plan `ends.txt` is not looked at, however long.
+//! printed; with a refused plan `ends.txt` is not looked at, however long; the
+//! `run` line has its 1 for plans of both editions.
 
 use crate::book::{drop_task, minimum_early, open_book, report};
 use crate::fields::{

@@ -3,6 +3,10 @@
 //! Task number k sits at index k - 1. A hold byte is 2 * drive (exclusive) or
 //! 2 * drive + 1 (shared); an after byte is a task number; 0 ends a list early.
 
+/// Tasks of edition 2 have ready ticks; in edition 1 each is ready at tick 0.
+pub const EDITION_1: u8 = 1;
+pub const EDITION_2: u8 = 2;
+
 pub const MOST_BOARDS: u8 = 8;
 pub const MOST_TASKS: u8 = 64;
 pub const MOST_DRIVES: u32 = 32;
@@ -31,9 +35,11 @@ pub struct Answer {
 #[repr(C)]
 #[derive(Clone, Copy, PartialEq, Eq, Debug)]
 pub struct Plan {
+    pub edition: u8,
     pub boards: u8,
     pub tasks: u8,
     pub board: [u8; 64],
+    pub ready: [u32; 64],
     pub begin: [u32; 64],
     pub finish: [u32; 64],
     pub holds: [u8; 2048],
@@ -43,10 +49,12 @@ pub struct Plan {
 #[repr(C)]
 #[derive(Clone, Copy, PartialEq, Eq, Debug)]
 pub struct Book {
+    pub edition: u8,
     pub boards: u8,
     pub tasks: u8,
     pub clock: u32,
     pub board: [u8; 64],
+    pub ready: [u32; 64],
     pub begin: [u32; 64],
     pub finish: [u32; 64],
     pub start: [u32; 64],
@@ -120,9 +128,11 @@ pub const fn refusal(code: u32, first: u32, second: u32) -> Answer {
 
 impl Plan {
     pub const ZERO: Plan = Plan {
+        edition: 0,
         boards: 0,
         tasks: 0,
         board: [0; 64],
+        ready: [0; 64],
         begin: [0; 64],
         finish: [0; 64],
         holds: [0; 2048],
@@ -147,10 +157,12 @@ impl Plan {
 
 impl Book {
     pub const ZERO: Book = Book {
+        edition: 0,
         boards: 0,
         tasks: 0,
         clock: 0,
         board: [0; 64],
+        ready: [0; 64],
         begin: [0; 64],
         finish: [0; 64],
         start: [0; 64],
@@ -164,9 +176,11 @@ impl Book {
     /// A book on the plan in which nothing is known yet.
     pub fn on(plan: &Plan) -> Book {
         Book {
+            edition: plan.edition,
             boards: plan.boards,
             tasks: plan.tasks,
             board: plan.board,
+            ready: plan.ready,
             begin: plan.begin,
             finish: plan.finish,
             holds: plan.holds,
@@ -178,9 +192,11 @@ impl Book {
     /// The plan the book was opened on.
     pub fn plan(&self) -> Plan {
         Plan {
+            edition: self.edition,
             boards: self.boards,
             tasks: self.tasks,
             board: self.board,
+            ready: self.ready,
             begin: self.begin,
             finish: self.finish,
             holds: self.holds,

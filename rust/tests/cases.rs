@@ -53,12 +53,12 @@ fn expect_logs_below(folder: &Path) -> usize {
 
 #[test]
 fn folders_of_cases_print_their_logs() {
-    assert_eq!(expect_logs_below(&at_root("rust/tests/cases")), 32);
+    assert_eq!(expect_logs_below(&at_root("rust/tests/cases")), 38);
 }
 
 #[test]
 fn examples_print_their_logs() {
-    assert_eq!(expect_logs_below(&at_root("examples")), 5);
+    assert_eq!(expect_logs_below(&at_root("examples")), 6);
 }
 
 #[test]

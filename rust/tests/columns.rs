@@ -163,28 +163,37 @@ fn codes_2_and_5_name_no_column() {
     assert_eq!(read_plan(text).answer, refusal(5, 3, 0));
 }
 
+/// What stands in a line, field by field.
+const TASK_1: [&str; 7] = [
+    "task", "number", "board", "start", "finish", "holds", "after",
+];
+const TASK_2: [&str; 8] = [
+    "task", "number", "board", "ready", "start", "finish", "holds", "after",
+];
+const END: [&str; 3] = ["end", "any", "any"];
+const DROP: [&str; 2] = ["drop", "any"];
+
 /// A line's fault as (code, column); where it has several, the least is the one.
 type Fault = (u32, usize);
 
-/// Whether a field of that place is misspelt, and whether it breaks its range.
-type Test<'a> = &'a dyn Fn(usize, &[u8]) -> bool;
-
-/// The first fault of a line that should have so many fields, from all it has.
-fn first_fault(line: &[u8], wanted: usize, misspelt: Test, over: Test) -> Option<Fault> {
+/// The first fault of a line of that form, from all it has.
+fn first_fault(
+    line: &[u8],
+    form: &[&str],
+    code_of: impl Fn(&str, &[u8]) -> Option<u32>,
+) -> Option<Fault> {
     let without_lf = line.strip_suffix(b"\n");
     let bytes = without_lf.unwrap_or(line);
+    let fields: Vec<&[u8]> = bytes.split(|&byte| byte == b'\t').collect();
     let mut faults = Vec::new();
     let mut begins = 1;
-    let fields: Vec<&[u8]> = bytes.split(|&byte| byte == b'\t').collect();
     for (place, field) in fields.iter().enumerate() {
-        if place >= wanted || misspelt(place, field) {
-            faults.push((3, begins));
-        } else if over(place, field) {
-            faults.push((4, begins));
-        }
+        // One too many is as bad as a misspelt one.
+        let code = form.get(place).map_or(Some(3), |name| code_of(name, field));
+        faults.extend(code.map(|code| (code, begins)));
         begins += field.len() + 1;
     }
-    if fields.len() < wanted || without_lf.is_none() {
+    if fields.len() < form.len() || without_lf.is_none() {
         faults.push((3, bytes.len() + 1));
     }
     faults.into_iter().min()
@@ -219,62 +228,92 @@ fn rises_within(list: &[u128], last: u128) -> bool {
     in_range && list.windows(2).all(|pair| pair[0] < pair[1])
 }
 
+/// What the first line says.
+struct Sizes {
+    form: &'static [&'static str],
+    boards: u128,
+    tasks: u128,
+}
+
 /// The first fault of the task line of that number.
-fn task_fault(line: &[u8], number: u128, boards: u128, tasks: u128) -> Option<Fault> {
-    let misspelt = |place: usize, field: &[u8]| match place {
-        0 => field != b"task",
-        5 => list_of(field, b"es").is_none(),
-        6 => list_of(field, b"").is_none(),
-        _ => number_of(field).is_none(),
+fn task_fault(line: &[u8], number: u128, sizes: &Sizes) -> Option<Fault> {
+    let start_place = sizes.form.iter().position(|name| *name == "start")?;
+    let mut fields = line.split(|&byte| byte == b'\t');
+    let start = fields.nth(start_place).and_then(number_of);
+    first_fault(line, sizes.form, |name, field| match name {
+        "task" => (field != b"task").then_some(3),
+        "holds" => list_code(list_of(field, b"es"), 32),
+        "after" => list_code(list_of(field, b""), sizes.tasks),
+        _ => number_code(name, number_of(field), start, number, sizes.boards),
+    })
+}
+
+fn list_code(list: Option<Vec<u128>>, last: u128) -> Option<u32> {
+    match list {
+        None => Some(3),
+        Some(list) => (!rises_within(&list, last)).then_some(4),
+    }
+}
+
+fn number_code(
+    name: &str,
+    value: Option<u128>,
+    start: Option<u128>,
+    number: u128,
+    boards: u128,
+) -> Option<u32> {
+    let Some(value) = value else {
+        return Some(3);
     };
-    let planned_start = line.split(|&byte| byte == b'\t').nth(3).and_then(number_of);
-    let over = |place: usize, field: &[u8]| {
-        let value = number_of(field).unwrap_or(0);
-        match place {
-            0 => false,
-            1 => value != number,
-            2 => !(1..=boards).contains(&value),
-            3 => value > 1_000_000,
-            4 => value > 1_000_000 || planned_start.is_some_and(|start| value <= start),
-            5 => !rises_within(&list_of(field, b"es").unwrap_or_default(), 32),
-            _ => !rises_within(&list_of(field, b"").unwrap_or_default(), tasks),
-        }
+    let in_range = match name {
+        "number" => value == number,
+        "board" => (1..=boards).contains(&value),
+        "finish" => value <= 1_000_000 && start.is_none_or(|start| start < value),
+        _ => value <= 1_000_000,
     };
-    first_fault(line, 7, &misspelt, &over)
+    let too_late = name == "ready" && start.is_some_and(|start| start < value);
+    match (in_range, too_late) {
+        (false, _) => Some(4),
+        (true, true) => Some(18),
+        (true, false) => None,
+    }
 }
 
 /// The first fault of a line of `ends.txt`.
 fn ends_fault(line: &[u8]) -> Option<Fault> {
     let end_of_word = line.iter().position(|byte| b"\t\n".contains(byte));
     let is_drop = &line[..end_of_word.unwrap_or(line.len())] == b"drop";
-    let (word, wanted) = if is_drop { ("drop", 2) } else { ("end", 3) };
-    let misspelt = |place: usize, field: &[u8]| match place {
-        0 => field != word.as_bytes(),
-        _ => number_of(field).is_none(),
-    };
-    let over = |_: usize, field: &[u8]| number_of(field).is_some_and(|value| value > 1_000_000);
-    first_fault(line, wanted, &misspelt, &over)
+    let form: &[&str] = if is_drop { &DROP } else { &END };
+    first_fault(line, form, |name, field| match (name, number_of(field)) {
+        ("any", Some(value)) => (value > 1_000_000).then_some(4),
+        ("any", None) => Some(3),
+        (word, _) => (field != word.as_bytes()).then_some(3),
+    })
 }
 
 fn refused(line: usize, fault: Fault) -> Answer {
     refusal(fault.0, line as u32, fault.1 as u32)
 }
 
-/// The first 3 or 4 of a text whose first line is well formed.
+/// The first 3, 4 or 18 of a text whose first line is well formed.
 fn plan_fault(text: &[u8]) -> Option<Answer> {
     let lines: Vec<&[u8]> = text.split_inclusive(|&byte| byte == b'\n').collect();
-    let sizes: Vec<&[u8]> = lines[0].trim_ascii_end().split(|&b| b == b'\t').collect();
-    let (boards, tasks) = (number_of(sizes[2])?, number_of(sizes[3])?);
-    (1..=tasks as usize).find_map(|k| {
+    let first: Vec<&[u8]> = lines[0].trim_ascii_end().split(|&b| b == b'\t').collect();
+    let sizes = Sizes {
+        form: if first[1] == b"1" { &TASK_1 } else { &TASK_2 },
+        boards: number_of(first[2])?,
+        tasks: number_of(first[3])?,
+    };
+    (1..=sizes.tasks as usize).find_map(|k| {
         let line = lines.get(k).copied().unwrap_or(b"");
-        let fault = task_fault(line, k as u128, boards, tasks)?;
+        let fault = task_fault(line, k as u128, &sizes)?;
         Some(refused(k + 1, fault))
     })
 }
 
-/// The answer's numbers where it is a 3 or a 4, else None.
+/// The answer where it is of a line, else None.
 fn said_of_a_line(answer: Answer) -> Option<Answer> {
-    [3, 4].contains(&answer.code).then_some(answer)
+    [3, 4, 18].contains(&answer.code).then_some(answer)
 }
 
 #[test]

@@ -4,12 +4,13 @@
 use dispatcher::sample::damage::{mutated_book, mutated_plan, wrongly_dropped_book};
 use dispatcher::sample::events::{
     accepted_event, any_drop, any_event, first_drops, is_chain_over_boards, must_take,
-    passed_tasks, random_book, Event,
+    passed_tasks, random_book, starts_past_the_clock, Event,
 };
-use dispatcher::sample::every_book::{every_book, every_event, CHAIN};
+use dispatcher::sample::every_book::{every_book, every_event, AWAITED, CHAIN};
 use dispatcher::sample::faults::late_plan;
 use dispatcher::sample::plan_a::{PLAN_A, REPORTS_A};
-use dispatcher::sample::plans::{full_plan, random_plan};
+use dispatcher::sample::plan_b::{PLAN_B, REPORTS_B};
+use dispatcher::sample::plans::{full_plan, in_either_edition, random_plan};
 use dispatcher::sample::reports::{
     accepted_report, any_report, last_moment_report, one_tick_reports, running_tasks, Report,
 };
@@ -80,6 +81,12 @@ fn compare_morning(rng: &mut Rng, tally: &mut Tally, plan: &Plan, wrong_ones: u3
     reports
 }
 
+/// A busy plan of either edition.
+fn full_plan_of_either(rng: &mut Rng, tasks: u8) -> Plan {
+    let plan = full_plan(rng, tasks);
+    in_either_edition(rng, &plan)
+}
+
 fn take_random_mornings(rng: &mut Rng, tally: &mut Tally) -> u64 {
     let mut reports = 0;
     for _ in 0..2600 {
@@ -93,7 +100,7 @@ fn take_random_mornings(rng: &mut Rng, tally: &mut Tally) -> u64 {
 fn take_full_mornings(rng: &mut Rng, tally: &mut Tally) -> u64 {
     let mut reports = 0;
     for _ in 0..60 {
-        let plan = full_plan(rng, 64);
+        let plan = full_plan_of_either(rng, 64);
         reports += compare_morning(rng, tally, &plan, 4);
     }
     tally.finish_kind("openings, reports and figures of mornings of 64 tasks");
@@ -116,23 +123,29 @@ fn take_mornings_without_gain(rng: &mut Rng, tally: &mut Tally) -> u64 {
     reports
 }
 
-/// Every tick from 0 to 15 reported of every task 0 to 6, all along plan A.
-fn take_every_report_on_plan_a(tally: &mut Tally) -> u64 {
+/// Every tick from 0 to 15 reported of every task 0 to 6, all along plans A and B.
+fn take_every_report_on_plans_a_and_b(tally: &mut Tally) -> u64 {
+    let mut reports = take_every_report_along(tally, PLAN_A, &REPORTS_A);
+    reports += take_every_report_along(tally, PLAN_B, &REPORTS_B);
+    tally.finish_kind("reports of every task and tick along plans A and B");
+    reports
+}
+
+fn take_every_report_along(tally: &mut Tally, text: &[u8], right_ones: &[Report]) -> u64 {
     let any_tick = |task| (0..=15).map(move |tick| (task, tick));
     let near_ones: Vec<Report> = (0..=6).flat_map(any_tick).collect();
     let mut reports = 0;
-    let mut book = compare_opening(tally, &read_plan(PLAN_A).plan);
-    for next in 0..=REPORTS_A.len() {
+    let mut book = compare_opening(tally, &read_plan(text).plan);
+    for next in 0..=right_ones.len() {
         for &near in &near_ones {
             compare_report(tally, &book, near);
             reports += 1;
         }
-        if let Some(&right) = REPORTS_A.get(next) {
+        if let Some(&right) = right_ones.get(next) {
             book = compare_report(tally, &book, right);
             reports += 1;
         }
     }
-    tally.finish_kind("reports of every task and tick along plan A");
     reports
 }
 
@@ -159,7 +172,7 @@ fn take_five_ends_in_every_order(rng: &mut Rng, tally: &mut Tally) -> u64 {
     let mut groups = 0;
     while groups < 40 {
         let tasks = rng.pick(&[8, 12, 20, 40]);
-        let mut book = open_book(&full_plan(rng, tasks)).book;
+        let mut book = open_book(&full_plan_of_either(rng, tasks)).book;
         for _ in 0..rng.index(tasks as usize - 5) {
             let right = accepted_report(rng, &book).expect("some task has not ended");
             book = report(&book, right.0, right.1).book;
@@ -229,7 +242,7 @@ fn mornings_are_answered_alike() {
     let mut reports = take_random_mornings(&mut rng, &mut tally);
     reports += take_full_mornings(&mut rng, &mut tally);
     reports += take_mornings_without_gain(&mut rng, &mut tally);
-    reports += take_every_report_on_plan_a(&mut tally);
+    reports += take_every_report_on_plans_a_and_b(&mut tally);
     reports += take_five_ends_in_every_order(&mut rng, &mut tally);
     reports += take_reports_on_changed_books(&mut rng, &mut tally);
     open_changed_plans(&mut rng, &mut tally);
@@ -246,6 +259,8 @@ struct Dropping {
     /// one by one over several boards.
     passed: u64,
     chains: u64,
+    /// Books of mornings with a known start past the clock.
+    ahead: u64,
 }
 
 impl Dropping {
@@ -280,6 +295,7 @@ fn compare_dropping_morning(rng: &mut Rng, dropping: &mut Dropping, plan: &Plan)
             dropping.compare(&book, any);
         }
         compare_figure(&mut dropping.reports, &book);
+        dropping.ahead += u64::from(!starts_past_the_clock(&book).is_empty());
         let next = dropping.compare(&book, right);
         assert!(next != book, "{right:?} was refused, {book:?}");
         book = next;
@@ -296,23 +312,25 @@ fn take_dropping_mornings(rng: &mut Rng, dropping: &mut Dropping) {
     }
     dropping.finish_kind("of random mornings");
     for _ in 0..60 {
-        let plan = full_plan(rng, 64);
+        let plan = full_plan_of_either(rng, 64);
         compare_dropping_morning(rng, dropping, &plan);
     }
     dropping.finish_kind("of mornings of 64 tasks");
 }
 
 fn take_every_event_on_every_book(dropping: &mut Dropping) {
-    let plan = read_plan(CHAIN).plan;
-    let events = every_event(&plan);
-    for book in every_book(&plan) {
-        compare_figure(&mut dropping.reports, &book);
-        for &event in &events {
-            dropping.compare(&book, event);
+    for text in [CHAIN, AWAITED] {
+        let plan = read_plan(text).plan;
+        let events = every_event(&plan);
+        for book in every_book(&plan) {
+            compare_figure(&mut dropping.reports, &book);
+            for &event in &events {
+                dropping.compare(&book, event);
+            }
+            compare_drop(&mut dropping.drops, &book, u32::MAX);
         }
-        compare_drop(&mut dropping.drops, &book, u32::MAX);
     }
-    dropping.finish_kind("on every book of a small plan");
+    dropping.finish_kind("on every book of two small plans");
 }
 
 fn take_every_drop_on_every_book_of_plan_a(tally: &mut Tally) {
@@ -350,6 +368,7 @@ fn drops_are_answered_alike() {
         reports: Tally::new("compare_drop, reports"),
         passed: 0,
         chains: 0,
+        ahead: 0,
     };
     take_dropping_mornings(&mut rng, &mut dropping);
     take_every_event_on_every_book(&mut dropping);
@@ -358,14 +377,15 @@ fn drops_are_answered_alike() {
     dropping.drops.finish(80_000, &[0, 9, 10, 19]);
     let codes = [0, 9, 10, 11, 12, 13, 14, 15];
     dropping.reports.finish(50_000, &codes);
-    let Dropping { passed, chains, .. } = dropping;
-    dropping
-        .reports
-        .say_part(passed, "dropped tasks that passed");
-    dropping
-        .reports
-        .say_part(chains, "chains over several boards");
-    assert!(passed >= 5_000 && chains >= 500, "too few chains");
+    let parts = [
+        (dropping.passed, "dropped tasks that passed", 5_000),
+        (dropping.chains, "chains over several boards", 500),
+        (dropping.ahead, "books with a start past the clock", 2_000),
+    ];
+    for (part, sort, least) in parts {
+        dropping.reports.say_part(part, sort);
+        assert!(part >= least, "too few {sort}");
+    }
 }
 
 /// All books of a morning, and for each some with one to three places changed.
@@ -401,14 +421,17 @@ fn judge_wild_books(rng: &mut Rng, tally: &mut Tally) {
     tally.finish_kind("books of random starts, ends, marks and drops");
 }
 
-/// Every small clock, start, end, mark and drop of every task along plan A,
-/// with nobody dropped and with task 3.
-fn judge_every_change_along_plan_a(tally: &mut Tally) {
+/// Every small clock, start, end, mark and drop of every task along plan A, with
+/// nobody dropped and with task 3, and on the first books of plan B, with task 4.
+fn judge_every_change_along_plans_a_and_b(tally: &mut Tally) {
     let fresh = open_book(&read_plan(PLAN_A).plan).book;
     judge_every_change_along(tally, &fresh, &REPORTS_A);
     let without_3 = must_take(&fresh, Event::Drop(3));
     judge_every_change_along(tally, &without_3, &[(2, 3), (1, 4), (4, 6)]);
-    tally.finish_kind("books along plan A with one task changed");
+    let awaited = open_book(&read_plan(PLAN_B).plan).book;
+    let without_4 = must_take(&awaited, Event::Drop(4));
+    judge_every_change_along(tally, &without_4, &REPORTS_B[..3]);
+    tally.finish_kind("books along plans A and B with one task changed");
 }
 
 fn judge_every_change_along(tally: &mut Tally, first: &Book, reports: &[Report]) {
@@ -452,6 +475,6 @@ fn soundness_is_judged_alike() {
     let (mut rng, mut tally) = Tally::seeded("compare_sound");
     judge_books_of_mornings(&mut rng, &mut tally);
     judge_wild_books(&mut rng, &mut tally);
-    judge_every_change_along_plan_a(&mut tally);
+    judge_every_change_along_plans_a_and_b(&mut tally);
     tally.finish(200_000, &[0, 9]);
 }

@@ -6,7 +6,8 @@ use dispatcher::sample::events::{
 };
 use dispatcher::sample::faults::{damaged_text, late_plan};
 use dispatcher::sample::lines::{damaged_lines, noise, with_odd_ends_line};
-use dispatcher::sample::plans::{full_plan, random_plan};
+use dispatcher::sample::one_fault::one_fault;
+use dispatcher::sample::plans::{full_plan, in_either_edition, random_plan};
 use dispatcher::sample::{announced_seed, Rng};
 use dispatcher::text::plan_text;
 use dispatcher::{open_book, run_log, Plan};
@@ -56,10 +57,11 @@ fn has_line(log: &[u8], word: &str) -> bool {
 fn logs_are_the_same() {
     let mut rng = Rng::new(announced_seed("logs"));
     let mut out = vec![FILL; LONGEST_LOG];
-    let (mut refused, mut late, mut skipped, mut longest) = (0, 0, 0, 0);
+    let (mut refused, mut late, mut unready, mut skipped, mut longest) = (0, 0, 0, 0, 0);
     for round in 0..21_000u32 {
         let plan = if round % 100 == 0 {
-            full_plan(&mut rng, 64)
+            let full = full_plan(&mut rng, 64);
+            in_either_edition(&mut rng, &full)
         } else {
             random_plan(&mut rng)
         };
@@ -72,17 +74,19 @@ fn logs_are_the_same() {
             4 if round % 3 == 0 => ends = noise(&mut rng),
             4 => ends = with_odd_ends_line(&mut rng, &ends),
             5 if round % 5 == 0 => text = plan_text(&late_plan(&mut rng, &plan)),
+            5 if round % 5 == 1 => text = one_fault(&mut rng, &plan).text,
             _ => {}
         }
         let log = compare(&mut out, &text, &ends);
         longest = longest.max(log.len());
         refused += u32::from(has_line(&log, "refused"));
         late += u32::from(has_line(&log, "refused\t17"));
+        unready += u32::from(has_line(&log, "refused\t18"));
         skipped += u32::from(has_line(&log, "skip"));
     }
     println!("21000 pairs of texts, {refused} logs with a refusal, {skipped} with a skip");
     println!("the longest has {longest} bytes");
-    assert!(refused > 5_000 && refused < 20_000 && late >= 600);
+    assert!(refused > 5_000 && refused < 20_000 && late >= 600 && unready >= 20);
     assert!(skipped > 4_000 && skipped < 20_000);
 }
 

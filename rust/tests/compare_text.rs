@@ -2,9 +2,11 @@
 //! every input as the second dispatcher does, to the last byte.
 
 use dispatcher::sample::damage::mutated_plan;
-use dispatcher::sample::faults::{damaged_text, faulty_pair_plan, one_fault};
+use dispatcher::sample::faults::{damaged_text, faulty_pair_plan};
 use dispatcher::sample::lines::{damaged_lines, noise, stretched_text};
+use dispatcher::sample::one_fault::one_fault;
 use dispatcher::sample::plan_a::PLAN_A;
+use dispatcher::sample::plan_b::PLAN_B;
 use dispatcher::sample::plans::random_plan;
 use dispatcher::sample::tally::Tally;
 use dispatcher::sample::wild::{one_rule_broken, wild_plan};
@@ -13,6 +15,9 @@ use dispatcher::text::plan_text;
 use dispatcher::values::LONGEST_TEXT;
 use dispatcher::{accepted, proved, read_plan, write_plan};
 use dispatcher::{Plan, Written};
+
+/// Bytes that are right in some places of a text and wrong in others.
+const LIKELY_BYTES: &[u8] = b"\t\n\r\0 -,es0123456789";
 
 /// What stands in every field once; each is right in some field and wrong in others.
 const FIELD_VALUES: &str = "|-|--|0|00|01|1|2|3|4|5|6|7|8|9|10|11|63|64|65|99|255|256|257|999999|\
@@ -104,40 +109,47 @@ fn read_every_cut(rng: &mut Rng, tally: &mut Tally) {
             compare_reading(tally, &text[..end]);
         }
     }
-    for end in 0..=PLAN_A.len() {
-        compare_reading(tally, &PLAN_A[..end]);
+    for text in [PLAN_A, PLAN_B] {
+        for end in 0..=text.len() {
+            compare_reading(tally, &text[..end]);
+        }
     }
     tally.finish_kind("cut texts");
 }
 
 fn read_every_changed_byte(tally: &mut Tally) {
-    for at in 0..PLAN_A.len() {
-        for byte in 0..=255 {
-            let mut text = PLAN_A.to_vec();
-            text[at] = byte;
-            compare_reading(tally, &text);
+    let every_byte: Vec<u8> = (0..=255).collect();
+    for (plan, bytes) in [(PLAN_A, &every_byte[..]), (PLAN_B, LIKELY_BYTES)] {
+        for at in 0..plan.len() {
+            for &byte in bytes {
+                let mut text = plan.to_vec();
+                text[at] = byte;
+                compare_reading(tally, &text);
+            }
         }
     }
-    tally.finish_kind("texts of plan A with one byte changed to each other byte");
+    tally.finish_kind("texts of plans A and B with one byte changed to another");
 }
 
 fn read_every_byte_put_in_or_out(tally: &mut Tally) {
-    for at in 0..PLAN_A.len() {
-        for &byte in b"\t\n\r\0 -,es0123456789" {
-            let mut text = PLAN_A.to_vec();
-            text.insert(at, byte);
+    for plan in [PLAN_A, PLAN_B] {
+        for at in 0..plan.len() {
+            for &byte in LIKELY_BYTES {
+                let mut text = plan.to_vec();
+                text.insert(at, byte);
+                compare_reading(tally, &text);
+            }
+            let mut text = plan.to_vec();
+            text.remove(at);
             compare_reading(tally, &text);
         }
-        let mut text = PLAN_A.to_vec();
-        text.remove(at);
-        compare_reading(tally, &text);
     }
-    tally.finish_kind("texts of plan A with one byte put in or taken out");
+    tally.finish_kind("texts of plans A and B with one byte put in or taken out");
 }
 
-/// Plan A with one field of one line replaced.
-fn plan_a_with_field(line: usize, field: usize, value: &str) -> Vec<u8> {
-    let text = std::str::from_utf8(PLAN_A).expect("plan A is plain text");
+/// The plan's text with one field of one line replaced.
+fn with_field(plan: &[u8], line: usize, field: usize, value: &str) -> Vec<u8> {
+    let text = std::str::from_utf8(plan).expect("a plan is plain text");
     let mut lines: Vec<String> = text.lines().map(str::to_string).collect();
     let mut fields: Vec<&str> = lines[line].split('\t').collect();
     fields[field] = value;
@@ -146,15 +158,17 @@ fn plan_a_with_field(line: usize, field: usize, value: &str) -> Vec<u8> {
 }
 
 fn read_every_changed_field(tally: &mut Tally) {
-    for line in 0..6 {
-        let fields = if line == 0 { 4 } else { 7 };
-        for field in 0..fields {
-            for value in FIELD_VALUES.split('|') {
-                compare_reading(tally, &plan_a_with_field(line, field, value));
+    for (plan, task_fields) in [(PLAN_A, 7), (PLAN_B, 8)] {
+        for line in 0..6 {
+            let fields = if line == 0 { 4 } else { task_fields };
+            for field in 0..fields {
+                for value in FIELD_VALUES.split('|') {
+                    compare_reading(tally, &with_field(plan, line, field, value));
+                }
             }
         }
     }
-    tally.finish_kind("texts of plan A with one field replaced");
+    tally.finish_kind("texts of plans A and B with one field replaced");
 }
 
 fn read_long_texts(rng: &mut Rng, tally: &mut Tally) {
@@ -240,9 +254,11 @@ fn write_to_every_length(rng: &mut Rng, tally: &mut Tally) {
             compare_writing(tally, &plan, length);
         }
     }
-    let plan = read_plan(PLAN_A).plan;
-    for length in 0..=PLAN_A.len() + 3 {
-        compare_writing(tally, &plan, length);
+    for text in [PLAN_A, PLAN_B] {
+        let plan = read_plan(text).plan;
+        for length in 0..=text.len() + 3 {
+            compare_writing(tally, &plan, length);
+        }
     }
     tally.finish_kind("buffer lengths written to");
 }
@@ -260,5 +276,5 @@ fn texts_and_plans_are_answered_alike() {
     judge_and_write_changed_plans(&mut rng, &mut tally);
     judge_and_write_wild_plans(&mut rng, &mut tally);
     write_to_every_length(&mut rng, &mut tally);
-    tally.finish(200_000, &[1, 2, 3, 4, 5, 6, 7, 8, 9, 16, 17]);
+    tally.finish(200_000, &[1, 2, 3, 4, 5, 6, 7, 8, 9, 16, 17, 18]);
 }

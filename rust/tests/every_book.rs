@@ -1,6 +1,7 @@
 //! Small plans with every book listed: none is missing, and none too many.
 
-use dispatcher::sample::every_book::{every_book, morning_of, Morning, CHAIN};
+use dispatcher::sample::events::starts_past_the_clock;
+use dispatcher::sample::every_book::{every_book, morning_of, Morning, AWAITED, CHAIN};
 use dispatcher::{open_book, read_plan, sound, Book, Plan};
 use std::collections::HashSet;
 
@@ -9,6 +10,14 @@ const THREE: &[u8] = b"plan\t1\t2\t3
 task\t1\t1\t0\t2\t-\t-
 task\t2\t2\t2\t3\t-\t-
 task\t3\t1\t3\t4\t-\t-
+";
+
+/// Edition 2. Task 2 waits for nobody and is ready at 1; 3 waits for both, and is
+/// not ready before its planned start.
+const THREE_AWAITED: &[u8] = b"plan\t2\t2\t3
+task\t1\t1\t0\t0\t2\t-\t-
+task\t2\t2\t1\t1\t3\t-\t-
+task\t3\t1\t3\t3\t4\t-\t-
 ";
 
 /// What a book can hold of one task, sense or nonsense.
@@ -50,7 +59,16 @@ fn plan_of(text: &[u8]) -> Plan {
 
 #[test]
 fn a_book_of_three_tasks_is_sound_exactly_when_a_run_gives_it() {
-    let plan = plan_of(THREE);
+    check_every_book_of_three(THREE);
+}
+
+#[test]
+fn so_is_one_with_starts_past_the_clock() {
+    check_every_book_of_three(THREE_AWAITED);
+}
+
+fn check_every_book_of_three(text: &[u8]) {
+    let plan = plan_of(text);
     let given: HashSet<Morning> = every_book(&plan).iter().map(morning_of).collect();
     let states = every_state();
     let mut found = 0;
@@ -72,21 +90,46 @@ fn a_book_of_three_tasks_is_sound_exactly_when_a_run_gives_it() {
     assert_eq!(found, given.len());
 }
 
+/// How many last books have just these tasks dropped.
+fn last_books(books: &[Book], dropped: &[usize]) -> usize {
+    let finished = |book: &&Book| book.mark[..5] == [2; 5];
+    let is_dropped = |i: usize| u8::from(dropped.contains(&(i + 1)));
+    let same_drops = |book: &&Book| (0..5).all(|i| book.dropped[i] == is_dropped(i));
+    books.iter().filter(finished).filter(same_drops).count()
+}
+
 /// Worked out by hand: each drop set's endings of the tasks that run.
 #[test]
 fn the_last_books_of_the_chain_are_as_many_as_its_endings() {
     let books = every_book(&plan_of(CHAIN));
-    let finished = |book: &&Book| book.mark[..5] == [2; 5];
-    let last_books = |dropped: &[usize]| {
-        let is_dropped = |i: usize| u8::from(dropped.contains(&(i + 1)));
-        let same_drops = |book: &&Book| (0..5).all(|i| book.dropped[i] == is_dropped(i));
-        books.iter().filter(finished).filter(same_drops).count()
-    };
+    let last_books = |dropped: &[usize]| last_books(&books, dropped);
     // Tasks 1, 2 and 4 may take one tick or two, 3 and 5 only one.
     assert_eq!(last_books(&[]), 8);
     assert_eq!(last_books(&[4]), 4);
     assert_eq!(last_books(&[5]), 8);
     assert_eq!(last_books(&[1, 4]), 2);
     assert_eq!(last_books(&[1, 4, 5]), 2);
+    assert!(books.iter().all(sound));
+}
+
+/// Worked out by hand. Task 1 ends at 2 or 3, 2 at 1 or 2, 3 a tick or two after
+/// it starts at the end of 2; 4 takes a tick from 3 on, and 5 one or two.
+#[test]
+fn the_last_books_with_ready_ticks_are_as_many_as_their_endings() {
+    let books = every_book(&plan_of(AWAITED));
+    let last_books = |dropped: &[usize]| last_books(&books, dropped);
+    // 1, 2, 3 and 5 have two endings each.
+    assert_eq!(last_books(&[]), 16);
+    assert_eq!(last_books(&[5]), 8);
+    assert_eq!(last_books(&[3]), 8);
+    // Without 4, that is 5 as well at the latest end of the others.
+    assert_eq!(last_books(&[4]), 16);
+    assert_eq!(last_books(&[4, 5]), 8);
+    // A task that waits for nobody is never dropped.
+    assert_eq!(last_books(&[1]), 0);
+    // At clock 0 that of 1, with any of 3, 4 and 5 dropped. At 2 that of 4, 5 dropped or
+    // not: where 2 ended at 1, task 3 runs, has ended or is dropped; at 2, it runs or is dropped.
+    let past_the_clock = |book: &&Book| !starts_past_the_clock(book).is_empty();
+    assert_eq!(books.iter().filter(past_the_clock).count(), 8 + 2 * 5);
     assert!(books.iter().all(sound));
 }

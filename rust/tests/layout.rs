@@ -5,31 +5,35 @@ use std::mem::{offset_of, size_of};
 
 #[test]
 fn plan_lies_as_stated() {
-    assert_eq!(offset_of!(Plan, boards), 0);
-    assert_eq!(offset_of!(Plan, tasks), 1);
-    assert_eq!(offset_of!(Plan, board), 2);
-    assert_eq!(offset_of!(Plan, begin), 68);
-    assert_eq!(offset_of!(Plan, finish), 324);
-    assert_eq!(offset_of!(Plan, holds), 580);
-    assert_eq!(offset_of!(Plan, after), 2628);
-    assert_eq!(size_of::<Plan>(), 6724);
+    assert_eq!(offset_of!(Plan, edition), 0);
+    assert_eq!(offset_of!(Plan, boards), 1);
+    assert_eq!(offset_of!(Plan, tasks), 2);
+    assert_eq!(offset_of!(Plan, board), 3);
+    assert_eq!(offset_of!(Plan, ready), 68);
+    assert_eq!(offset_of!(Plan, begin), 324);
+    assert_eq!(offset_of!(Plan, finish), 580);
+    assert_eq!(offset_of!(Plan, holds), 836);
+    assert_eq!(offset_of!(Plan, after), 2884);
+    assert_eq!(size_of::<Plan>(), 6980);
 }
 
 #[test]
 fn book_lies_as_stated() {
-    assert_eq!(offset_of!(Book, boards), 0);
-    assert_eq!(offset_of!(Book, tasks), 1);
+    assert_eq!(offset_of!(Book, edition), 0);
+    assert_eq!(offset_of!(Book, boards), 1);
+    assert_eq!(offset_of!(Book, tasks), 2);
     assert_eq!(offset_of!(Book, clock), 4);
     assert_eq!(offset_of!(Book, board), 8);
-    assert_eq!(offset_of!(Book, begin), 72);
-    assert_eq!(offset_of!(Book, finish), 328);
-    assert_eq!(offset_of!(Book, start), 584);
-    assert_eq!(offset_of!(Book, end), 840);
-    assert_eq!(offset_of!(Book, mark), 1096);
-    assert_eq!(offset_of!(Book, dropped), 1160);
-    assert_eq!(offset_of!(Book, holds), 1224);
-    assert_eq!(offset_of!(Book, after), 3272);
-    assert_eq!(size_of::<Book>(), 7368);
+    assert_eq!(offset_of!(Book, ready), 72);
+    assert_eq!(offset_of!(Book, begin), 328);
+    assert_eq!(offset_of!(Book, finish), 584);
+    assert_eq!(offset_of!(Book, start), 840);
+    assert_eq!(offset_of!(Book, end), 1096);
+    assert_eq!(offset_of!(Book, mark), 1352);
+    assert_eq!(offset_of!(Book, dropped), 1416);
+    assert_eq!(offset_of!(Book, holds), 1480);
+    assert_eq!(offset_of!(Book, after), 3528);
+    assert_eq!(size_of::<Book>(), 7624);
 }
 
 #[test]

@@ -22,7 +22,7 @@ fn expect_refused(plan: &str, log: &str, why: &str) {
 
 #[test]
 fn the_committed_pictures_are_drawn_anew() {
-    for name in ["plan-a", "full-morning", "absent-students"] {
+    for name in ["plan-a", "full-morning", "absent-students", "awaited-class"] {
         let folder = format!("examples/{name}");
         let output = draw(&format!("{folder}/plan.txt"), &format!("{folder}/log.txt"));
         let committed = fs::read(at_root(&format!("{folder}/picture.svg"))).unwrap();
@@ -37,6 +37,7 @@ fn the_readme_shows_them() {
     assert!(readme.contains("(examples/plan-a/picture.svg)"));
     assert!(readme.contains("(examples/full-morning/picture.svg)"));
     assert!(readme.contains("(examples/absent-students/picture.svg)"));
+    assert!(readme.contains("(examples/awaited-class/picture.svg)"));
 }
 
 #[test]

@@ -7,7 +7,7 @@
 
 use dispatcher::proved::{measure, Function, Measured, Register};
 use dispatcher::sample::events::{droppable_tasks, must_take, Event};
-use dispatcher::sample::plans::full_plan;
+use dispatcher::sample::plans::{full_plan, with_even_ready_ticks};
 use dispatcher::sample::reports::last_moment_report;
 use dispatcher::sample::tally::say;
 use dispatcher::sample::Rng;
@@ -85,6 +85,12 @@ fn no_registers() -> [Register<'static>; 3] {
     [Number(0), Number(0), Number(0)]
 }
 
+/// A full plan of each edition.
+fn full_plans() -> [Plan; 2] {
+    let plan = full_plan(&mut Rng::new(7), 64);
+    [plan, with_even_ready_ticks(&plan)]
+}
+
 /// A task planned at 0 comes after the last one: the order is broken, and every pair is searched in full.
 fn with_broken_order(mut plan: Plan) -> Plan {
     let first = (0..63).find(|&task| plan.begin[task] == 0);
@@ -93,35 +99,46 @@ fn with_broken_order(mut plan: Plan) -> Plan {
 }
 
 #[test]
-fn no_call_takes_more_than_32_kib() {
-    let plan = full_plan(&mut Rng::new(7), 64);
-    let text = plan_text(&plan);
-    check_reading("reading a plan", &text, 0);
-    check_reading("a refused reading", &text[..text.len() - 1], 3);
-    check_writing("writing a plan", &plan, 0);
+fn no_call_on_a_plan_takes_more_than_32_kib() {
+    for plan in full_plans() {
+        let text = plan_text(&plan);
+        check_reading("reading a plan", &text, 0);
+        check_reading("a refused reading", &text[..text.len() - 1], 3);
+        check_writing("writing a plan", &plan, 0);
+        check_judging("judging a plan", Function::IsAccepted, &plan, 1);
+        let broken = with_broken_order(plan);
+        check_judging("a broken order", Function::IsAccepted, &broken, 0);
+        check_reading("reading a broken order", &plan_text(&broken), 8);
+        check_opening("opening a book", &plan, 0);
+    }
+    let [_, mut unready] = full_plans();
+    unready.ready[63] = unready.begin[63] + 1;
+    check_reading("reading a ready tick too late", &plan_text(&unready), 18);
+    check_judging("a ready tick too late", Function::IsAccepted, &unready, 0);
     check_writing("a refused writing", &Plan::ZERO, 9);
-    check_judging("judging a plan", Function::IsAccepted, &plan, 1);
     check_judging("a plan not accepted", Function::IsAccepted, &Plan::ZERO, 0);
-    let broken = with_broken_order(plan);
-    check_judging("a broken order", Function::IsAccepted, &broken, 0);
-    check_reading("reading a broken order", &plan_text(&broken), 8);
-    check_opening("opening a book", &plan, 0);
     check_opening("a refused opening", &Plan::ZERO, 9);
-    let book = open_book(&plan).book;
-    let (task, tick) = last_moment_report(&book).expect("a fresh book has running tasks");
-    check_report("a report", &book, (task, tick), 0);
-    check_report("a refused report", &book, (65, tick), 10);
-    check_figure("M", &book, 0);
-    check_judging("judging a book", Function::IsSound, &book, 1);
+}
+
+#[test]
+fn no_call_on_a_book_takes_more_than_32_kib() {
+    for plan in full_plans() {
+        let book = open_book(&plan).book;
+        let (task, tick) = last_moment_report(&book).expect("a fresh book has running tasks");
+        check_report("a report", &book, (task, tick), 0);
+        check_report("a refused report", &book, (65, tick), 10);
+        check_figure("M", &book, 0);
+        check_judging("judging a book", Function::IsSound, &book, 1);
+        let droppable = droppable_tasks(&book);
+        check_drop("a drop", &book, droppable[0], 0);
+        check_drop("a refused drop", &book, task, 19);
+        let all_dropped = droppable
+            .iter()
+            .fold(book, |book, &task| must_take(&book, Event::Drop(task)));
+        check_report("a report with drops", &all_dropped, (task, tick), 0);
+        check_judging("judging drops", Function::IsSound, &all_dropped, 1);
+    }
     check_judging("a book not sound", Function::IsSound, &Book::ZERO, 0);
-    let droppable = droppable_tasks(&book);
-    check_drop("a drop", &book, droppable[0], 0);
-    check_drop("a refused drop", &book, task, 19);
-    let all_dropped = droppable
-        .iter()
-        .fold(book, |book, &task| must_take(&book, Event::Drop(task)));
-    check_report("a report with drops", &all_dropped, (task, tick), 0);
-    check_judging("judging drops", Function::IsSound, &all_dropped, 1);
 }
 
 #[test]

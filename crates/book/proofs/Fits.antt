@@ -1,11 +1,11 @@
 -- What the start rule may count on: at opening, and after a running task of a sound book has ended.
-use Prim.Native.Nat.{ℕ, _<_, _≤_}
+use Prim.Native.Nat.{ℕ, _<_}
 use native.Mathlib.Omega.{arith}
 use mathlib.Core.Bool.{true}
 use mathlib.Core.List.{List}
-use mathlib.Core.Path.{_≡_, refl, sym, _∙_}
+use mathlib.Core.Path.{_≡_, refl}
 use mathlib.Core.Logic.{_≢_}
-use lib.ListN.{length, set, replicate}
+use lib.ListN.{length, set}
 use borrow.Author.Tests.{eq-eqb, ne-eqb}
 use Rattle.laws.proofs.Cases.{by-eq, or-l}
 use Rattle.theory.specs.Plan as theory-plan
@@ -16,17 +16,29 @@ use Rattle.theory.proofs.Facts.{Sound}
 use Rattle.theory.proofs.Past.{past-end-it}
 use Rattle.theory.proofs.Reflect.{all-ended-at}
 use Rattle.theory.proofs.Task.{started-all}
-use Rattle.plan.specs.Value.{at, taskAt, isAccepted}
+use Rattle.plan.specs.Value.{at, isAccepted}
 use Rattle.plan.specs.declared.Plan.{Plan}
-use Rattle.view.specs.View.{planFor, bookSeen}
+use Rattle.view.specs.View.{planFor}
 use Rattle.view.proofs.Accepted.{plan-facts, plan-lawful, clash-waits}
-use Rattle.view.proofs.Laid.{at-zeros, laid-past}
+use Rattle.view.proofs.Laid.{laid-past}
 use Rattle.book.specs.View.{planIn, planView, bookView}
 use Rattle.book.specs.private.Table.{seenAs, movedTo, OnEight, InTurn, Closed, Past, Fit}
 use Rattle.book.specs.declared.Book.{Book}
 use Rattle.book.specs.declared.Moved.{Moved}
 use Rattle.book.proofs.Views.{past-by, past-blank, set-put}
 use Rattle.book.proofs.Soundness.{SoundFacts}
+
+-- nobody has started on a blank book
+pub blank-seen : (none : List ℕ) {empty : Moved} → empty ≡ movedTo 0 blank → ((j : ℕ) → at none j ≡ 0) → seenAs empty none 0 ≡ blank
+blank-seen none e z =
+    rw e
+    (λ i. record {
+      mark = λ j. laid-past 0 (λ k. 0) j (omega arith) i;
+      start = λ j. laid-past 0 (λ k. 0) j (omega arith) i;
+      end = λ j. laid-past 0 (λ k. 0) j (omega arith) i;
+      dropped = λ j. z j i;
+      clock = 0;
+    })
 
 module _ (plan : Plan) (ok : isAccepted plan ≡ true) where
   plan-boards : OnEight (planFor plan) (at (plan .board))
@@ -46,20 +58,10 @@ module _ (plan : Plan) (ok : isAccepted plan ≡ true) where
     past = past;
   }
 
-  -- nobody has started on a blank book
-  pub blank-seen : {empty : Moved} → empty ≡ movedTo 0 blank → seenAs empty (replicate 64 0) 0 ≡ blank
-  blank-seen {empty} e =
-      rw e
-      (λ i. record {
-        mark = λ j. laid-past 0 (λ k. 0) j (omega arith) i;
-        start = λ j. laid-past 0 (λ k. 0) j (omega arith) i;
-        end = λ j. laid-past 0 (λ k. 0) j (omega arith) i;
-        dropped = λ j. at-zeros j i;
-        clock = 0;
-      })
-
-  pub fit-blank : {empty : Moved} → empty ≡ movedTo 0 blank → Fit (planFor plan) (at (plan .board)) (seenAs empty (replicate 64 0) 0)
-  fit-blank e = rw (blank-seen e) (fit-on blank (λ i j li lj n w. absurd (n refl)) (past-blank (plan .tasks)))
+  pub fit-blank :
+      (none : List ℕ) {empty : Moved} → empty ≡ movedTo 0 blank → ((j : ℕ) → at none j ≡ 0)
+      → Fit (planFor plan) (at (plan .board)) (seenAs empty none 0)
+  fit-blank none e z = rw (blank-seen none e z) (fit-on blank (λ i j li lj n w. absurd (n refl)) (past-blank (plan .tasks)))
 
 -- one more running task ended
 closed-ended :

@@ -1,21 +1,23 @@
 -- The books that the functions put together are those that the definitions lay out.
 use Prim.Native.Nat.{ℕ, _<_, _≤_, zero, suc}
-use mathlib.Core.Bool.{true, cond}
+use mathlib.Core.Bool.{cond}
 use mathlib.Core.List.{List}
 use mathlib.Core.Path.{_≡_, refl, sym, ap, _∙_}
 use lib.ListN.{length, set, replicate}
 use Rattle.laws.proofs.Cases.{and-no}
 use Rattle.theory.specs.Plan as theory-plan
 use Rattle.theory.specs.Book as theory-book
-use Rattle.theory.specs.Report.{goes, skips, skipOnce, skipTimes, letGo, next, dropIt, blank, opened}
+use Rattle.theory.specs.Report.{goes, skips, skipOnce, skipTimes, letGo, next, blank, opened}
 use Rattle.theory.proofs.Step.{next-clock, next-dropped}
-use Rattle.plan.specs.Value.{at, isAccepted}
+use Rattle.laws.specs.Each.{each, rows}
+use native.Mathlib.Omega.{arith}
+use Rattle.plan.specs.Value.{at, planWith, planOf, zeroPlan}
 use Rattle.plan.specs.declared.Plan.{Plan}
 use Rattle.view.specs.View.{planFor, laid}
 use Rattle.view.proofs.Accepted.{plan-facts}
-use Rattle.view.proofs.Laid.{zeros-laid}
+use Rattle.view.proofs.Laid.{zeros-laid, laid-past}
 use Rattle.book.specs.View.{planIn, planView, bookView, layOut}
-use Rattle.book.specs.Open.{openedOn}
+use Rattle.book.specs.Open.{blankBook, openedOn}
 use Rattle.book.specs.Report.{nextBook}
 use Rattle.book.specs.Drop.{droppedIn}
 use Rattle.book.specs.private.Table.{seenAs, movedTo}
@@ -38,64 +40,74 @@ blank-skip plan (suc n) = ap (skipTimes n plan) once ∙ blank-skip plan n
     once =
         λ i. record { mark = λ j. none 2 j i; start = λ j. none 0 j i; end = λ j. none 0 j i; dropped = λ j. 0; clock = 0 }
 
-module _ (plan : Plan) (ok : isAccepted plan ≡ true) {empty moved : Moved} (e : empty ≡ movedTo 0 blank)
-    (m : moved ≡ movedTo (plan .tasks) (letGo (planFor plan) (skipTimes (plan .tasks) (planFor plan) (seenAs empty (replicate 64 0) 0)))) where
-  moved-is : moved ≡ movedTo (plan .tasks) (letGo (planFor plan) blank)
-  moved-is =
-      m
-      ∙ ap (λ (b : theory-book.Book). movedTo (plan .tasks) (letGo (planFor plan) (skipTimes (plan .tasks) (planFor plan) b))) (blank-seen plan ok e)
-      ∙ ap (λ (b : theory-book.Book). movedTo (plan .tasks) (letGo (planFor plan) b)) (blank-skip (planFor plan) (plan .tasks))
-
-  pub opened-laid :
-      _≡_ {A = Book}
-      (record {
-        boards = plan .boards;
-        tasks = plan .tasks;
-        clock = 0;
-        board = plan .board;
-        begin = plan .begin;
-        finish = plan .finish;
-        start = moved .start;
-        end = moved .end;
-        mark = moved .mark;
-        dropped = replicate 64 0;
-        holds = plan .holds;
-        after = plan .after;
-      })
-      (openedOn plan)
-  unfolding openedOn opened layOut
-  opened-laid =
-      λ i. record {
-        boards = plan .boards;
-        tasks = plan .tasks;
-        clock = 0;
-        board = plan .board;
-        begin = plan .begin;
-        finish = plan .finish;
-        start = moved-is i .start;
-        end = moved-is i .end;
-        mark = moved-is i .mark;
-        dropped = zeros-laid (plan .tasks) i;
-        holds = plan .holds;
-        after = plan .after;
-      }
-
--- a book with some of its arrays exchanged
-abbrev pub bookWith : Book → ℕ → List ℕ → List ℕ → List ℕ → List ℕ → Book
-bookWith book clock mark start end dropped = record {
-  boards = book .boards;
-  tasks = book .tasks;
+-- a book on a plan, with these arrays
+abbrev pub bookOn : Plan → ℕ → List ℕ → List ℕ → List ℕ → List ℕ → Book
+bookOn plan clock mark start end dropped = record {
+  edition = plan .edition;
+  boards = plan .boards;
+  tasks = plan .tasks;
   clock = clock;
-  board = book .board;
-  begin = book .begin;
-  finish = book .finish;
+  board = plan .board;
+  ready = plan .ready;
+  begin = plan .begin;
+  finish = plan .finish;
   start = start;
   end = end;
   mark = mark;
   dropped = dropped;
-  holds = book .holds;
-  after = book .after;
+  holds = plan .holds;
+  after = plan .after;
 }
+
+abbrev pub bookWith : Book → ℕ → List ℕ → List ℕ → List ℕ → List ℕ → Book
+bookWith book = bookOn (planIn book)
+
+pub blank-laid : (plan : Plan) → bookOn plan 0 (replicate 64 0) (replicate 64 0) (replicate 64 0) (replicate 64 0) ≡ blankBook plan
+unfolding layOut
+blank-laid plan = let z = zeros-laid (plan .tasks) in λ i. bookOn plan 0 (z i) (z i) (z i) (z i)
+
+-- opening
+module _ (plan : Plan) {book : Book} (b : book ≡ blankBook plan) where
+  pub blank-plan : planIn book ≡ plan
+  unfolding layOut
+  blank-plan = rw b
+
+  its-clock : book .clock ≡ 0
+  unfolding layOut
+  its-clock = rw b
+
+  its-drops : book .dropped ≡ laid (plan .tasks) (λ i. 0)
+  unfolding layOut
+  its-drops = rw b
+
+  -- nothing is known, of however many tasks
+  blank-none : book ≡ bookOn plan 0 (laid 0 (λ i. 0)) (laid 0 (λ i. 0)) (laid 0 (λ i. 0)) (laid 0 (λ i. 0))
+  blank-none = b ∙ sym (blank-laid plan) ∙ (let z = zeros-laid 0 in λ i. bookOn plan 0 (z i) (z i) (z i) (z i))
+
+  pub none-dropped : (j : ℕ) → at (book .dropped) j ≡ 0
+  none-dropped j = ap (λ (x : Book). at (x .dropped) j) blank-none ∙ laid-past 0 (λ i. 0) j (omega arith)
+
+  -- a plan that is refused: zeros
+  pub cleared :
+      bookOn (planWith 0 0 0 (replicate 64 0) (replicate 64 0) (replicate 64 0) (replicate 64 0) (replicate 2048 0) (replicate 4096 0))
+      (book .clock) (book .mark) (book .start) (book .end) (book .dropped)
+      ≡ blankBook zeroPlan
+  unfolding layOut planOf each rows
+  cleared =
+      λ i. bookOn zeroPlan (blank-none i .clock) (blank-none i .mark) (blank-none i .start) (blank-none i .end) (blank-none i .dropped)
+
+  module _ {empty moved : Moved} (e : empty ≡ movedTo 0 blank)
+      (m : moved ≡ movedTo (book .tasks) (letGo (planView book) (skipTimes (book .tasks) (planView book) (seenAs empty (book .dropped) 0)))) where
+    moved-is : moved ≡ movedTo (plan .tasks) (letGo (planFor plan) blank)
+    moved-is =
+        m
+        ∙ ap (λ (seen : theory-book.Book). movedTo (book .tasks) (letGo (planView book) (skipTimes (book .tasks) (planView book) seen))) (blank-seen (book .dropped) e none-dropped)
+        ∙ ap (λ (seen : theory-book.Book). movedTo (book .tasks) (letGo (planView book) seen)) (blank-skip (planView book) (book .tasks))
+        ∙ ap (λ (p : Plan). movedTo (p .tasks) (letGo (planFor p) blank)) blank-plan
+
+    pub opened-laid : bookWith book (book .clock) (moved .mark) (moved .start) (moved .end) (book .dropped) ≡ openedOn plan
+    unfolding openedOn opened layOut
+    opened-laid = λ i. bookOn (blank-plan i) (its-clock i) (moved-is i .mark) (moved-is i .start) (moved-is i .end) (its-drops i)
 
 module _ (book : Book) (f : SoundFacts book) (size-dropped : length (book .dropped) ≡ 64) where
   few : book .tasks ≤ 64

@@ -1,12 +1,11 @@
 -- What the public functions answer, by the tests that lead there.
-use Prim.Native.Nat.{ℕ, _-_, _<_, _≤_}
+use Prim.Native.Nat.{ℕ, _-_, _<_}
 use native.Mathlib.Omega.{arith}
 use mathlib.Core.Bool.{Bool, true, false, not, cond, _||_}
 use mathlib.Core.List.{[]}
-use mathlib.Core.Path.{_≡_, refl, sym, ap, _∙_}
+use mathlib.Core.Path.{_≡_, refl, sym, _∙_}
 use mathlib.Core.Logic.{_≢_}
 use lib.Dec.{leb, ltb, eqb}
-use lib.ListN.{length, set, replicate}
 use borrow.Author.Tests.{eq-eqb, ne-eqb, not-true, not-false}
 use Rattle.laws.proofs.Cases.{by-bool, by-eq}
 use Rattle.theory.specs.Figure.{minimumEarly}
@@ -34,18 +33,26 @@ use Rattle.book.specs.declared.Figure.{Figure}
 use Rattle.book.proofs.Soundness.{SoundFacts, is-sound-facts}
 
 -- opening
-module _ (plan : Plan) {ok : Bool} (p : ok ≡ isAccepted plan) {answer : Answer} {book : Book} where
+either : {A : Type 0} (test : Bool) (x : A) → cond test x x ≡ x
+either true x = refl
+either false x = refl
+
+module _ (plan : Plan) {ok : Bool} (p : ok ≡ isAccepted plan) {code : ℕ} {answer : Answer}
+    (a : answer ≡ cond (eqb code 0 || eqb code 9) (refuse code 0 0) (refuse code 0 0)) where
+  opening-says : answer ≡ refuse code 0 0
+  opening-says = a ∙ either (eqb code 0 || eqb code 9) (refuse code 0 0)
+
   pub opening-refused :
-      not ok ≡ true → answer ≡ refuse 9 0 0 → book ≡ blankBook zeroPlan
+      {book : Book} → ok ≡ false → code ≡ 9 → book ≡ blankBook zeroPlan
       → _≡_ {A = Opening} (record { answer = answer; book = book }) (openingOf plan)
   unfolding openingOf
-  opening-refused h a b = rw (sym p ∙ not-true ok h, a, b)
+  opening-refused h n b = rw (sym p ∙ h, opening-says, n, b)
 
   pub opening-granted :
-      not ok ≡ false → answer ≡ granted → book ≡ openedOn plan
+      {book : Book} → ok ≡ true → code ≡ 0 → book ≡ openedOn plan
       → _≡_ {A = Opening} (record { answer = answer; book = book }) (openingOf plan)
   unfolding openingOf
-  opening-granted h a b = rw (sym p ∙ not-false ok h, a, b)
+  opening-granted h z b = rw (sym p ∙ h, opening-says, z, b)
 
 pub sound-plan : (book : Book) → isSound book ≡ true → PlanFacts (planIn book)
 sound-plan book h = plan-facts (planIn book) ((is-sound-facts book) .0 h .accepted)
@@ -106,16 +113,18 @@ module _ (sound : Bool) (inner code : ℕ) (c : code ≡ cond (not sound) 9 inne
       (λ h. (h, let r = sym c ∙ z in rw h at r))
       (λ h. let r = sym c ∙ z in let q : _≡_ {A = ℕ} 9 0 = rw h at r in absurd (omega arith))
 
-  pub told-refused :
-      (first second : ℕ) → inner ≢ 9 → code ≢ 0
-      → cond (eqb code 9) (refuse 9 0 0) (refuse code first second)
+  -- 0 and 9 say 0 and 0 besides
+  pub told-answer :
+      (first second : ℕ) → inner ≢ 9
+      → cond (eqb code 0 || eqb code 9) (refuse code 0 0) (refuse code first second)
       ≡ cond (not sound) (refuse 9 0 0) (cond (eqb inner 0) granted (refuse inner first second))
-  told-refused first second n z =
+  told-answer first second n =
       by-bool sound
       (λ h.
       let e : code ≡ inner = rw h at c in
-      let m : inner ≢ 0 = λ q. z (e ∙ q) in
-      rw (h, e, ne-eqb inner 9 n, ne-eqb inner 0 m))
+      by-eq inner 0
+      (λ z. let o : code ≡ 0 = e ∙ z in rw (h, o, z))
+      (λ m. rw (h, e, ne-eqb inner 9 n, ne-eqb inner 0 m)))
       (λ h. let e : code ≡ 9 = rw h at c in rw (h, e))
 
 not-granted : (sound : Bool) (inner code first second : ℕ) → code ≡ cond (not sound) 9 inner → code ≢ 0
@@ -125,14 +134,26 @@ not-granted true inner code first second c z =
 not-granted false inner code first second c z = refl
 
 -- a report
-module _ (book : Book) (task tick : ℕ) {code : ℕ} (c : code ≡ cond (not (isSound book)) 9 (codeOf book task tick)) where
-  pub reported-refused :
-      {answer : Answer} → code ≢ 0 → answer ≡ cond (eqb code 9) (refuse 9 0 0) (refuse code task tick)
-      → _≡_ {A = Reported} (record { answer = answer; book = book }) (reportedOf book task tick)
-  unfolding reportedOf reportAnswer
-  reported-refused n a =
-      rw (a, told-refused (isSound book) (codeOf book task tick) code c task tick (report-not-nine book task tick) n, not-granted (isSound book) (codeOf book task tick) code task tick c n)
+module _ (book : Book) (task tick : ℕ) {code : ℕ} (c : code ≡ cond (not (isSound book)) 9 (codeOf book task tick))
+    {answer : Answer} (a : answer ≡ cond (eqb code 0 || eqb code 9) (refuse code 0 0) (refuse code task tick)) where
+  its-answer : answer ≡ reportAnswer book task tick
+  unfolding reportAnswer
+  its-answer = a ∙ told-answer (isSound book) (codeOf book task tick) code c task tick (report-not-nine book task tick)
 
+  pub reported-refused :
+      {after : Book} → code ≢ 0 → after ≡ book
+      → _≡_ {A = Reported} (record { answer = answer; book = after }) (reportedOf book task tick)
+  unfolding reportedOf reportAnswer
+  reported-refused n e = rw (its-answer, e, not-granted (isSound book) (codeOf book task tick) code task tick c n)
+
+  pub reported-granted :
+      {after : Book} → code ≡ 0 → after ≡ nextBook book (task - 1) tick
+      → _≡_ {A = Reported} (record { answer = answer; book = after }) (reportedOf book task tick)
+  unfolding reportedOf reportAnswer
+  reported-granted z e =
+      let t = told-granted (isSound book) (codeOf book task tick) code c z in rw (its-answer, e, t .0, t .1)
+
+module _ (book : Book) (task tick : ℕ) {code : ℕ} (c : code ≡ cond (not (isSound book)) 9 (codeOf book task tick)) where
   module _ (z : code ≡ 0) where
     pub its-sound : isSound book ≡ true
     its-sound = told-granted (isSound book) (codeOf book task tick) code c z .0
@@ -152,21 +173,27 @@ module _ (book : Book) (task tick : ℕ) {code : ℕ} (c : code ≡ cond (not (i
     pub granted-facts : SoundFacts book
     granted-facts = (is-sound-facts book) .0 its-sound
 
-    pub reported-granted :
-        {answer : Answer} → answer ≡ granted → {next : Book} → next ≡ nextBook book (task - 1) tick
-        → _≡_ {A = Reported} (record { answer = answer; book = next }) (reportedOf book task tick)
-    unfolding reportedOf reportAnswer
-    reported-granted a e = rw (a, e, its-sound, told-granted (isSound book) (codeOf book task tick) code c z .1)
-
 -- a drop
-module _ (book : Book) (task : ℕ) {code : ℕ} (c : code ≡ cond (not (isSound book)) 9 (dropCodeOf book task)) where
-  pub dropped-refused :
-      {answer : Answer} → code ≢ 0 → answer ≡ cond (eqb code 9) (refuse 9 0 0) (refuse code task 0)
-      → _≡_ {A = Dropped} (record { answer = answer; book = book }) (droppedOf book task)
-  unfolding droppedOf dropAnswer
-  dropped-refused n a =
-      rw (a, told-refused (isSound book) (dropCodeOf book task) code c task 0 (drop-not-nine book task) n, not-granted (isSound book) (dropCodeOf book task) code task 0 c n)
+module _ (book : Book) (task : ℕ) {code : ℕ} (c : code ≡ cond (not (isSound book)) 9 (dropCodeOf book task))
+    {answer : Answer} (a : answer ≡ cond (eqb code 0 || eqb code 9) (refuse code 0 0) (refuse code task 0)) where
+  drop-answer : answer ≡ dropAnswer book task
+  unfolding dropAnswer
+  drop-answer = a ∙ told-answer (isSound book) (dropCodeOf book task) code c task 0 (drop-not-nine book task)
 
+  pub dropped-refused :
+      {after : Book} → code ≢ 0 → after ≡ book
+      → _≡_ {A = Dropped} (record { answer = answer; book = after }) (droppedOf book task)
+  unfolding droppedOf dropAnswer
+  dropped-refused n e = rw (drop-answer, e, not-granted (isSound book) (dropCodeOf book task) code task 0 c n)
+
+  pub dropped-granted :
+      {after : Book} → code ≡ 0 → after ≡ droppedIn book (task - 1)
+      → _≡_ {A = Dropped} (record { answer = answer; book = after }) (droppedOf book task)
+  unfolding droppedOf dropAnswer
+  dropped-granted z e =
+      let t = told-granted (isSound book) (dropCodeOf book task) code c z in rw (drop-answer, e, t .0, t .1)
+
+module _ (book : Book) (task : ℕ) {code : ℕ} (c : code ≡ cond (not (isSound book)) 9 (dropCodeOf book task)) where
   module _ (z : code ≡ 0) where
     drop-task : (0 < task) × (AcceptsDrop (planView book) (bookView book) (task - 1))
     drop-task = drop-zero book task (told-granted (isSound book) (dropCodeOf book task) code c z .1)
@@ -182,12 +209,6 @@ module _ (book : Book) (task : ℕ) {code : ℕ} (c : code ≡ cond (not (isSoun
 
     pub dropped-place : task - 1 < 64
     dropped-place = omega (arith, dropped-known, sound-plan book (told-granted (isSound book) (dropCodeOf book task) code c z .0) .tasks-to)
-
-    pub dropped-granted :
-        {answer : Answer} → answer ≡ granted → {next : Book} → next ≡ droppedIn book (task - 1)
-        → _≡_ {A = Dropped} (record { answer = answer; book = next }) (droppedOf book task)
-    unfolding droppedOf dropAnswer
-    dropped-granted a e = rw (a, e, told-granted (isSound book) (dropCodeOf book task) code c z .0, told-granted (isSound book) (dropCodeOf book task) code c z .1)
 
 -- the same of the definitions alone
 module _ (book : Book) (task : ℕ) (h : isSound book ≡ true) where
@@ -216,7 +237,7 @@ module _ (book : Book) {sound : Bool} (s : sound ≡ isSound book) {answer : Ans
 
   pub figure-granted :
       not sound ≡ false → answer ≡ granted → {early : ℕ}
-      → early ≡ minimumEarly (planSeen (book .tasks) (book .begin) []) (bookSeen (book .mark) (book .start) [] [] 0)
+      → early ≡ minimumEarly (planSeen (book .tasks) (book .ready) (book .begin) []) (bookSeen (book .mark) (book .start) [] (book .dropped) (book .clock))
       → _≡_ {A = Figure} (record { answer = answer; early = early }) (figureOf book)
   unfolding figureOf minimumEarly
   figure-granted h a e = rw (a, e, sym s ∙ not-false sound h)

@@ -1,9 +1,9 @@
 -- What is done by the table is what the theory says: dropped tasks skipped, then whoever may go let go.
-use Prim.Native.Nat.{ℕ, zero, suc, _<_, _≤_}
+use Prim.Native.Nat.{ℕ, zero, suc, _<_, _≤_, max}
 use native.Mathlib.Omega.{arith}
 use mathlib.Core.Bool.{Bool, true, false, cond, _&&_}
-use mathlib.Core.List.{List}
-use mathlib.Core.Path.{_≡_, refl, sym, ap, _∙_}
+use mathlib.Core.List.{List, []}
+use mathlib.Core.Path.{_≡_, refl, ap, _∙_}
 use lib.ListN.{length}
 use borrow.Author.Tests.{le-ltb}
 use Rattle.laws.proofs.Cases.{by-bool, and-l}
@@ -14,6 +14,7 @@ use Rattle.theory.proofs.Past.{past-skip, past-let-go}
 use Rattle.theory.proofs.Reflect.{all-ended-at}
 use Rattle.theory.proofs.Skip.{goes-at}
 use Rattle.plan.specs.Value.{at}
+use Rattle.view.specs.View.{planSeen}
 use Rattle.book.specs.private.Table.{SmallTable, goesByRow, skipsByRow, roundBy, roundsBy, startsBy, seenAs, movedTo, TableTo, Closed, Past, Fit}
 use Rattle.book.specs.declared.Moved.{Moved}
 use Rattle.book.proofs.StartLaws.{put-at, length-put, go-by-row}
@@ -39,6 +40,12 @@ closed-skip plan book closed i j li lj n w =
   where
     ended-on : book .mark j ≡ 2 → cond (skips plan book j) 2 (book .mark j) ≡ 2
     ended-on e = by-bool (skips plan book j) (λ h. rw h) (λ h. rw h e)
+
+-- the table looks at no ready tick
+pub seen-rows :
+    (tasks : ℕ) (ready begin finish : List ℕ) (board mark : ℕ → ℕ) (n : ℕ) (table : List (List ℕ))
+    → TableTo (planSeen tasks [] begin finish) board mark n table → TableTo (planSeen tasks ready begin finish) board mark n table
+seen-rows tasks ready begin finish board mark n table t = record { rows = λ i l z. record { cells = t .rows i l z .cells } }
 
 module _ (plan : Plan) (board : ℕ → ℕ) (dropped : List ℕ) (clock : ℕ) (table : List (List ℕ)) where
   -- what the rounds and the starts keep
@@ -76,19 +83,19 @@ module _ (plan : Plan) (board : ℕ → ℕ) (dropped : List ℕ) (clock : ℕ) 
     unfolding roundBy
     view-round =
         λ i. record {
-          mark = λ j. put-at (skipsByRow (moved .mark) dropped table) 2 (moved .mark) (plan .tasks) (skips plan seen) (few-in (moved .mark) (r .size-mark)) skip-by-row skips-not j i;
-          start = λ j. put-at (skipsByRow (moved .mark) dropped table) clock (moved .start) (plan .tasks) (skips plan seen) (few-in (moved .start) (r .size-start)) skip-by-row skips-not j i;
-          end = λ j. put-at (skipsByRow (moved .mark) dropped table) clock (moved .end) (plan .tasks) (skips plan seen) (few-in (moved .end) (r .size-end)) skip-by-row skips-not j i;
+          mark = λ j. put-at (skipsByRow (moved .mark) dropped table) (λ k. 2) (moved .mark) (plan .tasks) (skips plan seen) (few-in (moved .mark) (r .size-mark)) skip-by-row skips-not j i;
+          start = λ j. put-at (skipsByRow (moved .mark) dropped table) (λ k. clock) (moved .start) (plan .tasks) (skips plan seen) (few-in (moved .start) (r .size-start)) skip-by-row skips-not j i;
+          end = λ j. put-at (skipsByRow (moved .mark) dropped table) (λ k. clock) (moved .end) (plan .tasks) (skips plan seen) (few-in (moved .end) (r .size-end)) skip-by-row skips-not j i;
           dropped = at dropped;
           clock = clock;
         }
 
-    view-starts : seenAs (startsBy table clock (plan .tasks) moved) dropped clock ≡ letGo plan seen
+    view-starts : seenAs (startsBy (plan .ready) table clock (plan .tasks) moved) dropped clock ≡ letGo plan seen
     unfolding startsBy
     view-starts =
         λ i. record {
-          mark = λ j. put-at (goesByRow (moved .mark) table) 1 (moved .mark) (plan .tasks) (goes plan seen) (few-in (moved .mark) (r .size-mark)) (go-by-row plan board moved dropped clock table (r .fit) (r .rows)) goes-not j i;
-          start = λ j. put-at (goesByRow (moved .mark) table) clock (moved .start) (plan .tasks) (goes plan seen) (few-in (moved .start) (r .size-start)) (go-by-row plan board moved dropped clock table (r .fit) (r .rows)) goes-not j i;
+          mark = λ j. put-at (goesByRow (moved .mark) table) (λ k. 1) (moved .mark) (plan .tasks) (goes plan seen) (few-in (moved .mark) (r .size-mark)) (go-by-row plan board moved dropped clock table (r .fit) (r .rows)) goes-not j i;
+          start = λ j. put-at (goesByRow (moved .mark) table) (λ k. max (plan .ready k) clock) (moved .start) (plan .tasks) (goes plan seen) (few-in (moved .start) (r .size-start)) (go-by-row plan board moved dropped clock table (r .fit) (r .rows)) goes-not j i;
           end = at (moved .end);
           dropped = at dropped;
           clock = clock;
@@ -109,24 +116,24 @@ module _ (plan : Plan) (board : ℕ → ℕ) (dropped : List ℕ) (clock : ℕ) 
     sizes = record {
       fit = rw view-round fit-round;
       rows = record { rows = λ i l z. r .rows .rows i l (waits-back dropped table clock (plan .tasks) moved i z) };
-      size-mark = length-put (skipsByRow (moved .mark) dropped table) 2 (moved .mark) (plan .tasks) ∙ r .size-mark;
-      size-start = length-put (skipsByRow (moved .mark) dropped table) clock (moved .start) (plan .tasks) ∙ r .size-start;
-      size-end = length-put (skipsByRow (moved .mark) dropped table) clock (moved .end) (plan .tasks) ∙ r .size-end;
+      size-mark = length-put (skipsByRow (moved .mark) dropped table) (λ k. 2) (moved .mark) (plan .tasks) ∙ r .size-mark;
+      size-start = length-put (skipsByRow (moved .mark) dropped table) (λ k. clock) (moved .start) (plan .tasks) ∙ r .size-start;
+      size-end = length-put (skipsByRow (moved .mark) dropped table) (λ k. clock) (moved .end) (plan .tasks) ∙ r .size-end;
     }
 
     -- the starts are the arrays of what the theory says
-    starts-laid : startsBy table clock (plan .tasks) moved ≡ movedTo (plan .tasks) (letGo plan seen)
+    starts-laid : startsBy (plan .ready) table clock (plan .tasks) moved ≡ movedTo (plan .tasks) (letGo plan seen)
     unfolding startsBy
     starts-laid = own ∙ ap (λ (b : Book). movedTo (plan .tasks) b) view-starts
       where
-        past : Past (plan .tasks) (seenAs (startsBy table clock (plan .tasks) moved) dropped clock)
+        past : Past (plan .tasks) (seenAs (startsBy (plan .ready) table clock (plan .tasks) moved) dropped clock)
         past = rw view-starts (past-by plan _ seen (past-let-go plan seen) (r .fit .past))
 
-        own : startsBy table clock (plan .tasks) moved ≡ movedTo (plan .tasks) (seenAs (startsBy table clock (plan .tasks) moved) dropped clock)
+        own : startsBy (plan .ready) table clock (plan .tasks) moved ≡ movedTo (plan .tasks) (seenAs (startsBy (plan .ready) table clock (plan .tasks) moved) dropped clock)
         own =
             λ i. record {
-              mark = own-laid (plan .tasks) ((startsBy table clock (plan .tasks) moved) .mark) (r .fit .few) (length-put (goesByRow (moved .mark) table) 1 (moved .mark) (plan .tasks) ∙ r .size-mark) (past .mark) i;
-              start = own-laid (plan .tasks) ((startsBy table clock (plan .tasks) moved) .start) (r .fit .few) (length-put (goesByRow (moved .mark) table) clock (moved .start) (plan .tasks) ∙ r .size-start) (past .start) i;
+              mark = own-laid (plan .tasks) ((startsBy (plan .ready) table clock (plan .tasks) moved) .mark) (r .fit .few) (length-put (goesByRow (moved .mark) table) (λ k. 1) (moved .mark) (plan .tasks) ∙ r .size-mark) (past .mark) i;
+              start = own-laid (plan .tasks) ((startsBy (plan .ready) table clock (plan .tasks) moved) .start) (r .fit .few) (length-put (goesByRow (moved .mark) table) (λ k. max (plan .ready k) clock) (moved .start) (plan .tasks) ∙ r .size-start) (past .start) i;
               end = own-laid (plan .tasks) (moved .end) (r .fit .few) (r .size-end) (past .end) i;
             }
 
@@ -148,7 +155,7 @@ module _ (plan : Plan) (board : ℕ → ℕ) (dropped : List ℕ) (clock : ℕ) 
     skipped-ready = rw s (rounds-ready (plan .tasks) moved r)
 
     pub settled-is :
-        {settled : Moved} → settled ≡ startsBy table clock (plan .tasks) skipped
+        {settled : Moved} → settled ≡ startsBy (plan .ready) table clock (plan .tasks) skipped
         → settled ≡ movedTo (plan .tasks) (letGo plan (skipTimes (plan .tasks) plan (seenAs moved dropped clock)))
     settled-is e =
         e ∙ starts-laid skipped skipped-ready

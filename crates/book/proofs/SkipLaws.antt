@@ -38,11 +38,11 @@ module _ (dropped : List ℕ) (table : List (List ℕ)) (clock : ℕ) where
           → _≡_ {A = Moved} (record { mark = set (next .mark) i 2; start = set (next .start) i clock; end = set (next .end) i clock })
           (roundBy dropped table clock (i + 1) old)
       unfolding roundBy
-      round-skips g = rw (h, put-turn pick 2 (old .mark) i g, put-turn pick clock (old .start) i g, put-turn pick clock (old .end) i g)
+      round-skips g = rw (h, put-turn pick (λ j. 2) (old .mark) i g, put-turn pick (λ j. clock) (old .start) i g, put-turn pick (λ j. clock) (old .end) i g)
 
       pub round-stays : skipsByRow (old .mark) dropped table i ≡ false → next ≡ roundBy dropped table clock (i + 1) old
       unfolding roundBy
-      round-stays g = h ∙ rw (put-stay pick 2 (old .mark) i g, put-stay pick clock (old .start) i g, put-stay pick clock (old .end) i g)
+      round-stays g = h ∙ rw (put-stay pick (λ j. 2) (old .mark) i g, put-stay pick (λ j. clock) (old .start) i g, put-stay pick (λ j. clock) (old .end) i g)
 
   module _ (n : ℕ) where
     -- a round that skips nobody changes nothing, and so do all after it
@@ -51,9 +51,9 @@ module _ (dropped : List ℕ) (table : List (List ℕ)) (clock : ℕ) where
     idle old h =
         let none = any-not n (skipsByRow (old .mark) dropped table) h in
         rw (
-          put-idle (skipsByRow (old .mark) dropped table) 2 (old .mark) n none,
-          put-idle (skipsByRow (old .mark) dropped table) clock (old .start) n none,
-          put-idle (skipsByRow (old .mark) dropped table) clock (old .end) n none,
+          put-idle (skipsByRow (old .mark) dropped table) (λ j. 2) (old .mark) n none,
+          put-idle (skipsByRow (old .mark) dropped table) (λ j. clock) (old .start) n none,
+          put-idle (skipsByRow (old .mark) dropped table) (λ j. clock) (old .end) n none,
         )
 
     idle-rounds :
@@ -65,7 +65,7 @@ module _ (dropped : List ℕ) (table : List (List ℕ)) (clock : ℕ) where
     -- whoever waits after a round waited before it
     pub waits-back : (old : Moved) (i : ℕ) → at ((roundBy dropped table clock n old) .mark) i ≡ 0 → at (old .mark) i ≡ 0
     unfolding roundBy
-    waits-back old i z = put-back (skipsByRow (old .mark) dropped table) 2 (old .mark) n (λ e. omega arith) i z
+    waits-back old i z = put-back (skipsByRow (old .mark) dropped table) (λ j. 2) (old .mark) n (λ j e. omega arith) i z
 
     -- the rounds done so far
     pub record SkipTo (old : Moved) (k : ℕ) (next : Moved) : Type 0 where

@@ -14,7 +14,7 @@ use Rattle.plan.specs.Value.{isAccepted}
 use Rattle.plan.specs.declared.Plan.{Plan}
 use Rattle.view.specs.View.{planFor}
 use Rattle.view.proofs.Accepted.{plan-facts}
-use Rattle.sound.specs.Sound.{nothingPast, soundOn}
+use Rattle.sound.specs.Sound.{soundOn}
 use Rattle.book.specs.View.{planIn, planView, bookView, layOut}
 use Rattle.book.specs.Sound.{isSound}
 use Rattle.book.specs.Open.{openedOn}

@@ -1,5 +1,5 @@
 -- Values put at the places that are picked, and the start rule by the table.
-use Prim.Native.Nat.{ℕ, _+_, _<_, _≤_}
+use Prim.Native.Nat.{ℕ, _+_, _<_, _≤_, max}
 use mathlib.Core.Bool.{Bool, true, false, cond}
 use mathlib.Core.List.{List, []}
 use mathlib.Core.Path.{_≡_, refl, sym, _∙_}
@@ -17,19 +17,19 @@ use Rattle.book.specs.private.Table.{goesByRow, putEach, startsBy, seenA
 use Rattle.book.specs.declared.Moved.{Moved}
 use Rattle.book.proofs.TableLaws.{row-rule}
 
-module _ (pick : ℕ → Bool) (v : ℕ) (l : List ℕ) where
+module _ (pick : ℕ → Bool) (v : ℕ → ℕ) (l : List ℕ) where
   pub put-none : putEach 0 pick v l ≡ l
   unfolding each
   put-none = refl
 
-  pub put-turn : (n : ℕ) → pick n ≡ true → set (putEach n pick v l) n v ≡ putEach (n + 1) pick v l
-  put-turn n h = rw (each-turn n (λ i. cond (pick i) v (at l i)) l, h)
+  pub put-turn : (n : ℕ) → pick n ≡ true → set (putEach n pick v l) n (v n) ≡ putEach (n + 1) pick v l
+  put-turn n h = rw (each-turn n (λ i. cond (pick i) (v i) (at l i)) l, h)
 
   pub put-stay : (n : ℕ) → pick n ≡ false → putEach n pick v l ≡ putEach (n + 1) pick v l
-  put-stay n h = each-skip n (λ i. cond (pick i) v (at l i)) l 0 (rw h)
+  put-stay n h = each-skip n (λ i. cond (pick i) (v i) (at l i)) l 0 (rw h)
 
   pub put-idle : (n : ℕ) → ((i : ℕ) → i < n → pick i ≡ false) → putEach n pick v l ≡ l
-  put-idle n none = each-idle n (λ i. cond (pick i) v (at l i)) l 0 (λ i h. rw (none i h))
+  put-idle n none = each-idle n (λ i. cond (pick i) (v i) (at l i)) l 0 (λ i h. rw (none i h))
 
   pub length-put : (n : ℕ) → length (putEach n pick v l) ≡ length l
   length-put n = length-each n _ l
@@ -37,14 +37,14 @@ module _ (pick : ℕ → Bool) (v : ℕ) (l : List ℕ) where
   -- as a function that picks the same below n and nobody past it
   pub put-at :
       (n : ℕ) (go : ℕ → Bool) → n ≤ length l → ((i : ℕ) → i < n → pick i ≡ go i) → ((j : ℕ) → n ≤ j → go j ≡ false) → (j : ℕ)
-      → at (putEach n pick v l) j ≡ cond (go j) v (at l j)
+      → at (putEach n pick v l) j ≡ cond (go j) (v j) (at l j)
   put-at n go few same none j =
       by-le n j
       (λ h. each-past n _ l j 0 h ∙ rw (none j h))
       (λ h. each-below n _ l j 0 h (omega arith) ∙ rw (same j h))
 
   -- a value that is not 0 leaves a 0 only where one was
-  pub put-back : (n : ℕ) → v ≢ 0 → (i : ℕ) → at (putEach n pick v l) i ≡ 0 → at l i ≡ 0
+  pub put-back : (n : ℕ) → ((i : ℕ) → v i ≢ 0) → (i : ℕ) → at (putEach n pick v l) i ≡ 0 → at l i ≡ 0
   put-back n ne i z =
       by-le n i
       (λ h. sym (each-past n _ l i 0 h) ∙ z)
@@ -52,9 +52,9 @@ module _ (pick : ℕ → Bool) (v : ℕ) (l : List ℕ) where
       by-le (length l) i
       (λ q. List·getD-eq-default l 0 {n = i} q)
       (λ q.
-      let e = sym (each-below n (λ x. cond (pick x) v (at l x)) l i 0 h q) ∙ z in
+      let e = sym (each-below n (λ x. cond (pick x) (v x) (at l x)) l i 0 h q) ∙ z in
       by-bool (pick i)
-      (λ p. absurd (ne (rw p at e)))
+      (λ p. absurd (ne i (rw p at e)))
       (λ p. rw p at e)))
 
 -- by its row a task goes when it may
@@ -70,19 +70,19 @@ module _ (plan : Plan) (board : ℕ → ℕ) (old : Moved) (dropped : List ℕ) 
       (λ n. rw (ne-eqb (at (old .mark) i) 0 n)))
 
 -- the starts, task by task
-module _ (table : List (List ℕ)) (clock : ℕ) (old : Moved) where
-  pub starts-none : old ≡ startsBy table clock 0 old
+module _ (ready : ℕ → ℕ) (table : List (List ℕ)) (clock : ℕ) (old : Moved) where
+  pub starts-none : old ≡ startsBy ready table clock 0 old
   unfolding startsBy each
   starts-none = refl
 
-  module _ (i : ℕ) {next : Moved} (h : next ≡ startsBy table clock i old) where
+  module _ (i : ℕ) {next : Moved} (h : next ≡ startsBy ready table clock i old) where
     pub starts-go :
-        goesByRow (old .mark) table i ≡ true
-        → _≡_ {A = Moved} (record { mark = set (next .mark) i 1; start = set (next .start) i clock; end = next .end })
-        (startsBy table clock (i + 1) old)
+        {from : ℕ} → from ≡ max (ready i) clock → goesByRow (old .mark) table i ≡ true
+        → _≡_ {A = Moved} (record { mark = set (next .mark) i 1; start = set (next .start) i from; end = next .end })
+        (startsBy ready table clock (i + 1) old)
     unfolding startsBy
-    starts-go g = rw (h, put-turn (goesByRow (old .mark) table) 1 (old .mark) i g, put-turn (goesByRow (old .mark) table) clock (old .start) i g)
+    starts-go e g = rw (h, e, put-turn (goesByRow (old .mark) table) (λ j. 1) (old .mark) i g, put-turn (goesByRow (old .mark) table) (λ j. max (ready j) clock) (old .start) i g)
 
-    pub starts-stay : goesByRow (old .mark) table i ≡ false → next ≡ startsBy table clock (i + 1) old
+    pub starts-stay : goesByRow (old .mark) table i ≡ false → next ≡ startsBy ready table clock (i + 1) old
     unfolding startsBy
-    starts-stay g = h ∙ rw (put-stay (goesByRow (old .mark) table) 1 (old .mark) i g, put-stay (goesByRow (old .mark) table) clock (old .start) i g)
+    starts-stay g = h ∙ rw (put-stay (goesByRow (old .mark) table) (λ j. 1) (old .mark) i g, put-stay (goesByRow (old .mark) table) (λ j. max (ready j) clock) (old .start) i g)

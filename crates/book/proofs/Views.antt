@@ -3,7 +3,7 @@ use Prim.Native.Nat.{ℕ, _<_, _≤_}
 use native.Mathlib.Omega.{arith}
 use mathlib.Core.Bool.{true}
 use mathlib.Core.List.{List}
-use mathlib.Core.Path.{_≡_, refl, sym, _∙_}
+use mathlib.Core.Path.{_≡_, refl, _∙_}
 use mathlib.Core.Logic.{_↔_}
 use lib.ListN.{length, set, length-set}
 use lib.Seq.{getD-set-same, getD-set-other}
@@ -11,7 +11,7 @@ use borrow.Author.Tests.{eq-eqb, ne-eqb}
 use Rattle.laws.proofs.Cases.{by-eq, and-l, and-r, and-of}
 use Rattle.theory.specs.Plan as theory-plan
 use Rattle.theory.specs.Book as theory-book
-use Rattle.theory.specs.Report.{putAt, endIt, next, dropIt, blank, opened}
+use Rattle.theory.specs.Report.{putAt, next, dropIt, blank, opened}
 use Rattle.theory.proofs.Past.{SamePast, past-next, past-drop, past-opened}
 use Rattle.plan.specs.Value.{at, blankFrom}
 use Rattle.plan.specs.declared.Plan.{Plan}
@@ -25,7 +25,6 @@ use Rattle.book.specs.Report.{nextBook}
 use Rattle.book.specs.Drop.{droppedIn}
 use Rattle.book.specs.private.Table.{Past}
 use Rattle.book.specs.declared.Book.{Book}
-use Rattle.book.proofs.Sizes.{Sized}
 
 -- nothing is known past the tasks
 pub past-by :

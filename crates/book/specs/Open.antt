@@ -13,7 +13,7 @@ use Rattle.book.specs.declared.Opening.{Opening}
 abbrev pub blankBook : Plan → Book
 blankBook plan = layOut plan blank
 
--- A task that waits for nobody starts at tick 0, even if it was planned later
+-- A task that waits for nobody starts at its ready tick, even if it was planned later
 unfoldable pub openedOn : Plan → Book
 openedOn plan = layOut plan (opened (planFor plan))
 

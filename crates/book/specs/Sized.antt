@@ -1,13 +1,9 @@
 -- The lengths of a plan's and a book's arrays, which each that a function takes or hands out has.
 use mathlib.Core.Path.{_≡_}
 use lib.ListN.{length}
-use Rattle.plan.specs.Sized as plan-sized
-use Rattle.plan.specs.declared.Plan.{Plan}
+pub use Rattle.plan.specs.Sized.{SizedPlan}
 use Rattle.book.specs.View.{planIn}
 use Rattle.book.specs.declared.Book.{Book}
-
-abbrev pub SizedPlan : Plan → Type 0
-SizedPlan plan = plan-sized.Sized plan
 
 pub record Sized (book : Book) : Type 0 where
   pub plan : SizedPlan (planIn book)

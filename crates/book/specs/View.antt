@@ -9,7 +9,8 @@ use Rattle.book.specs.declared.Book.{Book}
 -- the plan that the book is on
 abbrev pub planIn : Book → Plan
 planIn book =
-    planWith (book .boards) (book .tasks) (book .board) (book .begin) (book .finish) (book .holds) (book .after)
+    planWith (book .edition) (book .boards) (book .tasks) (book .board) (book .ready) (book .begin) (book .finish) (book .holds)
+    (book .after)
 
 abbrev pub planView : Book → theory-plan.Plan
 planView book = planFor (planIn book)
@@ -20,10 +21,12 @@ bookView book = bookSeen (book .mark) (book .start) (book .end) (book .dropped) 
 -- the theory's book in the arrays of a `Book` on its plan; places past T hold nothing
 unfoldable pub layOut : Plan → theory-book.Book → Book
 layOut plan seen = record {
+  edition = plan .edition;
   boards = plan .boards;
   tasks = plan .tasks;
   clock = seen .clock;
   board = plan .board;
+  ready = plan .ready;
   begin = plan .begin;
   finish = plan .finish;
   start = laid (plan .tasks) (seen .start);

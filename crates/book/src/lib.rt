@@ -9,13 +9,12 @@ use plan::Answer;
 use plan::Plan;
 use settle::settle;
 ghost use mathlib.Core.Path.{_≡_};
-ghost use mathlib.Core.Bool.{cond};
+ghost use mathlib.Core.Bool.{cond, _||_};
 ghost use lib.Dec.{eqb};
 ghost use lib.ListN.{set};
 ghost use Prim.Native.Nat.{_<_};
 ghost use Rattle.theory.specs.Report.{blank};
 ghost use Rattle.plan.specs.Answer.{refuse};
-ghost use Rattle.plan.specs.Value.{zeroPlan};
 ghost use Rattle.book.specs.Sound.{isSound};
 ghost use Rattle.book.specs.Open.{blankBook, openingOf};
 ghost use Rattle.book.specs.Report.{reportedOf};
@@ -26,10 +25,12 @@ ghost use Rattle.book.specs.private.Table.{movedTo};
 // mark: 0 waiting, 1 running, 2 ended; dropped: 1 for a dropped task, 0 for any other.
 #[repr(C)]
 pub struct Book {
+    pub edition: u8,
     pub boards: u8,
     pub tasks: u8,
     pub clock: u32,
     pub board: [u8; 64],
+    pub ready: [u32; 64],
     pub begin: [u32; 64],
     pub finish: [u32; 64],
     pub start: [u32; 64],
@@ -71,13 +72,13 @@ pub(crate) struct Moved {
     pub end: [u32; 64],
 }
 
-// 9 says 0 and 0 besides.
-fn refused(code: u32, first: u32, second: u32) -> Answer
-    ensures { λ r. ⌜ r ≡ cond (eqb code 9) (refuse 9 0 0) (refuse code first second) ⌝ }
+// 0 and 9 say 0 and 0 besides.
+fn answer_of(code: u32, first: u32, second: u32) -> Answer
+    ensures { λ r. ⌜ r ≡ cond (eqb code 0 || eqb code 9) (refuse code 0 0) (refuse code first second) ⌝ }
 {
-    if code == 9 {
+    if (code == 0) | (code == 9) {
         return Answer {
-            code: 9,
+            code,
             first: 0,
             second: 0,
         };
@@ -94,10 +95,12 @@ pub fn is_sound(book: Book) -> bool
     ensures { λ r. ⌜ r ≡ isSound book ⌝ }
 {
     sound::is_sound(
+        book.edition,
         book.boards,
         book.tasks,
         book.clock,
         &book.board,
+        &book.ready,
         &book.begin,
         &book.finish,
         &book.start,
@@ -107,26 +110,6 @@ pub fn is_sound(book: Book) -> bool
         &book.holds,
         &book.after,
     )
-}
-
-// A book of zeros.
-fn zero_book() -> Book
-    ensures { λ r. ⌜ r ≡ blankBook zeroPlan ⌝ }
-{
-    Book {
-        boards: 0,
-        tasks: 0,
-        clock: 0,
-        board: [0; 64],
-        begin: [0; 64],
-        finish: [0; 64],
-        start: [0; 64],
-        end: [0; 64],
-        mark: [0; 64],
-        dropped: [0; 64],
-        holds: [0; 2048],
-        after: [0; 4096],
-    }
 }
 
 // Nothing is known yet of any task.
@@ -151,57 +134,82 @@ fn ended_at(mark: [u8; 64], start: [u32; 64], end: [u32; 64], k: usize, tick: u3
     moved
 }
 
-pub fn open_book(plan: Plan) -> Opening
-    ensures { λ r. ⌜ r ≡ openingOf plan ⌝ }
+// Nothing is known yet of any task of the plan.
+fn blank_book(plan: Plan) -> Book
+    ensures { λ r. ⌜ r ≡ blankBook plan ⌝ }
 {
     let board = plan.board;
+    let ready = plan.ready;
     let begin = plan.begin;
     let finish = plan.finish;
     let holds = plan.holds;
     let after = plan.after;
-    if !is_accepted(
-        plan.boards,
-        plan.tasks,
-        &board,
-        &begin,
-        &finish,
-        &holds,
-        &after,
-    ) {
-        return Opening {
-            answer: refused(9, 0, 0),
-            book: zero_book(),
-        };
+    Book {
+        edition: plan.edition,
+        boards: plan.boards,
+        tasks: plan.tasks,
+        clock: 0,
+        board,
+        ready,
+        begin,
+        finish,
+        start: [0; 64],
+        end: [0; 64],
+        mark: [0; 64],
+        dropped: [0; 64],
+        holds,
+        after,
     }
-    let none = [0; 64];
-    let moved = settle(
-        &board,
-        &begin,
-        &finish,
-        &none,
-        unmoved(),
-        0,
-        plan.tasks as usize,
-    );
-    let start = moved.start;
-    let end = moved.end;
-    let mark = moved.mark;
+}
+
+// The book's own arrays are lent, and there is one way out, so that the stack holds one copy of it.
+pub fn open_book(plan: Plan) -> Opening
+    ensures { λ r. ⌜ r ≡ openingOf plan ⌝ }
+{
+    let mut book = blank_book(plan);
+    let mut code = 9;
+    if is_accepted(
+        book.edition,
+        book.boards,
+        book.tasks,
+        &book.board,
+        &book.ready,
+        &book.begin,
+        &book.finish,
+        &book.holds,
+        &book.after,
+    ) {
+        let moved = settle(
+            &book.board,
+            &book.ready,
+            &book.begin,
+            &book.finish,
+            &book.dropped,
+            unmoved(),
+            0,
+            book.tasks as usize,
+        );
+        let mark = moved.mark;
+        let start = moved.start;
+        let end = moved.end;
+        book.mark = mark;
+        book.start = start;
+        book.end = end;
+        code = 0;
+    } else {
+        book.edition = 0;
+        book.boards = 0;
+        book.tasks = 0;
+        book.board = [0; 64];
+        book.ready = [0; 64];
+        book.begin = [0; 64];
+        book.finish = [0; 64];
+        book.holds = [0; 2048];
+        book.after = [0; 4096];
+    }
     Opening {
-        answer: refused(0, 0, 0),
-        book: Book {
-            boards: plan.boards,
-            tasks: plan.tasks,
-            clock: 0,
-            board,
-            begin,
-            finish,
-            start,
-            end,
-            mark,
-            dropped: none,
-            holds,
-            after,
-        },
+        answer: answer_of(code, 0, 0),
+        book,
     }
 }
 
@@ -211,10 +219,12 @@ impl Book {
     {
         let tasks = self.tasks as usize;
         let code = codes::report_code(
+            self.edition,
             self.boards,
             self.tasks,
             self.clock,
             &self.board,
+            &self.ready,
             &self.begin,
             &self.finish,
             &self.start,
@@ -226,31 +236,28 @@ impl Book {
             task,
             tick,
         );
-        if code != 0 {
-            return Reported {
-                answer: refused(code, task, tick),
-                book: self,
-            };
+        if code == 0 {
+            let ended = ended_at(self.mark, self.start, self.end, (task - 1) as usize, tick);
+            let next = settle(
+                &self.board,
+                &self.ready,
+                &self.begin,
+                &self.finish,
+                &self.dropped,
+                ended,
+                tick,
+                tasks,
+            );
+            let mark = next.mark;
+            let start = next.start;
+            let end = next.end;
+            self.clock = tick;
+            self.mark = mark;
+            self.start = start;
+            self.end = end;
         }
-        let ended = ended_at(self.mark, self.start, self.end, (task - 1) as usize, tick);
-        let next = settle(
-            &self.board,
-            &self.begin,
-            &self.finish,
-            &self.dropped,
-            ended,
-            tick,
-            tasks,
-        );
-        let mark = next.mark;
-        let start = next.start;
-        let end = next.end;
-        self.clock = tick;
-        self.mark = mark;
-        self.start = start;
-        self.end = end;
         Reported {
-            answer: refused(0, 0, 0),
+            answer: answer_of(code, task, tick),
             book: self,
         }
     }
@@ -260,10 +267,12 @@ impl Book {
         ensures { λ r. ⌜ r ≡ droppedOf self task ⌝ }
     {
         let code = codes::drop_code(
+            self.edition,
             self.boards,
             self.tasks,
             self.clock,
             &self.board,
+            &self.ready,
             &self.begin,
             &self.finish,
             &self.start,
@@ -274,16 +283,12 @@ impl Book {
             &self.after,
             task,
         );
-        if code != 0 {
-            return Dropped {
-                answer: refused(code, task, 0),
-                book: self,
-            };
+        if code == 0 {
+            let k = (task - 1) as usize;
+            self.dropped[k] = 1;
         }
-        let k = (task - 1) as usize;
-        self.dropped[k] = 1;
         Dropped {
-            answer: refused(0, 0, 0),
+            answer: answer_of(code, task, 0),
             book: self,
         }
     }
@@ -292,10 +297,12 @@ impl Book {
         ensures { λ r. ⌜ r ≡ figureOf self ⌝ }
     {
         if !sound::is_sound(
+            self.edition,
             self.boards,
             self.tasks,
             self.clock,
             &self.board,
+            &self.ready,
             &self.begin,
             &self.finish,
             &self.start,
@@ -306,13 +313,21 @@ impl Book {
             &self.after,
         ) {
             return Figure {
-                answer: refused(9, 0, 0),
+                answer: answer_of(9, 0, 0),
                 early: 0,
             };
         }
         Figure {
-            answer: refused(0, 0, 0),
-            early: early::least_early(&self.begin, &self.start, &self.mark, self.tasks),
+            answer: answer_of(0, 0, 0),
+            early: early::least_early(
+                &self.ready,
+                &self.begin,
+                &self.start,
+                &self.mark,
+                &self.dropped,
+                self.clock,
+                self.tasks,
+            ),
         }
     }
 }

@@ -1,4 +1,4 @@
-// After a task has ended, and at opening: dropped tasks that may go are skipped, then whoever may go starts at the clock.
+// After a task has ended, and at opening: dropped tasks that may go are skipped, then whoever may go starts.
 use crate::Moved;
 use crate::skip::skip_free;
 use crate::start::start_free;
@@ -11,6 +11,7 @@ ghost use Rattle.book.specs.private.Table.{seenAs, movedTo, Fit};
 
 pub(crate) fn settle<'a>(
     board: &'a [u8; 64],
+    ready: &'a [u32; 64],
     begin: &'a [u32; 64],
     finish: &'a [u32; 64],
     dropped: &'a [u8; 64],
@@ -18,10 +19,10 @@ pub(crate) fn settle<'a>(
     clock: u32,
     tasks: usize,
 ) -> Moved
-    requires { ⌜ Fit (planSeen tasks (now begin) (now finish)) (at (now board)) (seenAs moved (now dropped) clock) ⌝ }
-    ensures { λ r. ⌜ r ≡ movedTo tasks (letGo (planSeen tasks (now (begin .entry)) (now (finish .entry))) (skipTimes tasks (planSeen tasks (now (begin .entry)) (now (finish .entry))) (seenAs moved (now (dropped .entry)) clock))) ⌝ }
+    requires { ⌜ Fit (planSeen tasks (now ready) (now begin) (now finish)) (at (now board)) (seenAs moved (now dropped) clock) ⌝ }
+    ensures { λ r. ⌜ r ≡ movedTo tasks (letGo (planSeen tasks (now (ready .entry)) (now (begin .entry)) (now (finish .entry))) (skipTimes tasks (planSeen tasks (now (ready .entry)) (now (begin .entry)) (now (finish .entry))) (seenAs moved (now (dropped .entry)) clock))) ⌝ }
 {
     let last = last_tasks(board, begin, finish, &moved.mark, tasks);
     let skipped = skip_free(moved, dropped, last, clock, tasks);
-    start_free(skipped, last, clock, tasks)
+    start_free(skipped, ready, last, clock, tasks)
 }

@@ -1,5 +1,6 @@
-// The start rule: whoever waits and by the table waits for nobody any more starts at the clock.
+// The start rule: whoever waits and by the table waits for nobody any more starts, at its ready tick or the clock.
 use crate::Moved;
+use view::start_of;
 ghost use mathlib.Core.Path.{_≡_};
 ghost use mathlib.Core.Bool.{_&&_};
 ghost use Prim.Native.Nat.{_<_, _≤_};
@@ -42,16 +43,22 @@ pub(crate) fn may_go(mark: &[u8; 64], row: [u8; 8], i: usize) -> bool
     row_ended(mark, row)
 }
 
-// Whoever may go by the marks as they were starts at the clock.
-pub(crate) fn start_free(old: Moved, last: [[u8; 8]; 64], clock: u32, tasks: usize) -> Moved
+// Whoever may go by the marks as they were: its start is fixed, even if it lies past the clock.
+pub(crate) fn start_free(
+    old: Moved,
+    ready: &[u32; 64],
+    last: [[u8; 8]; 64],
+    clock: u32,
+    tasks: usize,
+) -> Moved
     requires { ⌜ (tasks ≤ 64) × SmallTable (at (old .mark)) tasks last ⌝ }
-    ensures { λ r. ⌜ r ≡ startsBy last clock tasks old ⌝ }
+    ensures { λ r. ⌜ r ≡ startsBy (at (now (ready .entry))) last clock tasks old ⌝ }
 {
     let mark = old.mark;
     let mut next = old;
     for i in 0..tasks {
         if may_go(&mark, last[i], i) {
-            next.start[i] = clock;
+            next.start[i] = start_of(ready[i], clock);
             next.mark[i] = 1;
         }
     }

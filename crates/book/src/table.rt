@@ -1,5 +1,6 @@
 // For every task and every board, the last task waited for, counted from 1; 0 for none.
 ghost use mathlib.Core.Path.{_≡_};
+ghost use mathlib.Core.List.{[]};
 ghost use Prim.Native.Nat.{_<_, _≤_};
 ghost use Rattle.laws.specs.Picked.{laterOf};
 ghost use Rattle.plan.specs.Value.{at};
@@ -31,8 +32,8 @@ fn row_of<'a>(
     i: usize,
 ) -> [u8; 8]
     requires { ⌜ (tasks ≤ 64) × (i < 64) ⌝ }
-    requires { ⌜ OnEight (planSeen tasks (now begin) (now finish)) (at (now board)) ⌝ }
-    ensures { λ r. ⌜ RowTo (planSeen tasks (now (begin .entry)) (now (finish .entry))) (at (now (board .entry))) i tasks r ⌝ }
+    requires { ⌜ OnEight (planSeen tasks [] (now begin) (now finish)) (at (now board)) ⌝ }
+    ensures { λ r. ⌜ RowTo (planSeen tasks [] (now (begin .entry)) (now (finish .entry))) (at (now (board .entry))) i tasks r ⌝ }
 {
     let by = begin[i];
     let mut row = [0u8; 8];
@@ -54,8 +55,8 @@ pub(crate) fn last_tasks<'a>(
     tasks: usize,
 ) -> [[u8; 8]; 64]
     requires { ⌜ tasks ≤ 64 ⌝ }
-    requires { ⌜ OnEight (planSeen tasks (now begin) (now finish)) (at (now board)) ⌝ }
-    ensures { λ r. ⌜ TableTo (planSeen tasks (now (begin .entry)) (now (finish .entry))) (at (now (board .entry))) (at (now (mark .entry))) tasks r ⌝ }
+    requires { ⌜ OnEight (planSeen tasks [] (now begin) (now finish)) (at (now board)) ⌝ }
+    ensures { λ r. ⌜ TableTo (planSeen tasks [] (now (begin .entry)) (now (finish .entry))) (at (now (board .entry))) (at (now (mark .entry))) tasks r ⌝ }
 {
     let mut last = [[0u8; 8]; 64];
     for i in 0..tasks {

@@ -1,4 +1,4 @@
--- The least of those that run, task by task.
+-- The least of those that count, task by task.
 use Prim.Native.Nat.{ℕ, _+_, _-_, _≤_, _<_, min}
 use native.Mathlib.Numerals.{add-one}
 use native.Mathlib.Omega.{arith}
@@ -9,11 +9,10 @@ use mathlib.Core.Path.{_≡_, refl, ap, _∙_}
 use lib.ListN.{length}
 use borrow.Author.Tests.{not-true, not-false}
 use Rattle.laws.specs.Picked.{least}
-use Rattle.theory.specs.Book.{running}
-use Rattle.theory.specs.Figure.{minimumEarly}
-use Rattle.plan.specs.Value.{at}
+use Rattle.laws.proofs.Least.{least-or-under}
+use Rattle.theory.specs.Figure.{earlyBy, counts, minimumEarly}
 use Rattle.view.specs.View.{planSeen, bookSeen}
-use Rattle.view.proofs.Short.{at-past, least-short}
+use Rattle.view.proofs.Short.{at-past}
 
 -- whether one of the first n was picked, and the least of those that were, 0 for none
 pub data LeastTo (n : ℕ) (w : ℕ → Bool) (f : ℕ → ℕ) (found : Bool) (so-far : ℕ) : Type 0 where
@@ -58,14 +57,24 @@ module _ (found : Bool) (so-far this : ℕ) where
     pub lesser-new : this ≤ so-far → this ≡ cond found (min so-far this) this
     lesser-new l = rw (not-false found h) (omega arith)
 
--- the figure of the tasks that have a place
-pub figure-of :
-    (tasks : ℕ) (begin start mark : List ℕ) {n r : ℕ} → n ≡ min tasks (length mark)
-    → r ≡ Option·getD (least n (running (at mark)) (λ i. at begin i - at start i)) 0
-    → r ≡ minimumEarly (planSeen tasks begin []) (bookSeen mark start [] [] 0)
-unfolding minimumEarly
-figure-of tasks begin start mark e h =
-    h
-    ∙ ap (λ (m : ℕ). Option·getD (least m (running (at mark)) (λ i. at begin i - at start i)) 0) e
-    ∙ ap (λ (o : Option ℕ). Option·getD o 0)
-    (least-short (length mark) tasks (running (at mark)) (λ i. at begin i - at start i) (λ j l. rw (at-past mark j l)))
+-- the figure of tasks that may lack a place
+module _ (tasks : ℕ) (ready begin start mark dropped : List ℕ) (clock : ℕ) {n : ℕ} (e : n ≡ min tasks (length mark)) where
+  abbrev figure : ℕ → ℕ
+  figure m = minimumEarly (planSeen m ready begin []) (bookSeen mark start [] dropped clock)
+
+  -- one that lacks it waits, and is planned at 0
+  pub figure-none : length begin ≡ length mark → length dropped ≡ length mark → n < tasks → 0 ≡ figure tasks
+  unfolding minimumEarly
+  figure-none same-begin same-dropped h =
+      let j = length mark in
+      let m = at-past mark j (omega arith) in
+      let b = at-past begin j (omega arith) in
+      let d = at-past dropped j (omega arith) in
+      let book = bookSeen mark start [] dropped clock in
+      let early = earlyBy (planSeen tasks ready begin []) book in
+      let zero-early : early j ≡ 0 = rw (m, b) (omega arith) in
+      let under = least-or-under tasks (counts book) early 0 j (omega arith) (rw (m, d)) in
+      omega arith
+
+  pub figure-of : {r : ℕ} → tasks ≤ n → r ≡ figure n → r ≡ figure tasks
+  figure-of h q = let all : n ≡ tasks = omega arith in q ∙ ap figure all

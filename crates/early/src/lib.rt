@@ -1,13 +1,9 @@
-// Minimum early: the least of planned start − start over the tasks that run, 0 where none runs.
+// Minimum early: the least of planned start − start over those that have begun and of planned start − ready over those still to begin.
 ghost use mathlib.Core.Path.{_≡_};
 ghost use mathlib.Core.Bool.{cond};
 ghost use mathlib.Core.List.{[]};
-ghost use mathlib.Core.Option.{Option·getD};
 ghost use Prim.Native.Nat.{_-_, _≤_, min};
-ghost use Rattle.laws.specs.Picked.{least};
-ghost use Rattle.theory.specs.Book.{running};
 ghost use Rattle.theory.specs.Figure.{minimumEarly};
-ghost use Rattle.plan.specs.Value.{at};
 ghost use Rattle.view.specs.View.{planSeen, bookSeen};
 use view::places;
 
@@ -33,16 +29,36 @@ fn lesser(found: bool, least: u32, this: u32) -> u32
     this
 }
 
+// Planned start − start of one that has begun, planned start − ready of any other.
+fn early_by(begun: bool, begin: u32, start: u32, ready: u32) -> u32
+    ensures { λ r. ⌜ r ≡ cond begun (begin - start) (begin - ready) ⌝ }
+{
+    if begun {
+        return less(begin, start);
+    }
+    less(begin, ready)
+}
+
 // The least of the first n tasks.
-fn least_of<'a>(begin: &'a [u32; 64], start: &'a [u32; 64], mark: &'a [u8; 64], n: usize) -> u32
+fn least_of<'a>(
+    ready: &'a [u32; 64],
+    begin: &'a [u32; 64],
+    start: &'a [u32; 64],
+    mark: &'a [u8; 64],
+    dropped: &'a [u8; 64],
+    clock: u32,
+    n: usize,
+) -> u32
     requires { ⌜ n ≤ 64 ⌝ }
-    ensures { λ r. ⌜ r ≡ Option·getD (least n (running (at (now (mark .entry)))) (λ i. at (now (begin .entry)) i - at (now (start .entry)) i)) 0 ⌝ }
+    ensures { λ r. ⌜ r ≡ minimumEarly (planSeen n (now (ready .entry)) (now (begin .entry)) []) (bookSeen (now (mark .entry)) (now (start .entry)) [] (now (dropped .entry)) clock) ⌝ }
 {
     let mut least = 0;
     let mut found = false;
     for i in 0..n {
-        if mark[i] == 1 {
-            least = lesser(found, least, less(begin[i], start[i]));
+        let begun = (mark[i] == 1) & (start[i] <= clock);
+        let to_begin = (mark[i] == 1) | (mark[i] == 0);
+        if begun | (!(dropped[i] == 1) & to_begin) {
+            least = lesser(found, least, early_by(begun, begin[i], start[i], ready[i]));
             found = true;
         }
     }
@@ -51,12 +67,23 @@ fn least_of<'a>(begin: &'a [u32; 64], start: &'a [u32; 64], mark: &'a [u8; 64], 
 
 // The figure by lent arrays, whatever they hold, so that who has judged a book need not judge it again.
 pub fn least_early<'a>(
+    ready: &'a [u32; 64],
     begin: &'a [u32; 64],
     start: &'a [u32; 64],
     mark: &'a [u8; 64],
+    dropped: &'a [u8; 64],
+    clock: u32,
     tasks: u8,
 ) -> u32
-    ensures { λ r. ⌜ r ≡ minimumEarly (planSeen tasks (now (begin .entry)) []) (bookSeen (now (mark .entry)) (now (start .entry)) [] [] 0) ⌝ }
+    ensures { λ r. ⌜ r ≡ minimumEarly (planSeen tasks (now (ready .entry)) (now (begin .entry)) []) (bookSeen (now (mark .entry)) (now (start .entry)) [] (now (dropped .entry)) clock) ⌝ }
 {
-    least_of(begin, start, mark, places(tasks, mark))
+    // lent as slices their lengths are known
+    let planned = &begin[..];
+    let gone = &dropped[..];
+    let n = places(tasks, mark);
+    // a task without a place waits, and is planned at 0
+    if n < tasks as usize {
+        return 0;
+    }
+    least_of(ready, begin, start, mark, dropped, clock, n)
 }

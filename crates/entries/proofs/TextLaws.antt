@@ -16,7 +16,8 @@ use Rattle.text.specs.Bytes.{bytes}
 use Rattle.text.specs.Line.{LF, hasLine, fields, field}
 use Rattle.text.specs.Number.{isNumber, most}
 use Rattle.faults.specs.Faults.{fieldCode, wordCode, endCode, worst, faultOf}
-use Rattle.faults.proofs.FaultLaws.{isCode, field-code, faultless-is}
+use Rattle.faults.proofs.RangedLaws.{field-code}
+use Rattle.faults.proofs.FaultLaws.{isCode, faultless-is}
 use Rattle.entries.specs.Entries.{endCodes, dropCodes, unlessFault, entryOf, nextEntry, entryCode}
 use Rattle.entries.specs.declared.Entry.{Entry}
 use Rattle.entries.proofs.EntryLaws.{end-kinds, drop-kinds}

@@ -1,69 +1,22 @@
--- A line's fault by the codes of its fields, and the number readers' answers in a range.
+-- The codes of a line's fields, and its fault by them.
 use Prim.Native.Nat.{ℕ, suc, _+_, _-_, _≤_, _<_}
-use mathlib.Core.Path.{_≡_, refl, sym, ap, _∙_}
-use mathlib.Core.Bool.{Bool, true, false, not, cond, _&&_, _||_}
+use mathlib.Core.Path.{_≡_, refl, sym, _∙_}
+use mathlib.Core.Bool.{Bool, true, false, cond, _&&_, _||_}
 use mathlib.Core.List.{List, [], _∷_}
 use native.Mathlib.Omega.{arith}
 use lib.Dec.{eqb, leb, ltb}
 use lib.ListN.{length, getD, drop}
-use borrow.Author.Tests.{eq-eqb, ne-eqb, eqb-true, lt-leb, leb-true, leb-false, lt-ltb, le-ltb, not-true, not-false}
-use Rattle.laws.proofs.Cases.{by-bool, by-eq, by-le, and-l, and-r, and-no}
+use borrow.Author.Tests.{eq-eqb, ne-eqb, eqb-true, le-leb, leb-true, lt-ltb, le-ltb}
+use Rattle.laws.proofs.Cases.{by-bool, by-eq, by-le, and-l, and-r, and-of}
 use Rattle.laws.specs.Lists.{allOf, anyOf, same}
+use Rattle.laws.proofs.Lists.{all-at}
 use Rattle.laws.specs.Split.{indexOf, skipOn}
 use Rattle.laws.proofs.Split.{skip-le}
 use Rattle.text.specs.Number.{isNumber, valueOf, most, numberOf}
 use Rattle.text.specs.Items.{between}
 use Rattle.text.specs.Line.{TAB, fields}
-use Rattle.faults.specs.Faults.{codeFor, fieldCode, rangedRead, wordCode, endCode, worst, columnOf, faultOf}
-use Rattle.text.specs.declared.Number.{Number}
-use Rattle.text.specs.declared.Number.the-variants.{Value}
-use Rattle.faults.specs.declared.Ranged.{Ranged}
+use Rattle.faults.specs.Faults.{codeFor, fieldCode, wordCode, endCode, worst, columnOf, faultOf}
 use Rattle.text.proofs.Spell.{all-stop, all-next}
-use Rattle.text.proofs.ItemLaws.{NoValue, over-is, value-is}
-
--- in a range that ends at 1,000,000 at the latest
-pub field-code : (low high : ℕ) (s : List ℕ) → high ≤ most → fieldCode low high s ≡ codeFor (isNumber s) (between low high (valueOf s))
-unfolding numberOf
-field-code low high s h =
-    by-bool (isNumber s)
-    (λ e.
-    by-bool (leb (valueOf s) most)
-    (λ f. by-bool (between low high (valueOf s)) (λ b. rw (e, f, b)) (λ b. rw (e, f, b)))
-    (λ f.
-    let big = leb-false (valueOf s) most f in
-    let out : between low high (valueOf s) ≡ false = rw (lt-leb (valueOf s) high (omega arith)) (and-no (leb low (valueOf s))) in
-    rw (e, f, out)))
-    (λ e. rw e)
-
--- ---- a number in a range
-
-module _ (low high : ℕ) (s : List ℕ) {r : Number} (q : r ≡ numberOf s) where
-  pub ranged-none : NoValue r → _≡_ {A = Ranged} (record { code = cond (isNumber s) 4 3; value = 0 }) (rangedRead low high s)
-  unfolding rangedRead numberOf
-  ranged-none none =
-      by-bool (isNumber s)
-      (λ n. let big = over-is s r n q none in rw (n, lt-leb (valueOf s) most big))
-      (λ n. rw n)
-
-  module _ {v j : ℕ} (k : r ≡ Value v j) where
-    is-value : numberOf s ≡ Value (valueOf s) j
-    is-value = let e : v ≡ valueOf s = value-is s r v j q k in sym q ∙ k ∙ ap (λ (x : ℕ). Value x j) e
-
-    pub ranged-off : not (leb low v && leb v high) ≡ true → _≡_ {A = Ranged} (record { code = 4; value = 0 }) (rangedRead low high s)
-    unfolding rangedRead
-    ranged-off h =
-        let off : between low high (valueOf s) ≡ false = rw (value-is s r v j q k) at (not-true (leb low v && leb v high) h) in
-        rw (is-value, off)
-
-    pub ranged-in : not (leb low v && leb v high) ≡ false → _≡_ {A = Ranged} (record { code = 0; value = v }) (rangedRead low high s)
-    unfolding rangedRead
-    ranged-in h =
-        let e : v ≡ valueOf s = value-is s r v j q k in
-        let fine : between low high (valueOf s) ≡ true = rw e at (not-false (leb low v && leb v high) h) in
-        rw (is-value, fine, e)
-
-pub unread-is : (s : List ℕ) (t : Bool) → t ≡ isNumber s → {c : ℕ} → c ≡ cond t 4 3 → _≡_ {A = Ranged} (record { code = c; value = 0 }) (record { code = cond (isNumber s) 4 3; value = 0 })
-unread-is s t e f = rw (f, e)
 
 -- ---- words and ends
 
@@ -87,9 +40,13 @@ module _ (ended : Bool) (n : ℕ) (line : List ℕ) {count : ℕ} (e : count ≡
 
 -- ---- codes
 
--- a code is 0, 3 or 4
+-- a code is 0, 3, 4 or 18
 unfoldable pub isCode : ℕ → Bool
-isCode c = eqb 0 c || (eqb 3 c || eqb 4 c)
+isCode c = eqb 0 c || (eqb 3 c || (eqb 4 c || eqb 18 c))
+
+pub eighteen-is-code : isCode 18 ≡ true
+unfolding isCode
+eighteen-is-code = refl
 
 pub for-code : (a b : Bool) → isCode (codeFor a b) ≡ true
 unfolding isCode
@@ -124,19 +81,27 @@ faultless-is (c ∷ l) h =
     by-eq c 0
     (λ z. rw z r)
     (λ n.
-    let no : eqb 0 c ≡ false = ne-eqb 0 c (λ e. n (sym e)) in
     by-eq c 3
     (λ t. rw t)
     (λ m.
-    let f : c ≡ 4 = four c n m (and-l (isCode c) (allOf isCode l) h) in
-    rw f (other (anyOf (eqb 3) l))))
+    by-eq c 4
+    (λ f. rw f (other (anyOf (eqb 3) l)))
+    (λ q.
+    let f : c ≡ 18 = eighteen c n m q (and-l (isCode c) (allOf isCode l) h) in
+    rw f (last (anyOf (eqb 3) l) (anyOf (eqb 4) l)))))
   where
-    four : (c : ℕ) → (c ≡ 0 → ⊥) → (c ≡ 3 → ⊥) → isCode c ≡ true → c ≡ 4
-    four c n m h = sym (eqb-true 4 c (rw (ne-eqb 0 c (λ e. n (sym e)), ne-eqb 3 c (λ e. m (sym e))) at h))
+    eighteen : (c : ℕ) → (c ≡ 0 → ⊥) → (c ≡ 3 → ⊥) → (c ≡ 4 → ⊥) → isCode c ≡ true → c ≡ 18
+    eighteen c n m q h =
+        sym (eqb-true 18 c (rw (ne-eqb 0 c (λ e. n (sym e)), ne-eqb 3 c (λ e. m (sym e)), ne-eqb 4 c (λ e. q (sym e))) at h))
 
     other : (b : Bool) → false ≡ eqb (cond {A = ℕ} b 3 4) 0
     other true = refl
     other false = refl
+
+    last : (a b : Bool) → false ≡ eqb (cond {A = ℕ} a 3 (cond b 4 18)) 0
+    last true b = refl
+    last false true = refl
+    last false false = refl
 
 module _ (l : List ℕ) (i : ℕ) {x : Bool} where
   pub zero-stop : i < length l → (getD l i 0 ≡ 0 → ⊥) → allOf (eqb 0) (drop i l) ≡ x → false ≡ x
@@ -145,76 +110,43 @@ module _ (l : List ℕ) (i : ℕ) {x : Bool} where
   pub zero-next : i < length l → getD l i 0 ≡ 0 → allOf (eqb 0) (drop i l) ≡ x → allOf (eqb 0) (drop (i + 1) l) ≡ x
   zero-next h z q = all-next (eqb 0) l i 0 true x h (sym (eq-eqb 0 (getD l i 0) (sym z))) refl q
 
--- the value of a number that is in its range, and of any other
-module _ (low high : ℕ) (s : List ℕ) where
-  pub ranged-code : rangedRead low high s .code ≡ fieldCode low high s
-  unfolding rangedRead
-  ranged-code = refl
+-- a code of 0, and what it says
+pub for-zero : (spelt fine : Bool) → codeFor spelt fine ≡ 0 → (spelt ≡ true) × (fine ≡ true)
+for-zero true true z = (refl, refl)
+for-zero true false z = absurd (omega arith)
+for-zero false fine z = absurd (omega arith)
 
-  pub ranged-value : rangedRead low high s .code ≡ 0 → rangedRead low high s .value ≡ valueOf s
-  unfolding rangedRead
-  ranged-value z = rw (eq-eqb (fieldCode low high s) 0 z)
+pub word-zero : (word s : List ℕ) → wordCode word s ≡ 0 → same s word ≡ true
+unfolding wordCode
+word-zero word s z = by-bool (same s word) (λ e. e) (λ e. let q : _≡_ {A = ℕ} 3 0 = rw e at z in absurd (omega arith))
 
-  ranged-most : rangedRead low high s .value ≤ most
-  unfolding rangedRead numberOf
-  ranged-most =
-      by-bool (isNumber s)
-      (λ e.
-      by-bool (leb (valueOf s) most)
-      (λ f.
-      let small = leb-true (valueOf s) most f in
-      by-bool (between low high (valueOf s)) (λ b. rw (e, f, b) small) (λ b. rw (e, f, b) (omega arith)))
-      (λ f. rw (e, f) (omega arith)))
-      (λ e. rw e (omega arith))
+pub zero-word : (word s : List ℕ) → same s word ≡ true → wordCode word s ≡ 0
+unfolding wordCode
+zero-word word s e = rw e
 
-pub ranged-small : (low high : ℕ) (s : List ℕ) {r : Ranged} → r ≡ rangedRead low high s → r .value ≤ 1000000
-ranged-small low high s e = rw e (ranged-most low high s)
+pub end-zero : (ended : Bool) (n : ℕ) (line : List ℕ) → endCode ended n line ≡ 0 → (ended ≡ true) × (length (fields line) ≤ n)
+unfolding endCode
+end-zero ended n line z =
+    by-bool (ended && leb (length (fields line)) n)
+    (λ e. (and-l ended (leb (length (fields line)) n) e, leb-true (length (fields line)) n (and-r ended (leb (length (fields line)) n) e)))
+    (λ e. let q : _≡_ {A = ℕ} 3 0 = rw e at z in absurd (omega arith))
+
+pub zero-end : (ended : Bool) (n : ℕ) (line : List ℕ) → ended ≡ true → length (fields line) ≤ n → endCode ended n line ≡ 0
+unfolding endCode
+zero-end ended n line e few = rw (e, le-leb (length (fields line)) n few)
+
+pub zero-at : (codes : List ℕ) → allOf (eqb 0) codes ≡ true → (i : ℕ) → i < length codes → getD codes i 0 ≡ 0
+zero-at codes all i l = sym (eqb-true 0 (getD codes i 0) (all-at (eqb 0) codes all i 0 l))
+
+pub no-codes : allOf (eqb 0) [] ≡ true
+unfolding allOf
+no-codes = refl
+
+pub zeros : (c : ℕ) (codes : List ℕ) → c ≡ 0 → allOf (eqb 0) codes ≡ true → allOf (eqb 0) (c ∷ codes) ≡ true
+unfolding allOf
+zeros c codes z all = and-of (eq-eqb 0 c (sym z)) all
 
 -- ---- the leftmost field of a code
-
--- a fifth code goes unseen behind a fourth that refuses, but for being 3
-some-fault : (a b c : Bool) → (a || (b || (c || true))) ≡ true
-some-fault true b c = refl
-some-fault false true c = refl
-some-fault false false true = refl
-some-fault false false false = refl
-
-module _ (line : List ℕ) (p q r x y : ℕ) (l : List ℕ) where
-  behind-three : faultOf line (p ∷ q ∷ r ∷ 3 ∷ x ∷ l) ≡ faultOf line (p ∷ q ∷ r ∷ 3 ∷ y ∷ l)
-  unfolding faultOf worst anyOf indexOf
-  behind-three = rw (some-fault (eqb 3 p) (eqb 3 q) (eqb 3 r))
-
-  behind-four : (x ≡ 3 → ⊥) → (y ≡ 3 → ⊥) → faultOf line (p ∷ q ∷ r ∷ 4 ∷ x ∷ l) ≡ faultOf line (p ∷ q ∷ r ∷ 4 ∷ y ∷ l)
-  unfolding faultOf worst anyOf indexOf
-  behind-four m n =
-      let no = ne-eqb 3 x (λ e. m (sym e)) in
-      let none = ne-eqb 3 y (λ e. n (sym e)) in
-      by-bool (eqb 3 p || (eqb 3 q || (eqb 3 r || anyOf (eqb 3) l)))
-      (λ t. rw (no, none, t, ne-eqb x 3 m, ne-eqb y 3 n))
-      (λ t. rw (no, none, t, some-fault (eqb 4 p) (eqb 4 q) (eqb 4 r)))
-
--- so a range that is not known yet does no harm
-pub behind-refused :
-    (line : List ℕ) (p q r c : ℕ) (low low′ high : ℕ) (s l : List ℕ) → isCode c ≡ true → (c ≡ 0 → ⊥)
-    → faultOf line (p ∷ q ∷ r ∷ c ∷ fieldCode low high s ∷ l) ≡ faultOf line (p ∷ q ∷ r ∷ c ∷ fieldCode low′ high s ∷ l)
-unfolding isCode numberOf
-behind-refused line p q r c low low′ high s l k n =
-    by-eq c 3
-    (λ e. rw e (behind-three line p q r _ _ l))
-    (λ m.
-    let f : c ≡ 4 = sym (eqb-true 4 c (rw (ne-eqb 0 c (λ e. n (sym e)), ne-eqb 3 c (λ e. m (sym e))) at k)) in
-    by-bool (isNumber s)
-    (λ e. rw f (behind-four line p q r _ _ l (spelt low e) (spelt low′ e)))
-    (λ e. rw e))
-  where
-    spelt : (low : ℕ) → isNumber s ≡ true → fieldCode low high s ≡ 3 → ⊥
-    spelt low e z =
-        by-bool (leb (valueOf s) most)
-        (λ f.
-        by-bool (between low high (valueOf s))
-        (λ b. let w : _≡_ {A = ℕ} 0 3 = rw (e, f, b) at z in omega arith)
-        (λ b. let w : _≡_ {A = ℕ} 4 3 = rw (e, f, b) at z in omega arith))
-        (λ f. let w : _≡_ {A = ℕ} 4 3 = rw (e, f) at z in omega arith)
 
 -- some field has the code where the search for it finds one
 pub any-found : (c : ℕ) (codes : List ℕ) → anyOf (eqb c) codes ≡ ltb (indexOf c codes) (length codes)
@@ -262,12 +194,18 @@ module _ (line codes : List ℕ) {three : ℕ} (p : three ≡ indexOf 3 codes) w
           e,
         )
 
-    pub fault-none : length codes ≤ four → record { code = 0; column = 0 } ≡ faultOf line codes
-    unfolding faultOf worst
-    fault-none h =
-        rw (
-          any-found 3 codes,
-          le-ltb (indexOf 3 codes) (length codes) (omega arith),
-          any-found 4 codes,
-          le-ltb (indexOf 4 codes) (length codes) (omega arith),
-        )
+    module _ (few : length codes ≤ four) {last : ℕ} (l : last ≡ indexOf 18 codes) where
+      none-before : (anyOf (eqb 3) codes ≡ false) × (anyOf (eqb 4) codes ≡ false)
+      none-before = (
+        any-found 3 codes ∙ le-ltb (indexOf 3 codes) (length codes) (omega arith),
+        any-found 4 codes ∙ le-ltb (indexOf 4 codes) (length codes) (omega arith),
+      )
+
+      pub fault-eighteen : {column : ℕ} → last < length codes → column ≡ columnOf line codes 18 → record { code = 18; column = column } ≡ faultOf line codes
+      unfolding faultOf worst
+      fault-eighteen h e =
+          rw (none-before .0, none-before .1, any-found 18 codes, lt-ltb (indexOf 18 codes) (length codes) (omega arith), e)
+
+      pub fault-none : length codes ≤ last → record { code = 0; column = 0 } ≡ faultOf line codes
+      unfolding faultOf worst
+      fault-none h = rw (none-before .0, none-before .1, any-found 18 codes, le-ltb (indexOf 18 codes) (length codes) (omega arith))

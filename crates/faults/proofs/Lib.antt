@@ -1,1 +1,2 @@
+pub mod RangedLaws
 pub mod FaultLaws

@@ -43,9 +43,11 @@ pub extern "C" fn dispatch_is_accepted(plan: Plan) -> u32
     ensures { λ r. ⌜ r ≡ cond (isAccepted plan) 1 0 ⌝ }
 {
     number(judge::ranges::is_accepted(
+        plan.edition,
         plan.boards,
         plan.tasks,
         &plan.board,
+        &plan.ready,
         &plan.begin,
         &plan.finish,
         &plan.holds,

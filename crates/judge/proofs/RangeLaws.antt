@@ -1,9 +1,9 @@
 -- What is kept of a task, in the two halves that are tested.
 use Prim.Native.Nat.{ℕ, _≤_, _<_}
-use mathlib.Core.Path.{_≡_, refl, sym, _∙_}
-use mathlib.Core.Bool.{Bool, true, false, not, _&&_}
+use mathlib.Core.Path.{_≡_, refl, sym, ap, _∙_}
+use mathlib.Core.Bool.{Bool, true, false, not, _&&_, _||_}
 use mathlib.Core.List.{List}
-use lib.Dec.{leb}
+use lib.Dec.{leb, eqb}
 use borrow.Author.Tests.{not-true, not-false, leb-true}
 use Rattle.laws.proofs.Cases.{and-l, and-r}
 use Rattle.laws.specs.Lists.{risesFrom, allOf, rising}
@@ -14,48 +14,62 @@ use Rattle.text.specs.Items.{between, driveOf, holdsOk, afterOk}
 use Rattle.text.specs.private.Lettered.{keyOf}
 use Rattle.plan.specs.Answer.{isGranted}
 use Rattle.plan.specs.Task.{Task, numbersOk, taskOk}
+use Rattle.plan.specs.Pairs.{pairCode, rowFault, firstFault}
 use Rattle.plan.specs.Judged.{tasksAnswer}
-use Rattle.plan.specs.Value.{row, items, planWith, isTrimmed, keptOk, pastBlank, rangesOk, isAccepted, taskAt}
-use Rattle.judge.specs.private.Arrays.{numbersIn, listsIn, isDrive, RowInRange, RowsInRange}
+use Rattle.plan.specs.Value.{at, row, items, planWith, isTrimmed, keptOk, pastBlank, rangesOk, isAccepted, taskAt}
+use Rattle.judge.specs.private.Arrays.{tasksIn, numbersIn, listsIn, isDrive, RowInRange, RowsInRange}
+use Rattle.plan.specs.declared.Answer.{Answer}
 use Rattle.plan.specs.declared.Plan.{Plan}
 
-regroup : (numbers holds after one two : Bool) → ((numbers && (holds && after)) && (one && two)) ≡ (numbers && ((holds && one) && (after && two)))
-regroup false holds after one two = refl
-regroup true false after one two = refl
-regroup true true true true two = refl
-regroup true true true false two = refl
-regroup true true false true two = refl
-regroup true true false false two = refl
+regroup :
+    (numbers holds after may one two : Bool)
+    → ((numbers && (holds && after)) && (may && (one && two))) ≡ ((numbers && may) && ((holds && one) && (after && two)))
+regroup false holds after may one two = refl
+regroup true false after true one two = refl
+regroup true false after false one two = refl
+regroup true true true true true two = refl
+regroup true true true true false two = refl
+regroup true true false true true two = refl
+regroup true true false true false two = refl
+regroup true true true false one two = refl
+regroup true true false false one two = refl
 
 pub kept-is :
-    (boards tasks : ℕ) (board begin finish holds after : List ℕ) (k : ℕ)
-    → keptOk (planWith boards tasks board begin finish holds after) k
-    ≡ (numbersIn boards board begin finish k && listsIn tasks holds after k)
+    (edition boards tasks : ℕ) (board ready begin finish holds after : List ℕ) (k : ℕ)
+    → keptOk (planWith edition boards tasks board ready begin finish holds after) k
+    ≡ (numbersIn edition boards board ready begin finish k && listsIn tasks holds after k)
 unfolding keptOk holdsOk afterOk keyOf
-kept-is boards tasks board begin finish holds after k =
+kept-is edition boards tasks board ready begin finish holds after k =
     rw (rises-is driveOf 32 (items (row 32 holds k)), rises-is (λ n. n) tasks (items (row 64 after k)))
     (regroup
-    (numbersIn boards board begin finish k)
+    (numbersOk boards (taskAt (planWith edition boards tasks board ready begin finish holds after) k))
     (risesFrom driveOf 32 0 (items (row 32 holds k)))
     (risesFrom (λ n. n) tasks 0 (items (row 64 after k)))
+    (eqb edition 2 || eqb (at ready k) 0)
     (isTrimmed (row 32 holds k))
     (isTrimmed (row 64 after k)))
 
 -- acceptance in the order in which it is tested: the sizes, the ranges, the tasks
-regroup-all : (boards tasks ranges pairs : Bool) → ((boards && (tasks && ranges)) && pairs) ≡ ((boards && tasks) && (ranges && pairs))
-regroup-all false tasks ranges pairs = refl
-regroup-all true false ranges pairs = refl
-regroup-all true true ranges pairs = refl
+regroup-all :
+    (edition boards tasks ranges pairs : Bool)
+    → ((edition && (boards && (tasks && ranges))) && pairs) ≡ ((edition && (boards && tasks)) && (ranges && pairs))
+regroup-all false boards tasks ranges pairs = refl
+regroup-all true false tasks ranges pairs = refl
+regroup-all true true false ranges pairs = refl
+regroup-all true true true ranges pairs = refl
 
-pub some-tasks : (boards tasks : ℕ) → not (between 1 8 boards && between 1 64 tasks) ≡ false → 0 < tasks
-some-tasks boards tasks h =
-    leb-true 1 tasks
-    (and-l (leb 1 tasks) (leb tasks 64) (and-r (between 1 8 boards) (between 1 64 tasks) (not-false (between 1 8 boards && between 1 64 tasks) h)))
+-- the sizes that are tested first
+module _ (edition boards tasks : ℕ) (h : not (between 1 2 edition && (between 1 8 boards && between 1 64 tasks)) ≡ false) where
+  tasks-between : between 1 64 tasks ≡ true
+  tasks-between =
+      and-r (between 1 8 boards) (between 1 64 tasks)
+      (and-r (between 1 2 edition) (between 1 8 boards && between 1 64 tasks) (not-false _ h))
 
-pub few-tasks : (boards tasks : ℕ) → not (between 1 8 boards && between 1 64 tasks) ≡ false → tasks ≤ 64
-few-tasks boards tasks h =
-    leb-true tasks 64
-    (and-r (leb 1 tasks) (leb tasks 64) (and-r (between 1 8 boards) (between 1 64 tasks) (not-false (between 1 8 boards && between 1 64 tasks) h)))
+  pub some-tasks : 0 < tasks
+  some-tasks = leb-true 1 tasks (and-l (leb 1 tasks) (leb tasks 64) tasks-between)
+
+  pub few-tasks : tasks ≤ 64
+  few-tasks = leb-true tasks 64 (and-r (leb 1 tasks) (leb tasks 64) tasks-between)
 
 -- the drives of a task that keeps the rules are in range
 pub task-in-range : (boards tasks : ℕ) (task : Task) → taskOk boards tasks task ≡ true → allOf isDrive (task .holds) ≡ true
@@ -69,18 +83,27 @@ row-in-range : (plan : Plan) (k : ℕ) → keptOk plan k ≡ true → RowInRange
 unfolding keptOk
 row-in-range plan k h =
     task-in-range (plan .boards) (plan .tasks) (taskAt plan k)
-    (and-l (taskOk (plan .boards) (plan .tasks) (taskAt plan k)) (isTrimmed (row 32 (plan .holds) k) && isTrimmed (row 64 (plan .after) k)) h)
+    (and-l (taskOk (plan .boards) (plan .tasks) (taskAt plan k)) _ h)
+
+-- the pairs are judged without the ready ticks
+abbrev pub judgedIn : Plan → Answer
+judgedIn plan =
+    tasksAnswer (plan .tasks) (tasksIn (plan .board) (plan .begin) (plan .finish) (plan .holds) (plan .after))
+
+pub judged-is : (plan : Plan) → judgedIn plan ≡ tasksAnswer (plan .tasks) (taskAt plan)
+unfolding tasksAnswer firstFault rowFault pairCode
+judged-is plan = refl
 
 module _ (plan : Plan) where
   abbrev sizes : Bool
-  sizes = between 1 8 (plan .boards) && between 1 64 (plan .tasks)
+  sizes = between 1 2 (plan .edition) && (between 1 8 (plan .boards) && between 1 64 (plan .tasks))
 
   abbrev ranges : Bool
   ranges = every (plan .tasks) (keptOk plan) && pastBlank plan
 
   accepted-is : isAccepted plan ≡ (sizes && (ranges && isGranted (tasksAnswer (plan .tasks) (taskAt plan))))
   unfolding isAccepted rangesOk
-  accepted-is = regroup-all (between 1 8 (plan .boards)) (between 1 64 (plan .tasks)) ranges _
+  accepted-is = regroup-all (between 1 2 (plan .edition)) (between 1 8 (plan .boards)) (between 1 64 (plan .tasks)) ranges _
 
   pub refused-sizes : not sizes ≡ true → false ≡ isAccepted plan
   refused-sizes h = rw (accepted-is, not-true sizes h)
@@ -90,9 +113,10 @@ module _ (plan : Plan) where
     refused-ranges h =
         let r : ranges ≡ false = rw (k, p) at (not-true (kept && past) h) in rw (accepted-is, not-false sizes s, r)
 
-    pub judged-by-tasks : not (kept && past) ≡ false → isGranted (tasksAnswer (plan .tasks) (taskAt plan)) ≡ isAccepted plan
+    pub judged-by-tasks : not (kept && past) ≡ false → isGranted (judgedIn plan) ≡ isAccepted plan
     judged-by-tasks h =
-        let r : ranges ≡ true = rw (k, p) at (not-false (kept && past) h) in rw (accepted-is, not-false sizes s, r)
+        let r : ranges ≡ true = rw (k, p) at (not-false (kept && past) h) in
+        ap (λ (x : Answer). isGranted x) (judged-is plan) ∙ rw (accepted-is, not-false sizes s, r)
 
     -- the drives of what is kept are in range
     pub kept-in-range : not (kept && past) ≡ false → plan .tasks ≤ 64 → RowsInRange (plan .holds) (plan .tasks)

@@ -2,11 +2,9 @@
 use Prim.Native.Nat.{ℕ, _<_}
 use mathlib.Core.Path.{_≡_, refl, sym, ap, _∙_}
 use mathlib.Core.Logic.{_≢_}
-use mathlib.Core.Bool.{true, cond}
 use mathlib.Core.List.{List}
 use native.Mathlib.Omega.{arith}
 use borrow.Author.Tests.{eq-eqb, ne-eqb}
-use Rattle.plan.specs.Answer.{isRefused}
 use Rattle.plan.specs.Task.{Task}
 use Rattle.plan.specs.Judged.{tasksAnswer}
 use Rattle.plan.specs.Value.{planOf, zeroPlan, taskAt}
@@ -16,7 +14,7 @@ use Rattle.plan.specs.declared.Reading.{Reading}
 use Rattle.plan.proofs.Judged.{tasks-granted}
 use Rattle.plan.proofs.ReadOk.{FormOk, form-ok, ok-form, form-tasks, form-ranges, form-task, form-judged}
 use Rattle.judge.specs.private.Arrays.{RowsInRange}
-use Rattle.judge.proofs.RangeLaws.{task-in-range}
+use Rattle.judge.proofs.RangeLaws.{task-in-range, judgedIn, judged-is}
 
 lines-answer : (s : List ℕ) → linesOf s .answer ≡ formAnswer s
 unfolding linesOf
@@ -59,7 +57,10 @@ module _ (s : List ℕ) {lines : Reading} (l : lines ≡ linesOf s) where
       },
     )
 
-    module _ {fault : Answer} (f : fault ≡ tasksAnswer (lines .plan .tasks) (taskAt (lines .plan))) where
+    module _ {fault : Answer} (judged : fault ≡ judgedIn (lines .plan)) where
+      f : fault ≡ tasksAnswer (lines .plan .tasks) (taskAt (lines .plan))
+      f = judged ∙ judged-is (lines .plan)
+
       answer-tasks : textAnswer s ≡ fault
       unfolding textAnswer
       answer-tasks =

@@ -5,7 +5,7 @@ use plan::Answer;
 ghost use mathlib.Core.Path.{_≡_};
 ghost use mathlib.Core.Bool.{true, _&&_};
 ghost use Prim.Native.Nat.{_+_, _*_, _<_, _≤_};
-ghost use Rattle.plan.specs.Pairs.{overlap, clashByDrive, isListed, pairCode, firstFault};
+ghost use Rattle.plan.specs.Pairs.{clashByDrive, isListed, pairCode, firstFault};
 ghost use Rattle.plan.specs.Value.{row, items};
 ghost use Rattle.judge.specs.private.Arrays.{tasksIn, meetIn, breaksIn, PairInOrder, PassedOver, PairInRange, RowsInRange};
 

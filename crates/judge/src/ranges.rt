@@ -73,16 +73,20 @@ fn list_ok(list: &[u8], drives: bool, high: u8) -> bool
 }
 
 fn numbers_ok<'a>(
+    edition: u8,
     boards: u8,
     board: &'a [u8; 64],
+    ready: &'a [u32; 64],
     begin: &'a [u32; 64],
     finish: &'a [u32; 64],
     k: usize,
 ) -> bool
     requires { ⌜ k < 64 ⌝ }
-    ensures { λ r. ⌜ r ≡ numbersIn boards (now (board .entry)) (now (begin .entry)) (now (finish .entry)) k ⌝ }
+    ensures { λ r. ⌜ r ≡ numbersIn edition boards (now (board .entry)) (now (ready .entry)) (now (begin .entry)) (now (finish .entry)) k ⌝ }
 {
-    ((1 <= board[k]) & (board[k] <= boards)) & ((begin[k] < finish[k]) & (finish[k] <= 1000000))
+    let times = (begin[k] < finish[k]) & (finish[k] <= 1000000);
+    let board_ok = (1 <= board[k]) & (board[k] <= boards);
+    (board_ok & ((ready[k] <= begin[k]) & times)) & ((edition == 2) | (ready[k] == 0))
 }
 
 fn holds_ok(holds: &[u8; 2048], k: usize) -> bool
@@ -104,9 +108,11 @@ fn after_ok(tasks: u8, after: &[u8; 4096], k: usize) -> bool
 }
 
 fn task_ok<'a>(
+    edition: u8,
     boards: u8,
     tasks: u8,
     board: &'a [u8; 64],
+    ready: &'a [u32; 64],
     begin: &'a [u32; 64],
     finish: &'a [u32; 64],
     holds: &'a [u8; 2048],
@@ -114,26 +120,40 @@ fn task_ok<'a>(
     k: usize,
 ) -> bool
     requires { ⌜ k < 64 ⌝ }
-    ensures { λ r. ⌜ r ≡ keptOk (planWith boards tasks (now (board .entry)) (now (begin .entry)) (now (finish .entry)) (now (holds .entry)) (now (after .entry))) k ⌝ }
+    ensures { λ r. ⌜ r ≡ keptOk (planWith edition boards tasks (now (board .entry)) (now (ready .entry)) (now (begin .entry)) (now (finish .entry)) (now (holds .entry)) (now (after .entry))) k ⌝ }
 {
-    numbers_ok(boards, board, begin, finish, k) & (holds_ok(holds, k) & after_ok(tasks, after, k))
+    numbers_ok(edition, boards, board, ready, begin, finish, k)
+        & (holds_ok(holds, k) & after_ok(tasks, after, k))
 }
 
 fn all_kept<'a>(
+    edition: u8,
     boards: u8,
     tasks: u8,
     board: &'a [u8; 64],
+    ready: &'a [u32; 64],
     begin: &'a [u32; 64],
     finish: &'a [u32; 64],
     holds: &'a [u8; 2048],
     after: &'a [u8; 4096],
 ) -> bool
     requires { ⌜ tasks ≤ 64 ⌝ }
-    ensures { λ r. ⌜ r ≡ every tasks (keptOk (planWith boards tasks (now (board .entry)) (now (begin .entry)) (now (finish .entry)) (now (holds .entry)) (now (after .entry)))) ⌝ }
+    ensures { λ r. ⌜ r ≡ every tasks (keptOk (planWith edition boards tasks (now (board .entry)) (now (ready .entry)) (now (begin .entry)) (now (finish .entry)) (now (holds .entry)) (now (after .entry)))) ⌝ }
 {
     let n = tasks as usize;
     for k in 0..n {
-        if !task_ok(boards, tasks, board, begin, finish, holds, after, k) {
+        if !task_ok(
+            edition,
+            boards,
+            tasks,
+            board,
+            ready,
+            begin,
+            finish,
+            holds,
+            after,
+            k,
+        ) {
             return false;
         }
     }
@@ -143,37 +163,51 @@ fn all_kept<'a>(
 fn past_blank<'a>(
     tasks: u8,
     board: &'a [u8; 64],
+    ready: &'a [u32; 64],
     begin: &'a [u32; 64],
     finish: &'a [u32; 64],
     holds: &'a [u8; 2048],
     after: &'a [u8; 4096],
 ) -> bool
     requires { ⌜ tasks ≤ 64 ⌝ }
-    ensures { λ r. ⌜ r ≡ pastBlank (planWith 0 tasks (now (board .entry)) (now (begin .entry)) (now (finish .entry)) (now (holds .entry)) (now (after .entry))) ⌝ }
+    ensures { λ r. ⌜ r ≡ pastBlank (planWith 0 0 tasks (now (board .entry)) (now (ready .entry)) (now (begin .entry)) (now (finish .entry)) (now (holds .entry)) (now (after .entry))) ⌝ }
 {
     let n = tasks as usize;
-    blank_bytes(board, n)
-        & (blank_ticks(begin, n)
-            & (blank_ticks(finish, n) & (blank_bytes(holds, 32 * n) & blank_bytes(after, 64 * n))))
+    let lists = blank_bytes(holds, 32 * n) & blank_bytes(after, 64 * n);
+    let planned = blank_ticks(begin, n) & (blank_ticks(finish, n) & lists);
+    blank_bytes(board, n) & (blank_ticks(ready, n) & planned)
 }
 
 // Code 9's test of a plan, by its parts, so that a book need not be copied for it.
 pub fn is_accepted<'a>(
+    edition: u8,
     boards: u8,
     tasks: u8,
     board: &'a [u8; 64],
+    ready: &'a [u32; 64],
     begin: &'a [u32; 64],
     finish: &'a [u32; 64],
     holds: &'a [u8; 2048],
     after: &'a [u8; 4096],
 ) -> bool
-    ensures { λ r. ⌜ r ≡ isAccepted (planWith boards tasks (now (board .entry)) (now (begin .entry)) (now (finish .entry)) (now (holds .entry)) (now (after .entry))) ⌝ }
+    ensures { λ r. ⌜ r ≡ isAccepted (planWith edition boards tasks (now (board .entry)) (now (ready .entry)) (now (begin .entry)) (now (finish .entry)) (now (holds .entry)) (now (after .entry))) ⌝ }
 {
-    if !(((1 <= boards) & (boards <= 8)) & ((1 <= tasks) & (tasks <= 64))) {
+    let sizes = ((1 <= boards) & (boards <= 8)) & ((1 <= tasks) & (tasks <= 64));
+    if !(((1 <= edition) & (edition <= 2)) & sizes) {
         return false;
     }
-    if !(all_kept(boards, tasks, board, begin, finish, holds, after)
-        & past_blank(tasks, board, begin, finish, holds, after)) {
+    if !(all_kept(
+        edition,
+        boards,
+        tasks,
+        board,
+        ready,
+        begin,
+        finish,
+        holds,
+        after,
+    )
+        & past_blank(tasks, board, ready, begin, finish, holds, after)) {
         return false;
     }
     let fault = judge_tasks(board, begin, finish, holds, after, tasks as usize);

@@ -71,6 +71,11 @@ pub begin-first : (c : ℕ) (s : List ℕ) → beginOf c s 0 ≡ 0
 unfolding skipOn
 begin-first c s = omega arith
 
+pub skip-suc : (c n : ℕ) (s : List ℕ) → skipOn c (suc n) s ≡ after c (skipOn c n s)
+unfolding skipOn
+skip-suc c zero s = refl
+skip-suc c (suc n) s = skip-suc c n (after c s)
+
 -- what is left grows shorter
 pub skip-down : (c : ℕ) (s : List ℕ) (m n : ℕ) → m ≤ n → length (skipOn c n s) ≤ length (skipOn c m s)
 unfolding skipOn

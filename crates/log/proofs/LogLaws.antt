@@ -96,9 +96,7 @@ module _ (plan ends out : List ℕ) where
         its-accepted = read-accepted plan (ap (λ (a : Answer). a .code) (sym (read-answer plan)) ∙ its-zero)
 
         its-sized : SizedPlan (readingOf plan .plan)
-        its-sized =
-            let s = read-sized plan (ap (λ (a : Answer). a .code) (sym (read-answer plan)) ∙ its-zero) in
-            record { board = s .board; begin = s .begin; finish = s .finish; holds = s .holds; after = s .after }
+        its-sized = read-sized plan (ap (λ (a : Answer). a .code) (sym (read-answer plan)) ∙ its-zero)
 
         pub opening-sound : {o : Opening} → o ≡ openingOf (r .plan) → o .answer .code ≡ 0 → isSound (o .book) ≡ true
         opening-sound q y =

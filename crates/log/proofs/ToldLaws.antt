@@ -40,7 +40,7 @@ module _ (answer : Answer) (book : Book) where
 
   pub shown-granted :
       answer .code ≡ 0 → isSound book ≡ true → {early : ℕ}
-      → early ≡ minimumEarly (planSeen (book .tasks) (book .begin) []) (bookSeen (book .mark) (book .start) [] [] 0)
+      → early ≡ minimumEarly (planSeen (book .tasks) (book .ready) (book .begin) []) (bookSeen (book .mark) (book .start) [] (book .dropped) (book .clock))
       → _≡_ {A = Shown} (record { answer = answer; book = book; early = early }) (shownAfter answer book)
   shown-granted z h e =
       let f = ap (λ (x : Figure). x .early) (figure-granted book (sym h) {answer = granted} refl refl e) in

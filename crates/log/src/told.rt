@@ -46,7 +46,15 @@ pub(crate) fn show(answer: Answer, book: Book) -> Shown
     Shown {
         answer,
         book,
-        early: least_early(&book.begin, &book.start, &book.mark, book.tasks),
+        early: least_early(
+            &book.ready,
+            &book.begin,
+            &book.start,
+            &book.mark,
+            &book.dropped,
+            book.clock,
+            book.tasks,
+        ),
     }
 }
 

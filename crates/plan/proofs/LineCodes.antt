@@ -1,180 +1,233 @@
--- The code of a task line, by all its spelling and then all its ranges.
-use Prim.Native.Nat.{ℕ, _+_, _≤_}
-use mathlib.Core.Path.{_≡_, refl, ap, _∙_}
-use mathlib.Core.Bool.{Bool, true, false, not, cond, _&&_}
+-- A task line whose codes are all 0, and what it then says.
+use Prim.Native.Nat.{ℕ, _+_, _≤_, _<_}
+use mathlib.Core.Path.{_≡_, refl, _∙_}
+use mathlib.Core.Bool.{Bool, true, cond, _&&_}
 use mathlib.Core.List.{List, [], _∷_}
 use native.Mathlib.Omega.{arith}
-use lib.Dec.{ltb, leb, eqb}
+use lib.Dec.{ltb, eqb}
 use lib.ListN.{length, List·getD-eq-default}
-use borrow.Author.Tests.{le-leb, leb-true, ltb-true, lt-ltb, eqb-true, eq-eqb}
-use Rattle.laws.proofs.Cases.{by-bool, by-le, and-l, and-r, and-of, and-no, same-test, true-false}
-use Rattle.laws.specs.Lists.{allOf, anyOf, same}
+use borrow.Author.Tests.{le-leb, lt-ltb, le-ltb, ltb-false, eq-eqb, ne-eqb}
+use Rattle.laws.proofs.Cases.{by-bool, by-le, by-eq, and-r, and-of, true-false}
+use Rattle.laws.specs.Lists.{allOf, same}
 use Rattle.laws.specs.Split.{splitOn}
 use Rattle.text.specs.Bytes.{bytes}
 use Rattle.text.specs.Number.{isNumber, valueOf, most}
 use Rattle.text.specs.Line.{fields, field}
-use Rattle.text.specs.Items.{between, isList, holdsOk, afterOk}
-use Rattle.faults.specs.Faults.{codeFor, wordCode, endCode, worst}
+use Rattle.text.specs.Items.{isList, holdsOk, afterOk}
 use Rattle.text.proofs.ListFields.{isHolds, holdsOf, isAfter, afterOf}
-use Rattle.faults.proofs.FaultLaws.{field-code, isCode, for-code, field-is-code, word-is-code, end-is-code}
-use Rattle.plan.specs.Task.{taskOk}
-use Rattle.plan.specs.Read.{taskCodes, lineTask}
-use Rattle.plan.proofs.PlanTasks.{between-facts, between-of}
+use Rattle.faults.specs.Faults.{fieldCode, wordCode}
+use Rattle.faults.proofs.RangedLaws.{InRange, field-zero, zero-field, ranged-code, ranged-value}
+use Rattle.faults.proofs.FaultLaws.{isCode, for-code, field-is-code, word-is-code, end-is-code, eighteen-is-code, for-zero, word-zero, zero-word, end-zero, zero-end, zero-at, no-codes, zeros}
+use Rattle.plan.specs.Task.{taskOk, editionOk}
+use Rattle.plan.specs.Read.{startAt, codesFrom, readyCode, taskCodes, taskFrom, lineTask}
+use Rattle.plan.proofs.PlanTasks.{between-of}
 
--- the line is well formed
-unfoldable pub isTaskLine : List ℕ → Bool
-isTaskLine line =
-    eqb (length (fields line)) 7
-    && (same (field line 0) (bytes "task")
-    && (isNumber (field line 1)
-    && (isNumber (field line 2)
-    && (isNumber (field line 3)
-    && (isNumber (field line 4) && (isHolds (field line 5) && isAfter (field line 6)))))))
+-- ---- from the planned start on, which is field n
 
--- the codes of the parts make the code of the line
-worst-one : (a b : Bool) → worst (codeFor a b ∷ []) ≡ codeFor a b
-unfolding worst anyOf
-worst-one false b = refl
-worst-one true false = refl
-worst-one true true = refl
+pub record TimesOk (tasks : ℕ) (line : List ℕ) (n : ℕ) : Type 0 where
+  pub begin : isNumber (field line n) ≡ true
+  pub finish : isNumber (field line (n + 1)) ≡ true
+  pub lasts : valueOf (field line n) < valueOf (field line (n + 1))
+  pub to : valueOf (field line (n + 1)) ≤ most
+  pub holds : isHolds (field line (n + 2)) ≡ true
+  pub drives : holdsOk (holdsOf (field line (n + 2))) ≡ true
+  pub after : isAfter (field line (n + 3)) ≡ true
+  pub order : afterOk tasks (afterOf (field line (n + 3))) ≡ true
+  pub count : length (fields line) ≡ n + 4
 
-worst-cons :
-    (l : List ℕ) (a b s f : Bool) {c : ℕ} → c ≡ codeFor a b → worst l ≡ codeFor s f
-    → worst (c ∷ l) ≡ codeFor (a && s) (b && f)
-unfolding worst anyOf
-worst-cons l false b s f e h = rw e
-worst-cons l true true s f e h = rw e h
-worst-cons l true false s f e h = rw e (go (anyOf (eqb 3) l) (anyOf (eqb 4) l) s f h)
-  where
-    go : (three four s f : Bool) → cond three 3 (cond four 4 0) ≡ codeFor s f → _≡_ {A = ℕ} (cond three 3 4) (cond (not s) 3 4)
-    go true four false f h = refl
-    go true four true true h = absurd (omega arith)
-    go true four true false h = absurd (omega arith)
-    go false true false f h = absurd (omega arith)
-    go false false false f h = absurd (omega arith)
-    go false four true f h = refl
-
--- the ranges as a task keeps them
-pub only : (k n : ℕ) → between k k n ≡ eqb n k
-only k n =
-    same-test (between k k n) (eqb n k)
-    (λ h. let r = between-facts k k n h in eq-eqb n k (omega arith))
-    (λ h. let e = eqb-true n k h in between-of k k n (omega arith) (omega arith))
-
-times-fine : (b f : ℕ) → (between 0 most b && between (b + 1) most f) ≡ (ltb b f && leb f most)
-times-fine b f =
-    same-test (between 0 most b && between (b + 1) most f) (ltb b f && leb f most)
-    (λ h.
-    let r = between-facts (b + 1) most f (and-r (between 0 most b) (between (b + 1) most f) h) in
-    and-of (lt-ltb b f (omega arith)) (le-leb f most (omega arith)))
-    (λ h.
-    let p = ltb-true b f (and-l (ltb b f) (leb f most) h) in
-    let q = leb-true f most (and-r (ltb b f) (leb f most) h) in
-    and-of (between-of 0 most b (omega arith) (omega arith)) (between-of (b + 1) most f (omega arith) (omega arith)))
-
-regroup : (a b c d : Bool) {t : Bool} → (b && c) ≡ t → (a && (b && (c && d))) ≡ ((a && t) && d)
-regroup false b c d e = refl
-regroup true false c d e = ap (λ x. x && d) e
-regroup true true c d e = ap (λ x. x && d) e
-
--- a missing seventh field is no list
-seventh : (line : List ℕ) → isAfter (field line 6) ≡ true → 7 ≤ length (fields line)
+-- a missing field is no list
+listed : (line : List ℕ) (m : ℕ) → isAfter (field line m) ≡ true → m < length (fields line)
 unfolding isList allOf splitOn isNumber same
-seventh line h =
-    by-le 7 (length (fields line))
-    (λ few. few)
-    (λ few.
-    let none : field line 6 ≡ [] = List·getD-eq-default (fields line) [] (omega arith) in
-    true-false (rw none at h) refl)
+listed line m h =
+    by-le (length (fields line)) m
+    (λ few. let none : field line m ≡ [] = List·getD-eq-default (fields line) [] few in true-false (rw none at h) refl)
+    (λ some. some)
 
--- seven fields, no more and no fewer
-seven-fields : (line : List ℕ) (t : Bool) → (isAfter (field line 6) && (t && leb (length (fields line)) 7)) ≡ (t && (eqb (length (fields line)) 7 && isAfter (field line 6)))
-seven-fields line t =
-    by-bool (isAfter (field line 6))
-    (λ a.
-    let most-seven : leb (length (fields line)) 7 ≡ eqb (length (fields line)) 7 =
-    same-test (leb (length (fields line)) 7) (eqb (length (fields line)) 7)
-    (λ h. eq-eqb (length (fields line)) 7 (omega (arith, seventh line a, leb-true (length (fields line)) 7 h)))
-    (λ h. le-leb (length (fields line)) 7 (omega (arith, eqb-true (length (fields line)) 7 h))) in
-    rw (a, most-seven) (swap t (eqb (length (fields line)) 7)))
-    (λ a. rw a (none t (eqb (length (fields line)) 7)))
-  where
-    swap : (t u : Bool) → (t && u) ≡ (t && (u && true))
-    swap true true = refl
-    swap true false = refl
-    swap false u = refl
+start-value : (line : List ℕ) (n : ℕ) → fieldCode 0 most (field line n) ≡ 0 → startAt line n ≡ valueOf (field line n)
+start-value line n z = ranged-value 0 most (field line n) (ranged-code 0 most (field line n) ∙ z)
 
-    none : (t u : Bool) → false ≡ (t && (u && false))
-    none true true = refl
-    none true false = refl
-    none false u = refl
+module _ (ended : Bool) (tasks : ℕ) (line : List ℕ) (n : ℕ) where
+  times-ok : allOf (eqb 0) (codesFrom ended tasks line n) ≡ true → (ended ≡ true) × TimesOk tasks line n
+  unfolding codesFrom
+  times-ok all =
+      let at = zero-at (codesFrom ended tasks line n) all in
+      let b = field-zero 0 most (field line n) (omega arith) (at 0 (omega arith)) in
+      let f = field-zero (startAt line n + 1) most (field line (n + 1)) (omega arith) (at 1 (omega arith)) in
+      let h = for-zero (isHolds (field line (n + 2))) (holdsOk (holdsOf (field line (n + 2)))) (at 2 (omega arith)) in
+      let a = for-zero (isAfter (field line (n + 3))) (afterOk tasks (afterOf (field line (n + 3)))) (at 3 (omega arith)) in
+      let e = end-zero ended (n + 4) line (at 4 (omega arith)) in (
+        e .0,
+        record {
+          begin = b .spelt;
+          finish = f .spelt;
+          lasts = omega (arith, f .from, start-value line n (at 0 (omega arith)));
+          to = f .to;
+          holds = h .0;
+          drives = h .1;
+          after = a .0;
+          order = a .1;
+          count = omega (arith, e .1, listed line (n + 3) (a .0));
+        },
+      )
 
--- the tests of the end taken to the front
-pulled :
-    (t c w n1 n2 n3 n4 h a : Bool)
-    → (w && (n1 && (n2 && (n3 && (n4 && (h && (t && (c && a))))))))
-    ≡ (t && (c && (w && (n1 && (n2 && (n3 && (n4 && (h && a))))))))
-pulled true true w n1 n2 n3 n4 h a = refl
-pulled true false w n1 n2 n3 n4 h a = rw (and-no h, and-no n4, and-no n3, and-no n2, and-no n1, and-no w)
-pulled false c w n1 n2 n3 n4 h a = rw (and-no h, and-no n4, and-no n3, and-no n2, and-no n1, and-no w)
+  ok-times : ended ≡ true → TimesOk tasks line n → allOf (eqb 0) (codesFrom ended tasks line n) ≡ true
+  unfolding codesFrom
+  ok-times e t =
+      let z = zero-field 0 most (field line n) (omega arith) (record { spelt = t .begin; from = omega arith; to = omega (arith, t .lasts, t .to) }) in
+      zeros _ _ z
+      (zeros _ _
+      (zero-field (startAt line n + 1) most (field line (n + 1)) (omega arith)
+      (record { spelt = t .finish; from = omega (arith, t .lasts, start-value line n z); to = t .to }))
+      (zeros _ _ (rw (t .holds, t .drives))
+      (zeros _ _ (rw (t .after, t .order)) (zeros _ [] (zero-end ended (n + 4) line e (omega (arith, t .count))) no-codes))))
 
-and-yes : (a : Bool) → (a && true) ≡ a
-and-yes true = refl
-and-yes false = refl
+-- ---- the whole line
 
-word-is : (word s : List ℕ) → wordCode word s ≡ codeFor (same s word) true
-unfolding wordCode
-word-is word s = by-bool (same s word) (λ e. rw e) (λ e. rw e)
+pub record HeadOk (boards : ℕ) (line : List ℕ) (k : ℕ) : Type 0 where
+  pub word : same (field line 0) (bytes "task") ≡ true
+  pub spelt : isNumber (field line 1) ≡ true
+  pub number : valueOf (field line 1) ≡ k
+  pub board : InRange 1 boards (field line 2)
 
-end-is : (ended : Bool) (n : ℕ) (line : List ℕ) → endCode ended n line ≡ codeFor (ended && leb (length (fields line)) n) true
-unfolding endCode
-end-is ended n line = by-bool (ended && leb (length (fields line)) n) (λ e. rw e) (λ e. rw e)
+-- the ready tick of edition 2
+abbrev pub ReadyOk : List ℕ → Type 0
+ReadyOk line = (isNumber (field line 3) ≡ true) × (valueOf (field line 3) ≤ valueOf (field line 4))
 
--- 3 where the line is not well formed, else 4 where it is not the k-th or its task keeps not its ranges
-pub line-code-is :
-    (ended : Bool) (boards tasks : ℕ) (line : List ℕ) (k : ℕ) → boards ≤ most → k ≤ most
-    → worst (taskCodes ended boards tasks line k)
-    ≡ codeFor (ended && isTaskLine line) (eqb (valueOf (field line 1)) k && taskOk boards tasks (lineTask line))
-unfolding taskCodes isTaskLine lineTask
-line-code-is ended boards tasks line k hb hk =
-    let w : Bool = same (field line 0) (bytes "task") in
-    let n1 : Bool = isNumber (field line 1) in
-    let n2 : Bool = isNumber (field line 2) in
-    let n3 : Bool = isNumber (field line 3) in
-    let n4 : Bool = isNumber (field line 4) in
-    let h : Bool = isHolds (field line 5) in
-    let a : Bool = isAfter (field line 6) in
-    let e : Bool = ended && leb (length (fields line)) 7 in
-    let b1 : Bool = between k k (valueOf (field line 1)) in
-    let b2 : Bool = between 1 boards (valueOf (field line 2)) in
-    let b3 : Bool = between 0 most (valueOf (field line 3)) in
-    let b4 : Bool = between (valueOf (field line 3) + 1) most (valueOf (field line 4)) in
-    let ho : Bool = holdsOk (holdsOf (field line 5)) in
-    let ao : Bool = afterOk tasks (afterOf (field line 6)) in
-    let after = worst-cons (endCode ended 7 line ∷ []) a ao e true refl (rw (end-is ended 7 line) (worst-one e true)) in
-    let holds = worst-cons _ h ho (a && e) (ao && true) refl after in
-    let finish = worst-cons _ n4 b4 (h && (a && e)) (ho && (ao && true)) (field-code (valueOf (field line 3) + 1) most (field line 4) (omega arith)) holds in
-    let begin = worst-cons _ n3 b3 (n4 && (h && (a && e))) (b4 && (ho && (ao && true))) (field-code 0 most (field line 3) (omega arith)) finish in
-    let board = worst-cons _ n2 b2 (n3 && (n4 && (h && (a && e)))) (b3 && (b4 && (ho && (ao && true)))) (field-code 1 boards (field line 2) hb) begin in
-    let number = worst-cons _ n1 b1 (n2 && (n3 && (n4 && (h && (a && e))))) (b2 && (b3 && (b4 && (ho && (ao && true))))) (field-code k k (field line 1) hk) board in
-    let all = worst-cons _ w true (n1 && (n2 && (n3 && (n4 && (h && (a && e)))))) (b1 && (b2 && (b3 && (b4 && (ho && (ao && true)))))) (word-is (bytes "task") (field line 0)) number in
-    all
-    ∙ rw (
-      seven-fields line ended,
-      pulled ended (eqb (length (fields line)) 7) w n1 n2 n3 n4 h a,
-      and-yes ao,
-      only k (valueOf (field line 1)),
-      regroup b2 b3 b4 (ho && ao) (times-fine (valueOf (field line 3)) (valueOf (field line 4))),
-    )
+-- where the planned start stands
+abbrev pub startPlace : ℕ → ℕ
+startPlace edition = cond (eqb edition 2) 4 3
 
--- each code is 0, 3 or 4
-pub task-kinds : (ended : Bool) (boards tasks : ℕ) (line : List ℕ) (k : ℕ) → allOf isCode (taskCodes ended boards tasks line k) ≡ true
-unfolding taskCodes allOf
-task-kinds ended boards tasks line k =
-    and-of (word-is-code (bytes "task") (field line 0))
-    (and-of (field-is-code k k (field line 1))
-    (and-of (field-is-code 1 boards (field line 2))
-    (and-of (field-is-code 0 most (field line 3))
-    (and-of (field-is-code (valueOf (field line 3) + 1) most (field line 4))
-    (and-of (for-code (isHolds (field line 5)) (holdsOk (holdsOf (field line 5))))
-    (and-of (for-code (isAfter (field line 6)) (afterOk tasks (afterOf (field line 6)))) (and-of (end-is-code ended 7 line) refl)))))))
+pub record LineFine (edition boards tasks : ℕ) (line : List ℕ) (k : ℕ) : Type 0 where
+  pub head : HeadOk boards line k
+  pub times : TimesOk tasks line (startPlace edition)
+  pub ready : eqb edition 2 ≡ true → ReadyOk line
+
+module _ (line : List ℕ) where
+  ready-ok : readyCode line ≡ 0 → fieldCode 0 most (field line 4) ≡ 0 → ReadyOk line
+  unfolding readyCode
+  ready-ok z b =
+      by-eq (fieldCode 0 most (field line 3)) 0
+      (λ e.
+      by-bool (ltb (startAt line 4) (valueOf (field line 3)))
+      (λ l. let q : _≡_ {A = ℕ} 18 0 = rw (eq-eqb (fieldCode 0 most (field line 3)) 0 e, l) at z in absurd (omega arith))
+      (λ l. (
+        field-zero 0 most (field line 3) (omega arith) e .spelt,
+        omega (arith, ltb-false (startAt line 4) (valueOf (field line 3)) l, start-value line 4 b),
+      )))
+      (λ n. absurd (n (rw (ne-eqb (fieldCode 0 most (field line 3)) 0 n) at z)))
+
+  ok-ready : ReadyOk line → fieldCode 0 most (field line 4) ≡ 0 → readyCode line ≡ 0
+  unfolding readyCode
+  ok-ready r b =
+      let start = start-value line 4 b in
+      let few = field-zero 0 most (field line 4) (omega arith) b .to in
+      let e = zero-field 0 most (field line 3) (omega arith) (record { spelt = r .0; from = omega arith; to = omega (arith, r .1, few) }) in
+      rw (e, le-ltb (startAt line 4) (valueOf (field line 3)) (omega (arith, r .1, start)))
+
+module _ (ended : Bool) (edition boards tasks : ℕ) (line : List ℕ) (k : ℕ) (few-boards : boards ≤ most) (few-tasks : k ≤ most) where
+  abbrev codes : List ℕ
+  codes = taskCodes ended edition boards tasks line k
+
+  head-ok : allOf (eqb 0) codes ≡ true → HeadOk boards line k
+  unfolding taskCodes
+  head-ok all =
+      let at = zero-at codes all in
+      let n = field-zero k k (field line 1) few-tasks (at 1 (omega arith)) in
+      record {
+        word = word-zero (bytes "task") (field line 0) (at 0 (omega arith));
+        spelt = n .spelt;
+        number = omega (arith, n .from, n .to);
+        board = field-zero 1 boards (field line 2) few-boards (at 2 (omega arith));
+      }
+
+  -- what follows the first three fields
+  abbrev later : List ℕ
+  later = cond (eqb edition 2) (readyCode line ∷ codesFrom ended tasks line 4) (codesFrom ended tasks line 3)
+
+  all-later : allOf (eqb 0) codes ≡ true → allOf (eqb 0) later ≡ true
+  unfolding taskCodes allOf
+  all-later all = and-r (eqb 0 (fieldCode 1 boards (field line 2))) _ (and-r (eqb 0 (fieldCode k k (field line 1))) _ (and-r (eqb 0 (wordCode (bytes "task") (field line 0))) _ all))
+
+  pub line-fine : allOf (eqb 0) codes ≡ true → (ended ≡ true) × LineFine edition boards tasks line k
+  unfolding codesFrom allOf
+  line-fine all =
+      by-bool (eqb edition 2)
+      (λ e.
+      let l : allOf (eqb 0) (readyCode line ∷ codesFrom ended tasks line 4) ≡ true = rw e at (all-later all) in
+      let r = and-r (eqb 0 (readyCode line)) (allOf (eqb 0) (codesFrom ended tasks line 4)) l in
+      let t = times-ok ended tasks line 4 r in (
+        t .0,
+        record {
+          head = head-ok all;
+          times = rw e (t .1);
+          ready = λ q. ready-ok line (zero-at (readyCode line ∷ codesFrom ended tasks line 4) l 0 (omega arith)) (zero-at (codesFrom ended tasks line 4) r 0 (omega arith));
+        },
+      ))
+      (λ e.
+      let t = times-ok ended tasks line 3 (rw e at (all-later all)) in
+      (t .0, record { head = head-ok all; times = rw e (t .1); ready = λ q. true-false q e }))
+
+  pub fine-line : ended ≡ true → LineFine edition boards tasks line k → allOf (eqb 0) codes ≡ true
+  unfolding taskCodes
+  fine-line there f =
+      let h = f .head in
+      zeros _ _ (zero-word (bytes "task") (field line 0) (h .word))
+      (zeros _ _
+      (zero-field k k (field line 1) few-tasks (record { spelt = h .spelt; from = omega (arith, h .number); to = omega (arith, h .number) }))
+      (zeros _ _ (zero-field 1 boards (field line 2) few-boards (h .board)) (rest (f .times) (f .ready))))
+    where
+      begins : TimesOk tasks line 4 → fieldCode 0 most (field line 4) ≡ 0
+      begins t = zero-field 0 most (field line 4) (omega arith) (record { spelt = t .begin; from = omega arith; to = omega (arith, t .lasts, t .to) })
+
+      rest : TimesOk tasks line (startPlace edition) → (eqb edition 2 ≡ true → ReadyOk line) → allOf (eqb 0) later ≡ true
+      rest t r =
+          by-bool (eqb edition 2)
+          (λ e.
+          let t′ : TimesOk tasks line 4 = rw e at t in
+          rw e (zeros _ _ (ok-ready line (r e) (begins t′)) (ok-times ended tasks line 4 there t′)))
+          (λ e. rw e (ok-times ended tasks line 3 there (rw e at t)))
+
+  -- each code is 0, 3, 4 or 18
+  pub task-kinds : allOf isCode codes ≡ true
+  unfolding taskCodes codesFrom readyCode allOf
+  task-kinds =
+      and-of (word-is-code (bytes "task") (field line 0))
+      (and-of (field-is-code k k (field line 1))
+      (and-of (field-is-code 1 boards (field line 2))
+      (by-bool (eqb edition 2) (λ e. rw e (and-of ready-is-code (from-kinds 4))) (λ e. rw e (from-kinds 3)))))
+    where
+      ready-is-code : isCode (readyCode line) ≡ true
+      ready-is-code =
+          by-bool (eqb (fieldCode 0 most (field line 3)) 0 && ltb (startAt line 4) (valueOf (field line 3)))
+          (λ e. rw e eighteen-is-code)
+          (λ e. rw e (field-is-code 0 most (field line 3)))
+
+      from-kinds : (n : ℕ) → allOf isCode (codesFrom ended tasks line n) ≡ true
+      from-kinds n =
+          and-of (field-is-code 0 most (field line n))
+          (and-of (field-is-code (startAt line n + 1) most (field line (n + 1)))
+          (and-of (for-code (isHolds (field line (n + 2))) (holdsOk (holdsOf (field line (n + 2)))))
+          (and-of (for-code (isAfter (field line (n + 3))) (afterOk tasks (afterOf (field line (n + 3))))) (and-of (end-is-code ended (n + 4) line) refl))))
+
+-- ---- the task that such a line says
+
+module _ (edition boards tasks : ℕ) (line : List ℕ) (k : ℕ) (f : LineFine edition boards tasks line k) where
+  from-ok : (ready n : ℕ) → TimesOk tasks line n → ready ≤ valueOf (field line n) → taskOk boards tasks (taskFrom line ready n) ≡ true
+  unfolding taskFrom
+  from-ok ready n t r =
+      and-of
+      (and-of (between-of 1 boards (valueOf (field line 2)) (f .head .board .from) (f .head .board .to))
+      (and-of (le-leb ready (valueOf (field line n)) r)
+      (and-of (lt-ltb (valueOf (field line n)) (valueOf (field line (n + 1))) (t .lasts)) (le-leb (valueOf (field line (n + 1))) most (t .to)))))
+      (and-of (t .drives) (t .order))
+
+  pub fine-task : taskOk boards tasks (lineTask edition line) ≡ true
+  unfolding lineTask
+  fine-task =
+      by-bool (eqb edition 2)
+      (λ e. rw e (from-ok (valueOf (field line 3)) 4 (rw e at (f .times)) (f .ready e .1)))
+      (λ e. rw e (from-ok 0 3 (rw e at (f .times)) (omega arith)))
+
+  pub fine-edition : editionOk edition (lineTask edition line) ≡ true
+  unfolding lineTask taskFrom
+  fine-edition = by-bool (eqb edition 2) (λ e. rw e) (λ e. rw e)

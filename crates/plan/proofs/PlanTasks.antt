@@ -18,10 +18,10 @@ use Rattle.laws.proofs.Blank.{length-zeros, rising-room, within-free}
 use Rattle.laws.specs.Lists.{allOf, rising}
 use Rattle.laws.proofs.Split.{free}
 use Rattle.text.specs.Items.{between, driveOf, holdsOk, afterOk}
-use Rattle.plan.specs.Task.{Task, numbersOk, taskOk}
+use Rattle.plan.specs.Task.{Task, numbersOk, taskOk, editionOk}
 use Rattle.plan.specs.Value.{row, taskAt, planOf, blankFrom, isTrimmed, keptOk, pastBlank, rangesOk}
 use Rattle.plan.specs.declared.Plan.{Plan}
-pub use Rattle.plan.specs.Sized.{Sized}
+pub use Rattle.plan.specs.Sized.{SizedPlan}
 use Rattle.plan.proofs.PlanRows.{RowsMade, each-blank, rows-made, own-places, own-rows}
 
 -- ---- what a task has that keeps the ranges and rules
@@ -58,6 +58,7 @@ after-fit tasks l h = list-fits (λ n. n) tasks l refl h
 
 pub record TaskFits (boards tasks : ℕ) (task : Task) : Type 0 where
   pub board : (1 ≤ task .board) × (task .board ≤ boards)
+  pub ready : task .ready ≤ task .begin
   pub runs : task .begin < task .finish
   pub ends : task .finish ≤ 1000000
   pub holds : ListFits driveOf 32 (task .holds)
@@ -67,22 +68,28 @@ pub task-fits : (boards tasks : ℕ) (task : Task) → taskOk boards tasks task 
 task-fits boards tasks task h =
     let all = conj-at (numbersOk boards task ∷ holdsOk (task .holds) ∷ afterOk tasks (task .after) ∷ []) h in
     let numbers =
-    conj-at (between 1 boards (task .board) ∷ ltb (task .begin) (task .finish) ∷ leb (task .finish) 1000000 ∷ [])
-    (all 0 (omega arith)) in
+    conj-at
+    (between 1 boards (task .board)
+    ∷ leb (task .ready) (task .begin)
+    ∷ ltb (task .begin) (task .finish)
+    ∷ leb (task .finish) 1000000
+    ∷ []) (all 0 (omega arith)) in
     record {
       board = between-facts 1 boards (task .board) (numbers 0 (omega arith));
-      runs = ltb-true (task .begin) (task .finish) (numbers 1 (omega arith));
-      ends = leb-true (task .finish) 1000000 (numbers 2 (omega arith));
+      ready = leb-true (task .ready) (task .begin) (numbers 1 (omega arith));
+      runs = ltb-true (task .begin) (task .finish) (numbers 2 (omega arith));
+      ends = leb-true (task .finish) 1000000 (numbers 3 (omega arith));
       holds = holds-fit (task .holds) (all 1 (omega arith));
       after = after-fit tasks (task .after) (all 2 (omega arith));
     }
 
 -- ---- a plan made of tasks
 
-pub planOf-sized : (boards tasks : ℕ) (task : ℕ → Task) → Sized (planOf boards tasks task)
+pub planOf-sized : (edition boards tasks : ℕ) (task : ℕ → Task) → SizedPlan (planOf edition boards tasks task)
 unfolding planOf
-planOf-sized boards tasks task = record {
+planOf-sized edition boards tasks task = record {
   board = length-each tasks (λ k. task k .board) (replicate 64 0);
+  ready = length-each tasks (λ k. task k .ready) (replicate 64 0);
   begin = length-each tasks (λ k. task k .begin) (replicate 64 0);
   finish = length-each tasks (λ k. task k .finish) (replicate 64 0);
   holds = length-rows 32 tasks (λ k. task k .holds) (replicate 2048 0) ∙ length-zeros 2048;
@@ -91,14 +98,16 @@ planOf-sized boards tasks task = record {
 
 -- only the tasks below T count
 pub planOf-same :
-    (boards tasks : ℕ) (task other : ℕ → Task) → ((k : ℕ) → k < tasks → task k ≡ other k)
-    → planOf boards tasks task ≡ planOf boards tasks other
+    (edition boards tasks : ℕ) (task other : ℕ → Task) → ((k : ℕ) → k < tasks → task k ≡ other k)
+    → planOf edition boards tasks task ≡ planOf edition boards tasks other
 unfolding planOf
-planOf-same boards tasks task other e =
+planOf-same edition boards tasks task other e =
     λ i. record {
+      edition = edition;
       boards = boards;
       tasks = tasks;
       board = numbers (λ t. t .board) i;
+      ready = numbers (λ t. t .ready) i;
       begin = numbers (λ t. t .begin) i;
       finish = numbers (λ t. t .finish) i;
       holds = lists 32 2048 (λ t. t .holds) i;
@@ -117,7 +126,7 @@ planOf-same boards tasks task other e =
         rows-same width tasks (λ k. part (task k)) (λ k. part (other k)) (replicate size 0) (λ k h. ap part (e k h))
 
 module _
-    (boards tasks : ℕ) (task : ℕ → Task) (few : tasks ≤ 64)
+    (edition boards tasks : ℕ) (task : ℕ → Task) (few : tasks ≤ 64)
     (fine : (k : ℕ) → k < tasks → taskOk boards tasks (task k) ≡ true)
   where
     fits : (k : ℕ) → k < tasks → TaskFits boards tasks (task k)
@@ -133,11 +142,12 @@ module _
         (λ k h. fits k h .after .clean)
 
     -- its tasks are those that it was made of
-    pub made-task : (k : ℕ) → k < tasks → taskAt (planOf boards tasks task) k ≡ task k
+    pub made-task : (k : ℕ) → k < tasks → taskAt (planOf edition boards tasks task) k ≡ task k
     unfolding planOf
     made-task k h =
         λ i. record {
           board = number (λ t. t .board) i;
+          ready = number (λ t. t .ready) i;
           begin = number (λ t. t .begin) i;
           finish = number (λ t. t .finish) i;
           holds = holds-made .has k h i;
@@ -147,27 +157,34 @@ module _
         number : (part : Task → ℕ) → getD (each tasks (λ j. part (task j)) (replicate 64 0)) k 0 ≡ part (task k)
         number part = each-below tasks (λ j. part (task j)) (replicate 64 0) k 0 h (omega arith)
 
-    made-kept : (k : ℕ) → k < tasks → keptOk (planOf boards tasks task) k ≡ true
-    unfolding planOf keptOk
-    made-kept k h =
-        let ok : taskOk boards tasks (taskAt (planOf boards tasks task) k) ≡ true =
-        ap (taskOk boards tasks) (made-task k h) ∙ fine k h in
-        and-of ok (and-of (holds-made .trimmed k h) (after-made .trimmed k h))
+    module _ (allowed : (k : ℕ) → k < tasks → editionOk edition (task k) ≡ true) where
+      made-kept : (k : ℕ) → k < tasks → keptOk (planOf edition boards tasks task) k ≡ true
+      unfolding planOf keptOk
+      made-kept k h =
+          let ok : taskOk boards tasks (taskAt (planOf edition boards tasks task) k) ≡ true =
+          ap (taskOk boards tasks) (made-task k h) ∙ fine k h in
+          let may : editionOk edition (taskAt (planOf edition boards tasks task) k) ≡ true =
+          ap (editionOk edition) (made-task k h) ∙ allowed k h in
+          and-of ok (and-of may (and-of (holds-made .trimmed k h) (after-made .trimmed k h)))
 
-    -- its numbers and lists keep the ranges and rules, and nothing is kept past its last task or a list's last item
-    pub made-ranges : 1 ≤ boards → boards ≤ 8 → 1 ≤ tasks → rangesOk (planOf boards tasks task) ≡ true
-    unfolding planOf rangesOk
-    made-ranges p q r =
-        and-of (between-of 1 8 boards p q)
-        (and-of (between-of 1 64 tasks r few)
-        (and-of (every-of tasks (keptOk (planOf boards tasks task)) made-kept)
-        (and-of (each-blank 64 tasks (λ k. task k .board))
-        (and-of (each-blank 64 tasks (λ k. task k .begin))
-        (and-of (each-blank 64 tasks (λ k. task k .finish)) (and-of (holds-made .past) (after-made .past)))))))
+      -- its numbers and lists keep the ranges and rules, and nothing is kept past its last task or a list's last item
+      pub made-ranges :
+          1 ≤ edition → edition ≤ 2 → 1 ≤ boards → boards ≤ 8 → 1 ≤ tasks → rangesOk (planOf edition boards tasks task) ≡ true
+      unfolding planOf rangesOk
+      made-ranges e f p q r =
+          and-of (between-of 1 2 edition e f)
+          (and-of (between-of 1 8 boards p q)
+          (and-of (between-of 1 64 tasks r few)
+          (and-of (every-of tasks (keptOk (planOf edition boards tasks task)) made-kept)
+          (and-of (each-blank 64 tasks (λ k. task k .board))
+          (and-of (each-blank 64 tasks (λ k. task k .ready))
+          (and-of (each-blank 64 tasks (λ k. task k .begin))
+          (and-of (each-blank 64 tasks (λ k. task k .finish)) (and-of (holds-made .past) (after-made .past)))))))))
 
 -- ---- a plan that keeps the ranges and rules
 
 pub record RangesKept (plan : Plan) : Type 0 where
+  pub edition : (1 ≤ plan .edition) × (plan .edition ≤ 2)
   pub boards : (1 ≤ plan .boards) × (plan .boards ≤ 8)
   pub tasks : (1 ≤ plan .tasks) × (plan .tasks ≤ 64)
   pub kept : (k : ℕ) → k < plan .tasks → keptOk plan k ≡ true
@@ -178,16 +195,23 @@ unfolding rangesOk
 ranges-kept plan h =
     let all =
     conj-at
-    (between 1 8 (plan .boards) ∷ between 1 64 (plan .tasks) ∷ every (plan .tasks) (keptOk plan) ∷ pastBlank plan ∷ []) h in
+    (between 1 2 (plan .edition)
+    ∷ between 1 8 (plan .boards)
+    ∷ between 1 64 (plan .tasks)
+    ∷ every (plan .tasks) (keptOk plan)
+    ∷ pastBlank plan
+    ∷ []) h in
     record {
-      boards = between-facts 1 8 (plan .boards) (all 0 (omega arith));
-      tasks = between-facts 1 64 (plan .tasks) (all 1 (omega arith));
-      kept = every-at (plan .tasks) (keptOk plan) (all 2 (omega arith));
-      past = all 3 (omega arith);
+      edition = between-facts 1 2 (plan .edition) (all 0 (omega arith));
+      boards = between-facts 1 8 (plan .boards) (all 1 (omega arith));
+      tasks = between-facts 1 64 (plan .tasks) (all 2 (omega arith));
+      kept = every-at (plan .tasks) (keptOk plan) (all 3 (omega arith));
+      past = all 4 (omega arith);
     }
 
 pub record TaskKept (plan : Plan) (k : ℕ) : Type 0 where
   pub task : taskOk (plan .boards) (plan .tasks) (taskAt plan k) ≡ true
+  pub edition : editionOk (plan .edition) (taskAt plan k) ≡ true
   pub holds : isTrimmed (row 32 (plan .holds) k) ≡ true
   pub after : isTrimmed (row 64 (plan .after) k) ≡ true
 
@@ -197,13 +221,21 @@ task-kept plan k h =
     let all =
     conj-at
     (taskOk (plan .boards) (plan .tasks) (taskAt plan k)
+    ∷ editionOk (plan .edition) (taskAt plan k)
     ∷ isTrimmed (row 32 (plan .holds) k)
     ∷ isTrimmed (row 64 (plan .after) k)
     ∷ []) h in
-    record { task = all 0 (omega arith); holds = all 1 (omega arith); after = all 2 (omega arith) }
+    record {
+      task = all 0 (omega arith);
+      edition = all 1 (omega arith);
+      holds = all 2 (omega arith);
+      after = all 3 (omega arith);
+    }
 
 -- is made of its tasks
-pub planOf-own : (plan : Plan) → Sized plan → rangesOk plan ≡ true → planOf (plan .boards) (plan .tasks) (taskAt plan) ≡ plan
+pub planOf-own :
+    (plan : Plan) → SizedPlan plan → rangesOk plan ≡ true
+    → planOf (plan .edition) (plan .boards) (plan .tasks) (taskAt plan) ≡ plan
 unfolding planOf
 planOf-own plan size ok =
     let f = ranges-kept plan ok in
@@ -211,20 +243,24 @@ planOf-own plan size ok =
     let past =
     conj-at
     (blankFrom n (plan .board)
+    ∷ blankFrom n (plan .ready)
     ∷ blankFrom n (plan .begin)
     ∷ blankFrom n (plan .finish)
     ∷ blankFrom (32 * n) (plan .holds)
     ∷ blankFrom (64 * n) (plan .after)
     ∷ []) (f .past) in
     let p = own-places (plan .board) 64 (size .board) n (past 0 (omega arith)) in
-    let q = own-places (plan .begin) 64 (size .begin) n (past 1 (omega arith)) in
-    let r = own-places (plan .finish) 64 (size .finish) n (past 2 (omega arith)) in
-    let s = own-rows (plan .holds) 2048 (size .holds) n 32 (λ k h. task-kept plan k (f .kept k h) .holds) (past 3 (omega arith)) in
-    let t = own-rows (plan .after) 4096 (size .after) n 64 (λ k h. task-kept plan k (f .kept k h) .after) (past 4 (omega arith)) in
+    let w = own-places (plan .ready) 64 (size .ready) n (past 1 (omega arith)) in
+    let q = own-places (plan .begin) 64 (size .begin) n (past 2 (omega arith)) in
+    let r = own-places (plan .finish) 64 (size .finish) n (past 3 (omega arith)) in
+    let s = own-rows (plan .holds) 2048 (size .holds) n 32 (λ k h. task-kept plan k (f .kept k h) .holds) (past 4 (omega arith)) in
+    let t = own-rows (plan .after) 4096 (size .after) n 64 (λ k h. task-kept plan k (f .kept k h) .after) (past 5 (omega arith)) in
     λ i. record {
+      edition = plan .edition;
       boards = plan .boards;
       tasks = plan .tasks;
       board = p i;
+      ready = w i;
       begin = q i;
       finish = r i;
       holds = s i;

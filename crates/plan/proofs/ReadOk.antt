@@ -8,22 +8,23 @@ use native.Mathlib.Omega.{arith}
 use lib.ListN.{length}
 use lib.Dec.{ltb, eqb}
 use borrow.Author.Tests.{ltb-false, le-ltb, eqb-true, eq-eqb, not-false}
-use Rattle.laws.proofs.Cases.{and-l, and-r, and-of, guard-passed}
+use Rattle.laws.specs.Lists.{allOf}
+use Rattle.laws.proofs.Cases.{and-l, and-r, and-of}
 use Rattle.laws.proofs.Scan.{scan-clean, scan-none}
-use Rattle.text.specs.Number.{valueOf}
-use Rattle.faults.specs.Faults.{codeFor, faultOf}
+use Rattle.faults.specs.Faults.{worst, faultOf}
+use Rattle.faults.proofs.FaultLaws.{faultless-is}
 use Rattle.text.specs.Line.{hasLine, skip, lineAt, field}
 use Rattle.plan.specs.Answer.{refuse, granted, isGranted, isRefused}
-use Rattle.plan.specs.Task.{taskOk}
+use Rattle.plan.specs.Task.{taskOk, editionOk}
 use Rattle.plan.specs.Judged.{tasksAnswer}
 use Rattle.plan.specs.Value.{taskAt, planOf, rangesOk, isAccepted}
-use Rattle.plan.specs.Read.{sizesOk, boardsOf, tasksOf}
+use Rattle.plan.specs.Read.{sizesOk, editionOf, boardsOf, tasksOf, taskCodes}
 use Rattle.plan.specs.Read.{lineAnswer, linesAnswer, textTask, formAnswer, textAnswer, textPlan, readingOf}
 use Rattle.plan.specs.declared.Answer.{Answer}
 use Rattle.plan.proofs.FirstFault.{refused-code, passed-code}
 use Rattle.plan.proofs.Judged.{tasks-granted, tasks-same}
-use Rattle.plan.proofs.PlanTasks.{Sized, planOf-sized, made-task, made-ranges}
-use Rattle.plan.proofs.LineCodes.{isTaskLine, line-code-is}
+use Rattle.plan.proofs.PlanTasks.{SizedPlan, planOf-sized, made-task, made-ranges}
+use Rattle.plan.proofs.LineCodes.{LineFine, line-fine, fine-line, task-kinds, fine-task, fine-edition}
 use Rattle.plan.proofs.TextLines.{number-range, sizes-test}
 
 -- ---- what an accepted text keeps
@@ -31,9 +32,7 @@ use Rattle.plan.proofs.TextLines.{number-range, sizes-test}
 -- line k + 1 is there, is well formed, carries number k + 1, and its task keeps the ranges
 pub record LineOk (s : List ℕ) (k : ℕ) : Type 0 where
   pub there : hasLine (skip (k + 1) s) ≡ true
-  pub formed : isTaskLine (lineAt s (k + 1)) ≡ true
-  pub number : valueOf (field (lineAt s (k + 1)) 1) ≡ k + 1
-  pub ranges : taskOk (boardsOf s) (tasksOf s) (textTask s k) ≡ true
+  pub fine : LineFine (editionOf s) (boardsOf s) (tasksOf s) (lineAt s (k + 1)) (k + 1)
 
 pub record FormOk (s : List ℕ) : Type 0 where
   pub short : length s ≤ 32768
@@ -46,7 +45,10 @@ pub record TextOk (s : List ℕ) : Type 0 where
   pub form : FormOk s
   pub judged : tasksAnswer (tasksOf s) (textTask s) ≡ granted
 
--- B and T are small where the first line is as stated
+-- the edition is 1 or 2, B and T are small where the first line is as stated
+pub two-editions : (s : List ℕ) → sizesOk (lineAt s 0) ≡ true → (1 ≤ editionOf s) × (editionOf s ≤ 2)
+two-editions s h = let r = number-range 1 2 (field (lineAt s 0) 1) (sizes-test (lineAt s 0) h 2 (omega arith)) in (r .1, r .2)
+
 few-boards : (s : List ℕ) → sizesOk (lineAt s 0) ≡ true → (1 ≤ boardsOf s) × (boardsOf s ≤ 8)
 few-boards s h = let r = number-range 1 8 (field (lineAt s 0) 2) (sizes-test (lineAt s 0) h 3 (omega arith)) in (r .1, r .2)
 
@@ -54,36 +56,34 @@ few-tasks : (s : List ℕ) → sizesOk (lineAt s 0) ≡ true → (1 ≤ tasksOf 
 few-tasks s h = let r = number-range 1 64 (field (lineAt s 0) 3) (sizes-test (lineAt s 0) h 4 (omega arith)) in (r .1, r .2)
 
 module _ (s : List ℕ) (sizes : sizesOk (lineAt s 0) ≡ true) (k : ℕ) (below : k < tasksOf s) where
-  abbrev line : List ℕ
-  line = lineAt s (k + 1)
-
   abbrev there : Bool
   there = hasLine (skip (k + 1) s)
 
-  abbrev right : Bool
-  right = eqb (valueOf (field line 1)) (k + 1) && taskOk (boardsOf s) (tasksOf s) (textTask s k)
+  abbrev codes : List ℕ
+  codes = taskCodes there (editionOf s) (boardsOf s) (tasksOf s) (lineAt s (k + 1)) (k + 1)
 
-  code-is : lineAnswer s (k + 1) .code ≡ codeFor (there && isTaskLine line) right
+  few : (boardsOf s ≤ 1000000) × (k + 1 ≤ 1000000)
+  few = let b = few-boards s sizes in let t = few-tasks s sizes in (omega arith, omega arith)
+
+  code-is : lineAnswer s (k + 1) .code ≡ worst codes
   unfolding lineAnswer faultOf
-  code-is =
-      let b = few-boards s sizes in
-      let t = few-tasks s sizes in
-      line-code-is there (boardsOf s) (tasksOf s) line (k + 1) (omega arith) (omega arith)
+  code-is = refl
+
+  clean : allOf (eqb 0) codes ≡ eqb (worst codes) 0
+  clean = faultless-is codes (task-kinds there (editionOf s) (boardsOf s) (tasksOf s) (lineAt s (k + 1)) (k + 1) (few .0) (few .1))
 
   pub line-ok : lineAnswer s (k + 1) .code ≡ 0 → LineOk s k
   line-ok z =
-      let b = guard-passed (not (there && isTaskLine line)) 3 (cond (not right) 4 0) (omega arith) (sym code-is ∙ z) in
-      let formed = not-false (there && isTaskLine line) (b .0) in
-      let c = not-false right (guard-passed (not right) 4 0 (omega arith) (b .1) .0) in
-      record {
-        there = and-l there (isTaskLine line) formed;
-        formed = and-r there (isTaskLine line) formed;
-        number = eqb-true (valueOf (field line 1)) (k + 1) (and-l _ (taskOk (boardsOf s) (tasksOf s) (textTask s k)) c);
-        ranges = and-r (eqb (valueOf (field line 1)) (k + 1)) _ c;
-      }
+      let f =
+      line-fine there (editionOf s) (boardsOf s) (tasksOf s) (lineAt s (k + 1)) (k + 1) (few .0) (few .1)
+      (clean ∙ eq-eqb (worst codes) 0 (sym code-is ∙ z)) in
+      record { there = f .0; fine = f .1 }
 
   line-passed : LineOk s k → lineAnswer s (k + 1) .code ≡ 0
-  line-passed r = rw (code-is, r .there, r .formed, eq-eqb (valueOf (field line 1)) (k + 1) (r .number), r .ranges)
+  line-passed r =
+      code-is
+      ∙ eqb-true (worst codes) 0
+      (sym clean ∙ fine-line there (editionOf s) (boardsOf s) (tasksOf s) (lineAt s (k + 1)) (k + 1) (few .0) (few .1) (r .there) (r .fine))
 
 answer-passed : (g : Bool) (x r : Answer) → (g ≡ true → x .code ≢ 0) → cond g x r .code ≡ 0 → (g ≡ false) × (r .code ≡ 0)
 answer-passed true x r n z = absurd (n refl z)
@@ -159,18 +159,23 @@ module _ (s : List ℕ) (f : FormOk s) where
   form-tasks = few-tasks s (f .sizes)
 
   pub form-ranges : (k : ℕ) → k < tasksOf s → taskOk (boardsOf s) (tasksOf s) (textTask s k) ≡ true
-  form-ranges k h = f .lines k h .ranges
+  form-ranges k h = fine-task (editionOf s) (boardsOf s) (tasksOf s) (lineAt s (k + 1)) (k + 1) (f .lines k h .fine)
+
+  form-editions : (k : ℕ) → k < tasksOf s → editionOk (editionOf s) (textTask s k) ≡ true
+  form-editions k h = fine-edition (editionOf s) (boardsOf s) (tasksOf s) (lineAt s (k + 1)) (k + 1) (f .lines k h .fine)
 
   -- the tasks of the plan are those of the lines
   pub form-task : (k : ℕ) → k < tasksOf s → taskAt (textPlan s) k ≡ textTask s k
-  form-task = made-task (boardsOf s) (tasksOf s) (textTask s) (form-tasks .1) form-ranges
+  form-task = made-task (editionOf s) (boardsOf s) (tasksOf s) (textTask s) (form-tasks .1) form-ranges
 
   pub form-judged : tasksAnswer (tasksOf s) (taskAt (textPlan s)) ≡ tasksAnswer (tasksOf s) (textTask s)
   form-judged = tasks-same (tasksOf s) (taskAt (textPlan s)) (textTask s) form-task
 
   form-kept : rangesOk (textPlan s) ≡ true
   form-kept =
-      made-ranges (boardsOf s) (tasksOf s) (textTask s) (form-tasks .1) form-ranges (few-boards s (f .sizes) .0) (few-boards s (f .sizes) .1) (form-tasks .0)
+      made-ranges (editionOf s) (boardsOf s) (tasksOf s) (textTask s) (form-tasks .1) form-ranges form-editions
+      (two-editions s (f .sizes) .0) (two-editions s (f .sizes) .1)
+      (few-boards s (f .sizes) .0) (few-boards s (f .sizes) .1) (form-tasks .0)
 
 module _ (s : List ℕ) (z : textAnswer s .code ≡ 0) where
   pub read-plan : readingOf s .plan ≡ textPlan s
@@ -178,8 +183,8 @@ module _ (s : List ℕ) (z : textAnswer s .code ≡ 0) where
   read-plan = rw (eq-eqb (textAnswer s .code) 0 z)
 
   -- its arrays have their lengths
-  pub read-sized : Sized (readingOf s .plan)
-  read-sized = rw read-plan (planOf-sized (boardsOf s) (tasksOf s) (textTask s))
+  pub read-sized : SizedPlan (readingOf s .plan)
+  read-sized = rw read-plan (planOf-sized (editionOf s) (boardsOf s) (tasksOf s) (textTask s))
 
   -- a read plan is accepted
   pub read-accepted : isAccepted (readingOf s .plan) ≡ true

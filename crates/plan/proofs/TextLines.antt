@@ -1,8 +1,8 @@
 -- The lines of a text, and what a first line keeps.
-use Prim.Native.Nat.{ℕ, zero, suc, _+_, _<_, _≤_}
+use Prim.Native.Nat.{ℕ, _+_, _<_, _≤_}
 use mathlib.Core.List.{List, [], _∷_}
 use mathlib.Core.Bool.{Bool, true}
-use mathlib.Core.Path.{_≡_, refl}
+use mathlib.Core.Path.{_≡_}
 use native.Mathlib.Numerals.{add-one}
 use lib.ListN.{length, getD}
 use lib.Dec.{eqb}
@@ -10,7 +10,8 @@ use Rattle.laws.proofs.Cases.{and-l, and-r}
 use Rattle.laws.proofs.Conj.{conj-at}
 use Rattle.laws.specs.Digits.{digitsOf}
 use Rattle.laws.specs.Lists.{same}
-use Rattle.laws.specs.Split.{after, skipOn}
+use Rattle.laws.specs.Split.{after}
+use Rattle.laws.proofs.Split.{skip-suc}
 use Rattle.text.proofs.Numerals.{number-spelt}
 use Rattle.text.specs.Bytes.{bytes}
 use Rattle.text.specs.Number.{isNumber, valueOf}
@@ -19,19 +20,14 @@ use Rattle.text.specs.Items.{between}
 use Rattle.plan.specs.Read.{ranged, sizesOk}
 use Rattle.plan.proofs.PlanTasks.{between-facts}
 
-pub skip-suc : (n : ℕ) (s : List ℕ) → skip (suc n) s ≡ after LF (skip n s)
-unfolding skipOn
-skip-suc zero s = refl
-skip-suc (suc n) s = skip-suc n (after LF s)
-
 pub skip-turn : (n : ℕ) (s : List ℕ) → skip (n + 1) s ≡ after LF (skip n s)
-skip-turn n s = rw add-one (skip-suc n s)
+skip-turn n s = rw add-one (skip-suc LF n s)
 
 abbrev sizesTests : List ℕ → List Bool
 sizesTests line =
     eqb (length (fields line)) 4
     ∷ same (field line 0) (bytes "plan")
-    ∷ same (field line 1) (bytes "1")
+    ∷ ranged 1 2 (field line 1)
     ∷ ranged 1 8 (field line 2)
     ∷ ranged 1 64 (field line 3)
     ∷ []

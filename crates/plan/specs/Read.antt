@@ -10,7 +10,7 @@ use Rattle.text.specs.Bytes.{bytes}
 use Rattle.text.specs.Number.{isNumber, valueOf, most}
 use Rattle.text.specs.Line.{hasLine, skip, lineAt, fields, field}
 use Rattle.text.specs.Items.{between, isList, listOf, isHold, holdOf, holdsOk, afterOk}
-use Rattle.faults.specs.Faults.{codeFor, fieldCode, wordCode, endCode, faultOf}
+use Rattle.faults.specs.Faults.{codeFor, fieldCode, rangedRead, wordCode, endCode, faultOf}
 use Rattle.plan.specs.Answer.{refuse, granted, isGranted, isRefused}
 use Rattle.plan.specs.Task.{Task, taskOf}
 use Rattle.plan.specs.Judged.{tasksAnswer}
@@ -23,11 +23,14 @@ use Rattle.plan.specs.declared.Reading.{Reading}
 abbrev pub ranged : ℕ → ℕ → List ℕ → Bool
 ranged low high s = isNumber s && between low high (valueOf s)
 
--- First line: `plan`, `1`, boards B, tasks T
+-- First line: `plan`, edition `1` or `2`, boards B, tasks T
 unfoldable pub sizesOk : List ℕ → Bool
 sizesOk line =
     eqb (length (fields line)) 4 && (same (field line 0) (bytes "plan")
-    && (same (field line 1) (bytes "1") && (ranged 1 8 (field line 2) && ranged 1 64 (field line 3))))
+    && (ranged 1 2 (field line 1) && (ranged 1 8 (field line 2) && ranged 1 64 (field line 3))))
+
+abbrev pub editionOf : List ℕ → ℕ
+editionOf s = valueOf (field (lineAt s 0) 1)
 
 abbrev pub boardsOf : List ℕ → ℕ
 boardsOf s = valueOf (field (lineAt s 0) 2)
@@ -35,27 +38,47 @@ boardsOf s = valueOf (field (lineAt s 0) 2)
 abbrev pub tasksOf : List ℕ → ℕ
 tasksOf s = valueOf (field (lineAt s 0) 3)
 
-unfoldable pub lineTask : List ℕ → Task
-lineTask line =
-    taskOf (valueOf (field line 2)) (valueOf (field line 3)) (valueOf (field line 4))
-    (listOf holdOf (field line 5)) (listOf valueOf (field line 6))
+-- a task whose planned start is field n, followed by planned finish, holds, after
+unfoldable pub taskFrom : List ℕ → ℕ → ℕ → Task
+taskFrom line ready n =
+    taskOf (valueOf (field line 2)) ready (valueOf (field line n)) (valueOf (field line (n + 1)))
+    (listOf holdOf (field line (n + 2))) (listOf valueOf (field line (n + 3)))
 
--- Then T lines: `task`, number, board, planned start, planned finish, holds, after. The k-th task line carries number k
-unfoldable pub taskCodes : Bool → ℕ → ℕ → List ℕ → ℕ → List ℕ
-taskCodes ended boards tasks line k =
+-- Edition 2 has a ready field between board and planned start. Edition 1 is kept as ready 0
+unfoldable pub lineTask : ℕ → List ℕ → Task
+lineTask edition line = cond (eqb edition 2) (taskFrom line (valueOf (field line 3)) 4) (taskFrom line 0 3)
+
+-- the planned start that is field n; 0 where it is refused by itself
+abbrev pub startAt : List ℕ → ℕ → ℕ
+startAt line n = rangedRead 0 most (field line n) .value
+
+-- the codes from the planned start on
+unfoldable pub codesFrom : Bool → ℕ → List ℕ → ℕ → List ℕ
+codesFrom ended tasks line n =
+    fieldCode 0 most (field line n)
+    ∷ fieldCode (startAt line n + 1) most (field line (n + 1))
+    ∷ codeFor (isList isHold (field line (n + 2))) (holdsOk (listOf holdOf (field line (n + 2))))
+    ∷ codeFor (isList isNumber (field line (n + 3))) (afterOk tasks (listOf valueOf (field line (n + 3))))
+    ∷ endCode ended (n + 4) line ∷ []
+
+-- Ready is a tick; 18, ready after planned start
+unfoldable pub readyCode : List ℕ → ℕ
+readyCode line =
+    let code = fieldCode 0 most (field line 3) in cond (eqb code 0 && ltb (startAt line 4) (valueOf (field line 3))) 18 code
+
+-- Then T lines: `task`, number, board, in edition 2 ready, planned start, planned finish, holds, after. The k-th task line
+-- carries number k
+unfoldable pub taskCodes : Bool → ℕ → ℕ → ℕ → List ℕ → ℕ → List ℕ
+taskCodes ended edition boards tasks line k =
     wordCode (bytes "task") (field line 0)
     ∷ fieldCode k k (field line 1)
     ∷ fieldCode 1 boards (field line 2)
-    ∷ fieldCode 0 most (field line 3)
-    ∷ fieldCode (valueOf (field line 3) + 1) most (field line 4)
-    ∷ codeFor (isList isHold (field line 5)) (holdsOk (listOf holdOf (field line 5)))
-    ∷ codeFor (isList isNumber (field line 6)) (afterOk tasks (listOf valueOf (field line 6)))
-    ∷ endCode ended 7 line ∷ []
+    ∷ cond (eqb edition 2) (readyCode line ∷ codesFrom ended tasks line 4) (codesFrom ended tasks line 3)
 
 -- the k-th task line stands on line k + 1; a missing line is an empty one with no LF
 unfoldable pub lineAnswer : List ℕ → ℕ → Answer
 lineAnswer s k =
-    let fault = faultOf (lineAt s k) (taskCodes (hasLine (skip k s)) (boardsOf s) (tasksOf s) (lineAt s k) k) in
+    let fault = faultOf (lineAt s k) (taskCodes (hasLine (skip k s)) (editionOf s) (boardsOf s) (tasksOf s) (lineAt s k) k) in
     refuse (fault .code) (k + 1) (fault .column)
 
 -- line by line
@@ -64,9 +87,9 @@ linesAnswer s = scanTo isRefused granted (lineAnswer s) 1 (tasksOf s + 1)
 
 -- the tasks of a text, from 0
 abbrev pub textTask : List ℕ → ℕ → Task
-textTask s k = lineTask (lineAt s (k + 1))
+textTask s k = lineTask (editionOf s) (lineAt s (k + 1))
 
--- Checks: 1; 2; then line by line 3 before 4; 5
+-- Checks: 1; 2; then line by line 3, then 4, then 18; 5
 unfoldable pub formAnswer : List ℕ → Answer
 formAnswer s =
     cond (ltb 32768 (length s)) (refuse 1 0 0)
@@ -80,7 +103,7 @@ textAnswer s = cond (isRefused (formAnswer s)) (formAnswer s) (tasksAnswer (task
 
 -- the plan that a text's lines make
 abbrev pub textPlan : List ℕ → Plan
-textPlan s = planOf (boardsOf s) (tasksOf s) (textTask s)
+textPlan s = planOf (editionOf s) (boardsOf s) (tasksOf s) (textTask s)
 
 -- A refused reading gives a plan of zeros
 abbrev pub readAs : Answer → Plan → Reading

@@ -1,26 +1,33 @@
 -- One task of a plan, and the ranges and rules that its numbers and lists keep.
 use Prim.Native.Nat.{ℕ}
-use mathlib.Core.Bool.{Bool, _&&_}
+use mathlib.Core.Bool.{Bool, _&&_, _||_}
 use mathlib.Core.List.{List}
-use lib.Dec.{leb, ltb}
+use lib.Dec.{leb, ltb, eqb}
 use Rattle.text.specs.Number.{most}
 use Rattle.text.specs.Items.{between, holdsOk, afterOk}
 
 pub record Task : Type 0 where
   pub board : ℕ
+  pub ready : ℕ
   pub begin : ℕ
   pub finish : ℕ
   pub holds : List ℕ
   pub after : List ℕ
 
 -- the task of these parts
-abbrev pub taskOf : ℕ → ℕ → ℕ → List ℕ → List ℕ → Task
-taskOf board begin finish holds after = record { board = board; begin = begin; finish = finish; holds = holds; after = after }
+abbrev pub taskOf : ℕ → ℕ → ℕ → ℕ → List ℕ → List ℕ → Task
+taskOf board ready begin finish holds after =
+    record { board = board; ready = ready; begin = begin; finish = finish; holds = holds; after = after }
 
--- Board is 1 to B. Planned finish is at least planned start + 1 and at most 1,000,000
+-- Board is 1 to B. Ready at or before planned start. Planned finish is at least planned start + 1 and at most 1,000,000
 abbrev pub numbersOk : ℕ → Task → Bool
 numbersOk boards task =
-    between 1 boards (task .board) && (ltb (task .begin) (task .finish) && leb (task .finish) most)
+    between 1 boards (task .board)
+    && (leb (task .ready) (task .begin) && (ltb (task .begin) (task .finish) && leb (task .finish) most))
 
 abbrev pub taskOk : ℕ → ℕ → Task → Bool
 taskOk boards tasks task = numbersOk boards task && (holdsOk (task .holds) && afterOk tasks (task .after))
+
+-- Edition 1 is kept as ready 0
+abbrev pub editionOk : ℕ → Task → Bool
+editionOk edition task = eqb edition 2 || eqb (task .ready) 0

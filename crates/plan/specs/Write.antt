@@ -2,7 +2,7 @@
 use Prim.Native.Nat.{ℕ, zero, suc, _+_}
 use mathlib.Core.Bool.{not, cond}
 use mathlib.Core.List.{List, [], _∷_, _++_}
-use lib.Dec.{ltb}
+use lib.Dec.{ltb, eqb}
 use lib.ListN.{length}
 use lib.Seq.{sets}
 use Rattle.laws.specs.Digits.{digitsOf}
@@ -16,22 +16,29 @@ use Rattle.plan.specs.declared.Answer.{Answer}
 use Rattle.plan.specs.declared.Plan.{Plan}
 use Rattle.plan.specs.declared.Written.{Written}
 
-unfoldable pub sizesText : ℕ → ℕ → List ℕ
-sizesText boards tasks = lineText (bytes "plan" ∷ bytes "1" ∷ digitsOf boards ∷ digitsOf tasks ∷ [])
+unfoldable pub sizesText : ℕ → ℕ → ℕ → List ℕ
+sizesText edition boards tasks = lineText (bytes "plan" ∷ digitsOf edition ∷ digitsOf boards ∷ digitsOf tasks ∷ [])
 
-unfoldable pub taskText : ℕ → Task → List ℕ
-taskText number task =
+-- the fields from the planned start on
+abbrev pub fieldsFrom : Task → List (List ℕ)
+fieldsFrom task =
+    digitsOf (task .begin) ∷ digitsOf (task .finish) ∷ listText holdText (task .holds) ∷ listText digitsOf (task .after) ∷ []
+
+-- each edition in its own form
+unfoldable pub taskText : ℕ → ℕ → Task → List ℕ
+taskText edition number task =
     lineText
-    (bytes "task" ∷ digitsOf number ∷ digitsOf (task .board) ∷ digitsOf (task .begin) ∷ digitsOf (task .finish)
-    ∷ listText holdText (task .holds) ∷ listText digitsOf (task .after) ∷ [])
+    (bytes "task" ∷ digitsOf number ∷ digitsOf (task .board)
+    ∷ cond (eqb edition 2) (digitsOf (task .ready) ∷ fieldsFrom task) (fieldsFrom task))
 
 -- the lines of the first n tasks
-unfoldable pub taskTexts : (ℕ → Task) → ℕ → List ℕ
-taskTexts task zero = []
-taskTexts task (suc n) = taskTexts task n ++ taskText (n + 1) (task n)
+unfoldable pub taskTexts : ℕ → (ℕ → Task) → ℕ → List ℕ
+taskTexts edition task zero = []
+taskTexts edition task (suc n) = taskTexts edition task n ++ taskText edition (n + 1) (task n)
 
 unfoldable pub textOf : Plan → List ℕ
-textOf plan = sizesText (plan .boards) (plan .tasks) ++ taskTexts (taskAt plan) (plan .tasks)
+textOf plan =
+    sizesText (plan .edition) (plan .boards) (plan .tasks) ++ taskTexts (plan .edition) (taskAt plan) (plan .tasks)
 
 -- 9 first; then 16, which says the bytes needed
 unfoldable pub writeAnswer : Plan → ℕ → Answer

@@ -11,9 +11,11 @@ pub struct Answer {
 // Task k from 0: its holds are the 32 places from 32 k, its after the 64 places from 64 k, items first, 0 after the last.
 #[repr(C)]
 pub struct Plan {
+    pub edition: u8,
     pub boards: u8,
     pub tasks: u8,
     pub board: [u8; 64],
+    pub ready: [u32; 64],
     pub begin: [u32; 64],
     pub finish: [u32; 64],
     pub holds: [u8; 2048],

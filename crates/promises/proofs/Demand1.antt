@@ -19,27 +19,36 @@ use Rattle.book.specs.Early.{figureOf}
 use Rattle.book.specs.declared.Book.{Book}
 use Rattle.entries.specs.Entries.{nextEntry}
 use Rattle.promises.specs.Runs.{SizedPlan, Sized}
-use Rattle.promises.specs.Says.{FirstFaultyLine, EntrySays, FirstFaulty, BeginsLate, ReadingSays, OpeningSays, ReportSays, DropSays, FigureSays, WriteSays}
+use Rattle.promises.specs.Says.{ReadyLate, FirstFaultyLine, EntrySays, FirstFaulty, BeginsLate, ReadingSays, OpeningSays, ReportSays, DropSays, FigureSays, WriteSays}
 use Rattle.promises.proofs.Judged as judged
 use Rattle.promises.proofs.codes.Columns as columns
 use Rattle.promises.proofs.codes.Reading as read-codes
 use Rattle.promises.proofs.codes.Book as book-codes
 use Rattle.promises.proofs.codes.Writing as write-codes
 
-pub reading-code : (text : List ℕ) → (readingOf text .answer .code ≤ 8) ⊎ (readingOf text .answer .code ≡ 17)
+pub reading-code :
+    (text : List ℕ)
+    → (readingOf text .answer .code ≤ 8) ⊎ ((readingOf text .answer .code ≡ 17) ⊎ (readingOf text .answer .code ≡ 18))
 reading-code = read-codes.reading-code
 
 pub reading-says : (text : List ℕ) → ReadingSays text (readingOf text)
 reading-says = read-codes.reading-says
 
--- refused with 3 or 4 it names its first faulty line, and the column of that line's leftmost fault of the kind
+-- refused with 3, 4 or 18 it names its first faulty line, and the column of that line's leftmost fault of the kind
 pub reading-column :
-    (text : List ℕ) → 3 ≤ readingOf text .answer .code → readingOf text .answer .code ≤ 4
+    (text : List ℕ)
+    → (readingOf text .answer .code ≡ 3) ⊎ ((readingOf text .answer .code ≡ 4) ⊎ (readingOf text .answer .code ≡ 18))
     → (k : ℕ) × (readingOf text .answer .first ≡ k + 1)
     × FirstFaultyLine text (readingOf text .answer .code) k (readingOf text .answer .second)
 reading-column = read-codes.reading-column
 
--- and so does a line of ends.txt
+-- with 18 a line of edition 2 whose ready tick is after its planned start, and the column of its ready field
+pub reading-unready :
+    (text : List ℕ) → readingOf text .answer .code ≡ 18
+    → (k : ℕ) × (readingOf text .answer .first ≡ k + 1) × ReadyLate text k (readingOf text .answer .second)
+reading-unready = read-codes.reading-unready
+
+-- and a line of ends.txt with 3 or 4 names its column
 pub entry-says : (text : List ℕ) → EntrySays text (nextEntry text)
 entry-says = columns.entry-says
 

@@ -20,8 +20,8 @@ use Rattle.book.specs.Report.{reportedOf}
 use Rattle.book.specs.Drop.{droppedOf}
 use Rattle.book.specs.Early.{figureOf}
 use Rattle.book.specs.declared.Book.{Book}
-use Rattle.promises.specs.Runs.{SizedPlan, Sized, openedBook, runOf, Waiting, Running, Ended, Started, Dropped, startOf, endOf}
-use Rattle.promises.specs.Runs.{WaitsFor, dueOf, AllEnded, StartsExactly}
+use Rattle.promises.specs.Runs.{SizedPlan, Sized, openedBook, runOf, Waiting, Ended, Started, Dropped, startOf, endOf}
+use Rattle.promises.specs.Runs.{WaitsFor, dueOf, startDueOf, AllEnded, StartsExactly, Term}
 use Rattle.promises.proofs.SoundBook as sound-book
 use Rattle.promises.proofs.Told as told
 use Rattle.promises.proofs.codes.Book as book-codes
@@ -61,11 +61,11 @@ report-drops = told.report-drops
 
 -- of an accepted plan, its opened book and any list of reports and drops
 module _ (plan : Plan) (size : SizedPlan plan) (ok : isAccepted plan ≡ true) where
-  -- A task that waits for nobody starts at tick 0, and no other then
+  -- A task that waits for nobody starts at its ready tick, and no other at opening
   pub opening-starts :
       (i : ℕ) → i < openedBook plan .tasks
       → (Started (openedBook plan) i ↔ ((j : ℕ) → j < openedBook plan .tasks → WaitsFor (openedBook plan) i j → ⊥))
-      × (Started (openedBook plan) i → startOf (openedBook plan) i ≡ 0)
+      × (Started (openedBook plan) i → startOf (openedBook plan) i ≡ at (plan .ready) i)
   opening-starts = sound-book.opened-starts plan size ok
 
   module _ (events : List Event) where
@@ -79,11 +79,24 @@ module _ (plan : Plan) (size : SizedPlan plan) (ok : isAccepted plan ≡ true) w
     pub run-sized : Sized (runOf plan events)
     run-sized = sound-book.on-run plan size ok events .good .sized
 
-    -- its start is the latest of the ends of those it waits for, 0 where it waits for nobody
+    -- its start is the later of its ready tick and the latest of the ends of those it waits for
     pub start-is-due :
-        (i : ℕ) → i < runOf plan events .tasks → Started (runOf plan events) i
-        → startOf (runOf plan events) i ≡ dueOf (runOf plan events) i
+        (i : ℕ) → i < runOf plan events .tasks → Started (runOf plan events) i → (Dropped (runOf plan events) i → ⊥)
+        → startOf (runOf plan events) i ≡ startDueOf (runOf plan events) i
     start-is-due = sound-book.start-due (runOf plan events) (sound-book.on-run plan size ok events .good)
+
+    -- a dropped task's ready tick is ignored
+    pub dropped-is-due :
+        (i : ℕ) → i < runOf plan events .tasks → Started (runOf plan events) i → Dropped (runOf plan events) i
+        → startOf (runOf plan events) i ≡ dueOf (runOf plan events) i
+    dropped-is-due = sound-book.skip-due (runOf plan events) (sound-book.on-run plan size ok events .good)
+
+    -- a start that lies past the clock is the ready tick
+    pub ahead-at-ready :
+        (i : ℕ) → i < runOf plan events .tasks → Started (runOf plan events) i
+        → runOf plan events .clock < startOf (runOf plan events) i
+        → startOf (runOf plan events) i ≡ at (runOf plan events .ready) i
+    ahead-at-ready = sound-book.ahead-ready (runOf plan events) (sound-book.on-run plan size ok events .good)
 
     -- a task has started exactly when all it waits for have ended
     pub started-when-free :
@@ -129,7 +142,7 @@ module _ (book : Book) (size : Sized book) (sound : isSound book ≡ true) where
         told.others-stay
         book (record { sized = size; sound = sound }) task tick (told.code-of book task tick sound taken)
 
-    -- a waiting task starts exactly when all it waits for have ended after it, and then at its tick
+    -- a waiting task starts exactly when all it waits for have ended after it, at the later of its ready tick and the tick
     pub starts-exactly :
         (i : ℕ) → i < book .tasks → Waiting book i → StartsExactly tick (reportedOf book task tick .book) i
     starts-exactly =
@@ -157,21 +170,21 @@ module _ (book : Book) (size : Sized book) (sound : isSound book ≡ true) where
         × (droppedOf book task .book .start ≡ book .start) × (droppedOf book task .book .end ≡ book .end)
     drop-rest = told.drop-rest book (record { sized = size; sound = sound }) task (told.drop-code-of book task sound taken)
 
-  -- M is the least of planned start − start over the tasks running at that moment
+  -- M is the least of its terms
   pub figure-is-defined : figureOf book ≡ record { answer = granted; early = minimumEarly (planView book) (bookView book) }
   figure-is-defined = figures.figure-is book sound
 
-  pub figure-least : (i : ℕ) → i < book .tasks → Running book i → figureOf book .early ≤ at (book .begin) i - startOf book i
-  figure-least = figures.least-of-running book sound
+  pub figure-least : (i : ℕ) → i < book .tasks → (early : ℕ) → Term book i early → figureOf book .early ≤ early
+  figure-least = figures.least-term book (record { sized = size; sound = sound })
 
   pub figure-met :
-      (k : ℕ) → k < book .tasks → Running book k
-      → (i : ℕ) × (i < book .tasks) × Running book i × (figureOf book .early ≡ at (book .begin) i - startOf book i)
-  figure-met = figures.one-of-running book sound
+      (k : ℕ) → k < book .tasks → (early : ℕ) → Term book k early
+      → (i : ℕ) × (i < book .tasks) × Term book i (figureOf book .early)
+  figure-met = figures.one-term book (record { sized = size; sound = sound })
 
-  -- and 0 if none runs
-  pub figure-none : ((i : ℕ) → i < book .tasks → Running book i → ⊥) → figureOf book .early ≡ 0
-  figure-none = figures.none-running book sound
+  -- and 0 only where there is none
+  pub figure-none : ((i : ℕ) → i < book .tasks → (early : ℕ) → Term book i early → ⊥) → figureOf book .early ≡ 0
+  figure-none = figures.no-term book (record { sized = size; sound = sound })
 
 -- both round trips: an accepted text is written back byte for byte
 pub text-back : (text : List ℕ) → readingOf text .answer .code ≡ 0 → textOf (readingOf text .plan) ≡ text

@@ -5,9 +5,11 @@ pub mod Told
 pub mod codes
 pub mod Judged
 pub mod Figures
+pub mod Unmoved
 pub mod Rounds
 pub mod tables
 pub mod Demand1
 pub mod Demand2
 pub mod Demand3
+pub mod Edition1
 pub mod Claims

@@ -1,5 +1,5 @@
 -- Any list of reports and drops on a sound book is the theory's run on its view, where task k is the theory's k - 1.
-use Prim.Native.Nat.{ℕ, _+_, _-_}
+use Prim.Native.Nat.{ℕ, _+_}
 use native.Mathlib.Omega.{arith}
 use mathlib.Core.Bool.{true}
 use mathlib.Core.List.{List, [], _∷_, _++_, map, List·Memᴰ, List·Memᴰ·head, List·Memᴰ·tail, List·Memᴰ·cases-cons, List·Memᴰ·not-nil}
@@ -147,10 +147,12 @@ pub book-path :
     → book ≡ other
 book-path book other s t p v =
     λ i. record {
+      edition = p i .edition;
       boards = p i .boards;
       tasks = p i .tasks;
       clock = v i .clock;
       board = p i .board;
+      ready = p i .ready;
       begin = p i .begin;
       finish = p i .finish;
       start = starts i;

@@ -1,5 +1,5 @@
 -- What the theory says of a sound book, in the words of the promises.
-use Prim.Native.Nat.{ℕ, _+_, _-_, _≤_, _<_}
+use Prim.Native.Nat.{ℕ, _+_, _≤_, _<_}
 use native.Mathlib.Omega.{arith}
 use mathlib.Core.Bool.{true}
 use mathlib.Core.List.{List, _++_, map}
@@ -14,7 +14,7 @@ use Rattle.theory.specs.Events.{Event}
 use Rattle.theory.proofs.Facts.{Sound, run, accepted}
 use Rattle.theory.specs.Figure.{minimumEarly}
 use Rattle.theory.proofs.Reflect.{all-ended-at, all-ended-of}
-use Rattle.theory.proofs.Task.{waiting-why, started-all, free-started}
+use Rattle.theory.proofs.Task.{waiting-why, started-all, free-started, ended-within, end-by-clock}
 use Rattle.theory.proofs.Order as order
 use Rattle.theory.proofs.Kept as kept
 use Rattle.theory.proofs.Progress as progress
@@ -35,7 +35,7 @@ use Rattle.book.specs.Sized.{SizedPlan}
 use Rattle.book.proofs.Views.{view-opened}
 use Rattle.book.proofs.Soundness.{SoundFacts, is-sound-facts}
 use Rattle.book.proofs.Reports.{theoryTask, theoryEvent, code-seen-by}
-use Rattle.promises.specs.Runs.{openedBook, bookAfter, acceptedOf, Waiting, Running, Ended, Started, startOf, endOf, limitOf, WaitsFor, dueOf, AllEnded, InOrder, EarlyBy, runOf, AllInRange, Progress, Finishes, Reached}
+use Rattle.promises.specs.Runs.{openedBook, bookAfter, acceptedOf, Waiting, Running, Ended, Started, Dropped, startOf, endOf, NotBegun, limitOf, WaitsFor, dueOf, startDueOf, AllEnded, InOrder, EarlyBy, runOf, AllInRange, Progress, Finishes, Reached}
 use Rattle.promises.proofs.InRange.{limit-told, accepted-in-range}
 use Rattle.promises.proofs.RunView.{Good, named, good-run, plan-run, view-run, after-append, answer-granted, seen-named, accepted-seen, book-path, opened-is, opened-plan, opened-good}
 
@@ -94,8 +94,24 @@ module _ (book : Book) (g : Good book) where
         (λ j l w. f j l (leb-true (at (book .finish) j) (at (book .begin) i) w)),
   )
 
-  pub start-due : (i : ℕ) → i < book .tasks → Started book i → startOf book i ≡ dueOf book i
+  -- a start is the later of its ready tick and what is due; a dropped task's ready tick is ignored
+  pub start-due : (i : ℕ) → i < book .tasks → Started book i → (Dropped book i → ⊥) → startOf book i ≡ startDueOf book i
   start-due = order.started-due (planView book) (bookView book) (facts .sound)
+
+  pub skip-due : (i : ℕ) → i < book .tasks → Started book i → Dropped book i → startOf book i ≡ dueOf book i
+  skip-due = order.skipped-due (planView book) (bookView book) (facts .sound)
+
+  -- a start that lies past the clock is the ready tick
+  pub ahead-ready : (i : ℕ) → i < book .tasks → Started book i → book .clock < startOf book i → startOf book i ≡ at (book .ready) i
+  ahead-ready = order.ready-ahead (planView book) (bookView book) (facts .sound)
+
+  -- one whose start the clock has not reached has not ended
+  pub unbegun-unended : (i : ℕ) → i < book .tasks → NotBegun book i → Ended book i → ⊥
+  unbegun-unended i l not-yet e =
+      let w = ended-within (facts .sound .task i l) e in
+      let c = end-by-clock (facts .sound .task i l) in
+      let q = not-yet (omega arith) in
+      omega arith
 
   pub waiting-for : (i : ℕ) → i < book .tasks → Waiting book i → (j : ℕ) × (j < book .tasks) × WaitsFor book i j × (Ended book j → ⊥)
   waiting-for i l z =
@@ -183,6 +199,10 @@ module _ (plan : Plan) (size : SizedPlan plan) (ok : isAccepted plan ≡ true) w
     pub not-late : (i : ℕ) → i < plan .tasks → Started book i → startOf book i ≤ at (plan .begin) i
     not-late = order.never-late (planFor plan) (bookView book) sound-on law
 
+    -- nobody starts before its ready tick unless dropped
+    pub not-unready : (i : ℕ) → i < plan .tasks → Started book i → (Dropped book i → ⊥) → at (plan .ready) i ≤ startOf book i
+    not-unready = order.never-unready (planFor plan) (bookView book) sound-on
+
     figure-is : figureOf book .early ≡ minimumEarly (planFor plan) (bookView book)
     unfolding figureOf
     figure-is =
@@ -196,11 +216,14 @@ module _ (plan : Plan) (size : SizedPlan plan) (ok : isAccepted plan ≡ true) w
         view-run book later (on .good)
         ∙ ap (λ (p : Plan). run (planFor p) (bookView book) (map (theoryEvent (p .tasks)) later)) (on .same)
 
-    pub early-kept :
-        (later : List Event) (i : ℕ) → i < plan .tasks → (Ended book i → ⊥)
+    abbrev laterSeen : List Event → theory-book.Book
+    laterSeen later = run (planFor plan) (bookView book) (map (theoryEvent (plan .tasks)) later)
+
+    early-said :
+        (later : List Event) (i : ℕ)
+        → kept.EarlyBy (planFor plan) (minimumEarly (planFor plan) (bookView book)) (laterSeen later) i
         → EarlyBy plan (figureOf book .early) (bookAfter book later) i
-    early-kept later i l n =
-        let f = kept.figure-kept (planFor plan) law (bookView book) sound-on (map (theoryEvent (plan .tasks)) later) i l n in
+    early-said later i f =
         let m = ap (λ (b : theory-book.Book). b .mark i) (later-is later) in
         let s = ap (λ (b : theory-book.Book). b .start i) (later-is later) in
         let e = ap (λ (b : theory-book.Book). b .end i) (later-is later) in
@@ -210,12 +233,32 @@ module _ (plan : Plan) (size : SizedPlan plan) (ok : isAccepted plan ≡ true) w
           ends = λ h. let q = f .ends (sym m ∙ h) in omega arith;
         }
 
+    pub early-kept :
+        (later : List Event) (i : ℕ) → i < plan .tasks → (Ended book i → ⊥)
+        → EarlyBy plan (figureOf book .early) (bookAfter book later) i
+    early-kept later i l n =
+        early-said later i (kept.figure-kept (planFor plan) law (bookView book) sound-on (map (theoryEvent (plan .tasks)) later) i l n)
+
+    -- a start that is not known or lies past the clock
+    pub unbegun-kept :
+        (later : List Event) (i : ℕ) → i < plan .tasks → NotBegun book i
+        → EarlyBy plan (figureOf book .early) (bookAfter book later) i
+    unbegun-kept later i l n =
+        early-said later i (kept.begins-early (planFor plan) law (bookView book) sound-on (map (theoryEvent (plan .tasks)) later) i l n)
+
 pub kept-run :
     (plan : Plan) → SizedPlan plan → isAccepted plan ≡ true → (reports later : List Event) (i : ℕ) → i < plan .tasks
     → (Ended (runOf plan reports) i → ⊥) → EarlyBy plan (figureOf (runOf plan reports) .early) (runOf plan (reports ++ later)) i
 kept-run plan size ok reports later i l n =
     rw (after-append (openedBook plan) reports later)
     (early-kept plan size ok (runOf plan reports) (on-run plan size ok reports) later i l n)
+
+pub kept-unbegun :
+    (plan : Plan) → SizedPlan plan → isAccepted plan ≡ true → (reports later : List Event) (i : ℕ) → i < plan .tasks
+    → NotBegun (runOf plan reports) i → EarlyBy plan (figureOf (runOf plan reports) .early) (runOf plan (reports ++ later)) i
+kept-unbegun plan size ok reports later i l n =
+    rw (after-append (openedBook plan) reports later)
+    (unbegun-kept plan size ok (runOf plan reports) (on-run plan size ok reports) later i l n)
 
 -- opening
 module _ (plan : Plan) (size : SizedPlan plan) (ok : isAccepted plan ≡ true) where
@@ -225,18 +268,29 @@ module _ (plan : Plan) (size : SizedPlan plan) (ok : isAccepted plan ≡ true) w
       let t : openedBook plan .tasks ≡ plan .tasks = ap (λ (p : Plan). p .tasks) (opened-plan plan ok) in
       opened-none (planFor plan) j (omega arith) (sym (ap (λ (b : theory-book.Book). b .mark j) view) ∙ h)
 
+  -- and nobody is dropped
+  undropped : (i : ℕ) → Dropped (openedBook plan) i → ⊥
+  unfolding theory-report.opened
+  undropped i d =
+      let view = ap (λ (b : Book). bookView b) (opened-is plan ok) ∙ view-opened plan (plan-facts plan ok .tasks-to) in
+      let z : at (openedBook plan .dropped) i ≡ 0 = ap (λ (b : theory-book.Book). b .dropped i) view in
+      omega arith
+
   pub opened-starts :
       (i : ℕ) → i < openedBook plan .tasks
       → (Started (openedBook plan) i ↔ ((j : ℕ) → j < openedBook plan .tasks → WaitsFor (openedBook plan) i j → ⊥))
-      × (Started (openedBook plan) i → startOf (openedBook plan) i ≡ 0)
+      × (Started (openedBook plan) i → startOf (openedBook plan) i ≡ at (plan .ready) i)
   opened-starts i l =
       let g = opened-good plan ok size in
-      let f = started-free (openedBook plan) g i l in (
-        (λ n j lj w. nobody-ended j lj (f .0 n j lj w), λ none. f .1 (λ j lj w. absurd (none j lj w))),
+      let f = started-free (openedBook plan) g i l in
+      let none : Started (openedBook plan) i → (j : ℕ) → j < openedBook plan .tasks → WaitsFor (openedBook plan) i j → ⊥ =
+      λ n j lj w. nobody-ended j lj (f .0 n j lj w) in
+      let ready = ap (λ (p : Plan). at (p .ready) i) (opened-plan plan ok) in (
+        (none, λ h. f .1 (λ j lj w. absurd (h j lj w))),
         λ n.
-            start-due (openedBook plan) g i l n
-            ∙ latest-none (openedBook plan .tasks) _ _
-            (λ j lj w. absurd (nobody-ended j lj (all-ended-at (planView (openedBook plan)) _ i (all-ended (openedBook plan) g i .1 (f .0 n)) j lj w))),
+            let d = due-none (openedBook plan) i (none n) in
+            let s = start-due (openedBook plan) g i l n (undropped i) in
+            omega arith,
       )
 
 -- what is seen of the opened book is the theory's

@@ -179,7 +179,7 @@ module _ (book : Book) (g : Good book) (task : ℕ) (z : dropCodeOf book task �
 pub dropped-at-once :
     (book : Book) (g : Good book) (i : ℕ) → i < book .tasks → Dropped book i → Started book i
     → Ended book i × (endOf book i ≡ startOf book i)
-dropped-at-once book g i l d n = skipped-now (facts book g .sound .task i l) n d
+dropped-at-once book g i l d n = let s = skipped-now (facts book g .sound .task i l) n d in (s .0, s .1)
 
 -- and is one that waits for somebody
 pub dropped-waits :

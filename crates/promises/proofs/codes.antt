@@ -1,4 +1,5 @@
 pub mod Columns
 pub mod Reading
+pub mod Seven
 pub mod Book
 pub mod Writing

@@ -1,4 +1,5 @@
 pub mod Runs
 pub mod Columns
 pub mod Says
+pub mod Edition1
 pub mod tables

@@ -1,6 +1,6 @@
 -- The words of the promises: reports and drops on a book, and what a book says of a task.
 -- Tasks are counted from 0 here, so a report or drop names task i by i + 1.
-use Prim.Native.Nat.{ℕ, _+_, _≤_, _<_}
+use Prim.Native.Nat.{ℕ, _+_, _-_, _≤_, _<_, max}
 use mathlib.Core.Path.{_≡_}
 use mathlib.Core.Logic.{_≢_, _↔_}
 use mathlib.Core.Bool.{true, cond}
@@ -59,6 +59,10 @@ startOf book i = at (book .start) i
 abbrev pub endOf : Book → ℕ → ℕ
 endOf book i = at (book .end) i
 
+-- the clock has not reached its start, known or not
+abbrev pub NotBegun : Book → ℕ → Type 0
+NotBegun book i = Started book i → book .clock < startOf book i
+
 -- its limit is its start + length
 abbrev pub limitOf : Book → ℕ → ℕ
 limitOf book i = theory-book.limit (planView book) (bookView book) i
@@ -70,6 +74,10 @@ WaitsFor book i j = at (book .finish) j ≤ at (book .begin) i
 -- the latest of the ends of those it waits for, 0 where it waits for nobody
 abbrev pub dueOf : Book → ℕ → ℕ
 dueOf book i = theory-book.due (planView book) (at (book .end)) i
+
+-- the later of its ready tick and the latest of these ends
+abbrev pub startDueOf : Book → ℕ → ℕ
+startDueOf book i = max (at (book .ready) i) (dueOf book i)
 
 abbrev pub AllEnded : Book → ℕ → Type 0
 AllEnded book i = (j : ℕ) → j < book .tasks → WaitsFor book i j → Ended book j
@@ -85,16 +93,23 @@ pub record EarlyBy (plan : Plan) (early : ℕ) (book : Book) (i : ℕ) : Type 0 
   pub starts : Started book i → startOf book i + early ≤ at (plan .begin) i
   pub ends : Ended book i → endOf book i + early ≤ at (plan .finish) i
 
+-- a term of M: planned start − start of a task that runs and whose start the clock has reached; planned start − ready of one,
+-- not dropped, whose start is not known or lies after the clock
+pub data Term (book : Book) (i early : ℕ) : Type 0 where
+  begun : Running book i → startOf book i ≤ book .clock → early ≡ at (book .begin) i - startOf book i → Term book i early
+  not-begun : (Dropped book i → ⊥) → NotBegun book i → early ≡ at (book .begin) i - at (book .ready) i → Term book i early
+
 -- a plan's opened book after reports and drops
 abbrev pub runOf : Plan → List Event → Book
 runOf plan events = bookAfter (openedBook plan) events
 
--- a task that waited starts when all it waits for have ended, and then at this tick; a dropped one ends at that tick too
+-- a task that waited starts when all it waits for have ended, at the later of its ready tick and this tick; a dropped one starts
+-- and ends at this tick
 pub record StartsExactly (tick : ℕ) (after : Book) (i : ℕ) : Type 0 where
   pub when-free : Started after i ↔ AllEnded after i
-  pub at-tick : Started after i → startOf after i ≡ tick
+  pub at-tick : Started after i → (Dropped after i → ⊥) → startOf after i ≡ max (at (after .ready) i) tick
   pub runs : Started after i → (Dropped after i → ⊥) → Running after i
-  pub skips : Started after i → Dropped after i → Ended after i × (endOf after i ≡ tick)
+  pub skips : Started after i → Dropped after i → Ended after i × (endOf after i ≡ tick) × (startOf after i ≡ tick)
 
 -- a task and a tick that can be handed to the functions
 abbrev pub InRange : Event → Type 0

@@ -2,15 +2,17 @@
 use Prim.Native.Nat.{ℕ, _+_, _-_, _≤_, _<_}
 use mathlib.Core.Path.{_≡_}
 use mathlib.Core.Logic.{_≢_, _⊎_}
-use mathlib.Core.Bool.{true, false}
+use mathlib.Core.Bool.{true, false, cond}
 use mathlib.Core.List.{List}
+use lib.Dec.{eqb}
 use lib.ListN.{length}
 use lib.Seq.{sets}
 use Rattle.plan.specs.Answer.{refuse, granted}
 use Rattle.plan.specs.Value.{at, zeroPlan, isAccepted}
 use Rattle.plan.specs.Pairs.{pairCode}
-use Rattle.text.specs.Line.{LF, hasLine, skip, lineAt, field}
-use Rattle.plan.specs.Read.{boardsOf, tasksOf, taskCodes, textTask, formAnswer}
+use Rattle.text.specs.Line.{TAB, LF, hasLine, skip, lineAt, field}
+use Rattle.text.specs.Number.{valueOf}
+use Rattle.plan.specs.Read.{editionOf, boardsOf, tasksOf, taskCodes, textTask, formAnswer}
 use Rattle.plan.specs.Write.{textOf}
 use Rattle.plan.specs.declared.Plan.{Plan}
 use Rattle.plan.specs.declared.Reading.{Reading}
@@ -23,7 +25,7 @@ use Rattle.book.specs.declared.Reported.{Reported}
 use Rattle.book.specs.declared.Dropped.{Dropped}
 use Rattle.book.specs.declared.Figure.{Figure}
 use Rattle.laws.specs.Lists.{same}
-use Rattle.laws.specs.Split.{before}
+use Rattle.laws.specs.Split.{before, beginOf}
 use Rattle.text.specs.Bytes.{bytes}
 use Rattle.entries.specs.Entries.{entryCode, endCodes, dropCodes}
 use Rattle.entries.specs.declared.Entry.{Entry}
@@ -61,21 +63,32 @@ pub record BeginsLate (text : List ℕ) (start : ℕ) : Type 0 where
 
 -- the codes of the fields of task line k, and of its end
 abbrev pub codesOf : List ℕ → ℕ → List ℕ
-codesOf text k = taskCodes (hasLine (skip k text)) (boardsOf text) (tasksOf text) (lineAt text k) k
+codesOf text k = taskCodes (hasLine (skip k text)) (editionOf text) (boardsOf text) (tasksOf text) (lineAt text k) k
+
+-- a task line has seven fields, eight in edition 2
+abbrev pub widthOf : List ℕ → ℕ
+widthOf text = cond (eqb (editionOf text) 2) 8 7
+
+-- 18: the line is one of edition 2 whose ready tick is after its planned start, and the column is that of the ready field
+pub record ReadyLate (text : List ℕ) (k column : ℕ) : Type 0 where
+  pub edition : editionOf text ≡ 2
+  pub late : valueOf (field (lineAt text k) 4) < valueOf (field (lineAt text k) 3)
+  pub ready-field : column ≡ beginOf TAB (lineAt text k) 3 + 1
 
 -- task line k is the first that is refused, and the column is that of its fault
 pub record FirstFaultyLine (text : List ℕ) (code k column : ℕ) : Type 0 where
   pub from : 1 ≤ k
   pub to : k ≤ tasksOf text
-  pub earlier : (j n : ℕ) → 1 ≤ j → j < k → n ≤ 7 → at (codesOf text j) n ≡ 0
-  pub says : ColumnSays 7 (hasLine (skip k text)) (lineAt text k) (codesOf text k) code column
+  pub earlier : (j n : ℕ) → 1 ≤ j → j < k → n ≤ widthOf text → at (codesOf text j) n ≡ 0
+  pub unready : code ≡ 18 → ReadyLate text k column
+  pub says : ColumnSays (widthOf text) (hasLine (skip k text)) (lineAt text k) (codesOf text k) code column
 
 pub data ReadingSays (text : List ℕ) (r : Reading) : Type 0 where
   read : r .answer ≡ granted → isAccepted (r .plan) ≡ true → ReadingSays text r
   too-long : r ≡ noPlan 1 0 0 → ReadingSays text r
   first-line : r ≡ noPlan 2 1 0 → ReadingSays text r
   task-line :
-      (code k column : ℕ) → (code ≡ 3) ⊎ (code ≡ 4) → FirstFaultyLine text code k column → r ≡ noPlan code (k + 1) column
+      (code k column : ℕ) → (code ≡ 3) ⊎ ((code ≡ 4) ⊎ (code ≡ 18)) → FirstFaultyLine text code k column → r ≡ noPlan code (k + 1) column
       → ReadingSays text r
   more-bytes : r ≡ noPlan 5 (tasksOf text + 2) 0 → ReadingSays text r
   late : (start : ℕ) → BeginsLate text start → r ≡ noPlan 17 start 0 → ReadingSays text r

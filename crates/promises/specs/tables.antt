@@ -5,3 +5,4 @@ pub mod Impostors
 pub mod Weaker
 pub mod Late
 pub mod Columns
+pub mod Ready

@@ -15,7 +15,7 @@ use Rattle.text.specs.Number.{valueOf}
 use Rattle.text.proofs.Parts.{found-le}
 use Rattle.plan.specs.Answer.{refuse, granted, isRefused}
 use Rattle.plan.specs.Value.{zeroPlan}
-use Rattle.plan.specs.Read.{sizesOk, boardsOf, tasksOf, linesAnswer, formAnswer, linesOf}
+use Rattle.plan.specs.Read.{sizesOk, editionOf, boardsOf, tasksOf, linesAnswer, formAnswer, linesOf}
 use Rattle.plan.specs.declared.Answer.{Answer}
 use Rattle.plan.specs.declared.Reading.{Reading}
 use Rattle.plan.proofs.TextLines.{sizes-test, number-range}
@@ -29,7 +29,7 @@ sizes-ok : (line : List ℕ) → sizesRead line .ok ≡ sizesOk line
 unfolding sizesRead
 sizes-ok line = by-bool (sizesOk line) (λ e. rw e) (λ e. rw e)
 
-sizes-values : (line : List ℕ) → sizesOk line ≡ true → sizesRead line ≡ record { ok = true; boards = valueOf (field line 2); tasks = valueOf (field line 3) }
+sizes-values : (line : List ℕ) → sizesOk line ≡ true → sizesRead line ≡ record { ok = true; edition = valueOf (field line 1); boards = valueOf (field line 2); tasks = valueOf (field line 3) }
 unfolding sizesRead
 sizes-values line e = rw e
 
@@ -75,20 +75,22 @@ module _ (s : List ℕ) where
         good : sizesOk (lineAt s 0) ≡ true
         good = sym is-ok ∙ not-false (sizes .ok) ok
 
-        values : sizes ≡ record { ok = true; boards = boardsOf s; tasks = tasksOf s }
+        values : sizes ≡ record { ok = true; edition = editionOf s; boards = boardsOf s; tasks = tasksOf s }
         values = r ∙ ap sizesRead (sym first-line) ∙ sizes-values (lineAt s 0) good
 
-        pub first-read : FirstRead s (sizes .boards) (sizes .tasks)
+        pub first-read : FirstRead s (sizes .edition) (sizes .boards) (sizes .tasks)
         first-read =
+            let e : sizes .edition ≡ editionOf s = ap (λ (x : Sizes). x .edition) values in
             let b : sizes .boards ≡ boardsOf s = ap (λ (x : Sizes). x .boards) values in
             let t : sizes .tasks ≡ tasksOf s = ap (λ (x : Sizes). x .tasks) values in
+            let es = number-range 1 2 (field (lineAt s 0) 1) (sizes-test (lineAt s 0) good 2 (omega arith)) in
             let bs = number-range 1 8 (field (lineAt s 0) 2) (sizes-test (lineAt s 0) good 3 (omega arith)) in
             let ts = number-range 1 64 (field (lineAt s 0) 3) (sizes-test (lineAt s 0) good 4 (omega arith)) in
-            record { has-line = has; sizes = good; boards-are = b; tasks-are = t; few-boards = omega (arith, bs .2); few-tasks = omega (arith, ts .2); short = short }
+            record { has-line = has; sizes = good; edition-is = e; boards-are = b; tasks-are = t; two = omega (arith, es .2); few-boards = omega (arith, bs .2); few-tasks = omega (arith, ts .2); short = short }
 
   -- and from then on
   pub answer-lines :
-      {boards tasks : ℕ} → FirstRead s boards tasks
+      {edition boards tasks : ℕ} → FirstRead s edition boards tasks
       → formAnswer s
       ≡ cond (isRefused (linesAnswer s)) (linesAnswer s)
       (cond (ltb 0 (length (skip (tasksOf s + 1) s))) (refuse 5 (tasksOf s + 2) 0) granted)

@@ -1,30 +1,30 @@
 -- The answers of the readers of whole lines, by the tests that lead to them.
 use Prim.Native.Nat.{ℕ, suc, _+_, _≤_, min}
 use mathlib.Core.Path.{_≡_, refl, sym, ap, _∙_}
-use mathlib.Core.Bool.{Bool, true, false, not, cond, _&&_, _||_}
+use mathlib.Core.Bool.{Bool, true, false, not, _&&_, _||_}
 use mathlib.Core.List.{List, [], _∷_}
 use native.Mathlib.Omega.{arith}
-use lib.Dec.{eqb}
+use lib.Dec.{ltb, eqb}
 use lib.ListN.{length, drop}
 use borrow.Author.Tests.{not-true, not-false, eqb-true, eq-eqb, ne-eqb}
-use Rattle.laws.proofs.Cases.{by-eq, and-l, and-r, and-of}
+use Rattle.laws.proofs.Cases.{by-eq}
 use Rattle.laws.specs.Lists.{allOf, same}
-use Rattle.laws.proofs.Lists.{all-at}
-use Rattle.laws.specs.Split.{before}
+use Rattle.laws.specs.Split.{before, skipOn}
 use Rattle.text.specs.Bytes.{bytes}
 use Rattle.text.specs.Number.{isNumber, valueOf, most}
 use Rattle.text.specs.Line.{TAB, fields, field}
 use Rattle.text.specs.Items.{between, holdsOk, afterOk, itemsOf, holdsRead, afterRead}
-use Rattle.faults.specs.Faults.{codeFor, fieldCode, rangedRead, wordCode, endCode, faultOf}
 use Rattle.text.specs.declared.Items.{Items}
+use Rattle.text.proofs.ListFields.{isHolds, holdsOf, isAfter, afterOf}
+use Rattle.text.proofs.Parts.{From, from-start, from-field, from-next, from-skip, skip-next, field-at}
+use Rattle.faults.specs.Faults.{codeFor, fieldCode, rangedRead, wordCode, endCode, faultOf}
 use Rattle.faults.specs.declared.Ranged.{Ranged}
 use Rattle.faults.specs.declared.Fault.{Fault}
-use Rattle.text.proofs.ListFields.{isHolds, holdsOf, isAfter, afterOf}
-use Rattle.text.proofs.Parts.{From, from-start, from-field, from-next}
-use Rattle.faults.proofs.FaultLaws.{field-code, ranged-code, ranged-value, isCode, for-code, field-is-code, word-is-code, end-is-code, faultless-is, behind-refused}
-use Rattle.plan.specs.Read.{ranged, sizesOk, taskCodes}
-use Rattle.reader.specs.private.Fields.{noSizes, sizesRead, noLine, lineRead}
+use Rattle.faults.proofs.RangedLaws.{field-code, ranged-code, ranged-value}
+use Rattle.plan.specs.Read.{ranged, sizesOk, startAt, codesFrom, readyCode, taskCodes}
+use Rattle.reader.specs.private.Fields.{noSizes, sizesRead, noLine, tailRead, readyAt, readyIn, lineBy, lineRead}
 use Rattle.reader.specs.declared.Sizes.{Sizes}
+use Rattle.reader.specs.declared.Tail.{Tail}
 use Rattle.reader.specs.declared.Line.{Line}
 
 code-test : (a b : Bool) → eqb (codeFor a b) 0 ≡ (a && b)
@@ -32,87 +32,126 @@ code-test false b = refl
 code-test true false = refl
 code-test true true = refl
 
-both-fail : (a b c : Bool) → (a && b) ≡ false → (a && (b && c)) ≡ false
-both-fail false b c h = refl
-both-fail true false c h = refl
-both-fail true true c h = let z : _≡_ {A = ℕ} 0 1 = cc in absurd (omega arith)
+-- ---- the first line
 
-some-fails : (a b : Bool) → (not a || not b) ≡ true → (a && b) ≡ false
-some-fails false b h = refl
-some-fails true b h = not-true b h
+ranged-test : (low high : ℕ) (s : List ℕ) {x : Ranged} → high ≤ most → x ≡ rangedRead low high s → eqb (x .code) 0 ≡ ranged low high s
+ranged-test low high s h p =
+    rw (p, ranged-code low high s, field-code low high s h) (code-test (isNumber s) (between low high (valueOf s)))
 
-none-fails : (a b : Bool) → (not a || not b) ≡ false → (a ≡ true) × (b ≡ true)
-none-fails true b h = (refl, not-false b h)
-none-fails false b h = let z : _≡_ {A = ℕ} 0 1 = cc in absurd (omega arith)
+ranged-is : (low high : ℕ) (s : List ℕ) {x : Ranged} → x ≡ rangedRead low high s → eqb (x .code) 0 ≡ true → x .value ≡ valueOf s
+ranged-is low high s {x} p q =
+    ap (λ (y : Ranged). y .value) p ∙ ranged-value low high s (ap (λ (y : Ranged). y .code) (sym p) ∙ eqb-true (x .code) 0 q)
 
--- the first line
+some-fails : (a b c : Bool) → (not a || (not b || not c)) ≡ true → (a && (b && c)) ≡ false
+some-fails false b c h = refl
+some-fails true false c h = refl
+some-fails true true c h = not-true c h
+
+none-fails : (a b c : Bool) → (not a || (not b || not c)) ≡ false → (a ≡ true) × (b ≡ true) × (c ≡ true)
+none-fails true true c h = (refl, refl, not-false c h)
+none-fails true false c h = let z : _≡_ {A = ℕ} 0 1 = cc in absurd (omega arith)
+none-fails false b c h = let z : _≡_ {A = ℕ} 0 1 = cc in absurd (omega arith)
+
 module _ (line : List ℕ) where
   pub sizes-count : (length (fields line) ≡ 4 → ⊥) → noSizes ≡ sizesRead line
   unfolding sizesRead sizesOk
   sizes-count n = rw (ne-eqb (length (fields line)) 4 n)
 
-  module _ (four : length (fields line) ≡ 4) {word edition : Bool} (w : word ≡ same (field line 0) (bytes "plan")) (e : edition ≡ same (field line 1) (bytes "1")) where
-    pub sizes-words : not (word && edition) ≡ true → noSizes ≡ sizesRead line
+  module _ (four : length (fields line) ≡ 4) {word : Bool} (w : word ≡ same (field line 0) (bytes "plan")) where
+    pub sizes-word : not word ≡ true → noSizes ≡ sizesRead line
     unfolding sizesRead sizesOk
-    sizes-words h =
-        let f = both-fail (same (field line 0) (bytes "plan")) (same (field line 1) (bytes "1")) (ranged 1 8 (field line 2) && ranged 1 64 (field line 3)) (rw (w, e) at (not-true (word && edition) h)) in
-        rw (eq-eqb (length (fields line)) 4 four, f)
+    sizes-word h = rw (eq-eqb (length (fields line)) 4 four, sym w ∙ not-true word h)
 
-    module _ (words : not (word && edition) ≡ false) {boards tasks : Ranged} (p : boards ≡ rangedRead 1 8 (field line 2)) (q : tasks ≡ rangedRead 1 64 (field line 3)) where
-      sizes-by : sizesRead line ≡ cond (eqb (boards .code) 0 && eqb (tasks .code) 0) (record { ok = true; boards = valueOf (field line 2); tasks = valueOf (field line 3) }) noSizes
-      unfolding sizesRead sizesOk
-      sizes-by =
-          let both : (same (field line 0) (bytes "plan") && same (field line 1) (bytes "1")) ≡ true = rw (w, e) at (not-false (word && edition) words) in
-          rw (eq-eqb (length (fields line)) 4 four, and-l (same (field line 0) (bytes "plan")) (same (field line 1) (bytes "1")) both, and-r (same (field line 0) (bytes "plan")) (same (field line 1) (bytes "1")) both, p, q, ranged-code 1 8 (field line 2), ranged-code 1 64 (field line 3), field-code 1 8 (field line 2) (omega arith), field-code 1 64 (field line 3) (omega arith), code-test (isNumber (field line 2)) (between 1 8 (valueOf (field line 2))), code-test (isNumber (field line 3)) (between 1 64 (valueOf (field line 3))))
+    module _ (is-plan : not word ≡ false) {edition boards tasks : Ranged}
+        (e : edition ≡ rangedRead 1 2 (field line 1)) (p : boards ≡ rangedRead 1 8 (field line 2)) (q : tasks ≡ rangedRead 1 64 (field line 3)) where
+      abbrev fine : Bool
+      fine = eqb (edition .code) 0 && (eqb (boards .code) 0 && eqb (tasks .code) 0)
 
-      pub sizes-off : (not (eqb (boards .code) 0) || not (eqb (tasks .code) 0)) ≡ true → noSizes ≡ sizesRead line
-      sizes-off h = rw (sizes-by, some-fails (eqb (boards .code) 0) (eqb (tasks .code) 0) h)
+      ok-is : sizesOk line ≡ fine
+      unfolding sizesOk
+      ok-is =
+          rw (
+            eq-eqb (length (fields line)) 4 four,
+            sym w ∙ not-false word is-plan,
+            ranged-test 1 2 (field line 1) (omega arith) e,
+            ranged-test 1 8 (field line 2) (omega arith) p,
+            ranged-test 1 64 (field line 3) (omega arith) q,
+          )
 
-      pub sizes-in : (not (eqb (boards .code) 0) || not (eqb (tasks .code) 0)) ≡ false → _≡_ {A = Sizes} (record { ok = true; boards = boards .value; tasks = tasks .value }) (sizesRead line)
+      pub sizes-off : (not (eqb (edition .code) 0) || (not (eqb (boards .code) 0) || not (eqb (tasks .code) 0))) ≡ true → noSizes ≡ sizesRead line
+      unfolding sizesRead
+      sizes-off h = rw (ok-is, some-fails (eqb (edition .code) 0) (eqb (boards .code) 0) (eqb (tasks .code) 0) h)
+
+      pub sizes-in :
+          (not (eqb (edition .code) 0) || (not (eqb (boards .code) 0) || not (eqb (tasks .code) 0))) ≡ false
+          → _≡_ {A = Sizes} (record { ok = true; edition = edition .value; boards = boards .value; tasks = tasks .value }) (sizesRead line)
+      unfolding sizesRead
       sizes-in h =
-          let g = none-fails (eqb (boards .code) 0) (eqb (tasks .code) 0) h in
-          let b : boards .value ≡ valueOf (field line 2) = rw p (ranged-value 1 8 (field line 2) (rw p at (eqb-true (boards .code) 0 (g .0)))) in
-          let t : tasks .value ≡ valueOf (field line 3) = rw q (ranged-value 1 64 (field line 3) (rw q at (eqb-true (tasks .code) 0 (g .1)))) in
-          rw (sizes-by, g .0, g .1, b, t)
+          let g = none-fails (eqb (edition .code) 0) (eqb (boards .code) 0) (eqb (tasks .code) 0) h in
+          rw (
+            ok-is,
+            g .0,
+            g .1,
+            g .2,
+            ranged-is 1 2 (field line 1) e (g .0),
+            ranged-is 1 8 (field line 2) p (g .1),
+            ranged-is 1 64 (field line 3) q (g .2),
+          )
 
--- a task line cut into its fields, each looked for where the one before it ends
-pub record Cut (line p0 p1 p2 p3 p4 p5 p6 : List ℕ) : Type 0 where
-  pub word : p0 ≡ field line 0
-  pub number : p1 ≡ field line 1
-  pub board : p2 ≡ field line 2
-  pub begin : p3 ≡ field line 3
-  pub finish : p4 ≡ field line 4
-  pub holds : p5 ≡ field line 5
-  pub after : p6 ≡ field line 6
+-- ---- the fields of a task line, each looked for where the one before it ends
+
+pub record Cut (line p0 p1 p2 p3 : List ℕ) : Type 0 where
+  pub first : p0 ≡ field line 0
+  pub second : p1 ≡ field line 1
+  pub third : p2 ≡ field line 2
+  pub fourth : p3 ≡ field line 3
 
 pub line-cut :
-    {line p0 r1 p1 r2 p2 r3 p3 r4 p4 r5 p5 r6 p6 : List ℕ}
+    {line p0 r1 p1 r2 p2 r3 p3 : List ℕ}
     → p0 ≡ before TAB line → r1 ≡ drop (suc (length p0)) line
     → p1 ≡ before TAB r1 → r2 ≡ drop (suc (length p1)) r1
     → p2 ≡ before TAB r2 → r3 ≡ drop (suc (length p2)) r2
-    → p3 ≡ before TAB r3 → r4 ≡ drop (suc (length p3)) r3
-    → p4 ≡ before TAB r4 → r5 ≡ drop (suc (length p4)) r4
-    → p5 ≡ before TAB r5 → r6 ≡ drop (suc (length p5)) r5
-    → p6 ≡ before TAB r6 → Cut line p0 p1 p2 p3 p4 p5 p6
-line-cut {line} e0 q1 e1 q2 e2 q3 e3 q4 e4 q5 e5 q6 e6 =
+    → p3 ≡ before TAB r3 → Cut line p0 p1 p2 p3
+line-cut {line} e0 q1 e1 q2 e2 q3 e3 =
     let f0 : From TAB line 0 _ = from-start TAB line in
     let f1 : From TAB line 1 _ = from-next TAB line 0 _ _ f0 e0 _ q1 in
     let f2 : From TAB line 2 _ = from-next TAB line 1 _ _ f1 e1 _ q2 in
     let f3 : From TAB line 3 _ = from-next TAB line 2 _ _ f2 e2 _ q3 in
-    let f4 : From TAB line 4 _ = from-next TAB line 3 _ _ f3 e3 _ q4 in
-    let f5 : From TAB line 5 _ = from-next TAB line 4 _ _ f4 e4 _ q5 in
-    let f6 : From TAB line 6 _ = from-next TAB line 5 _ _ f5 e5 _ q6 in
     record {
-      word = from-field TAB line 0 _ _ f0 e0;
-      number = from-field TAB line 1 _ _ f1 e1;
-      board = from-field TAB line 2 _ _ f2 e2;
-      begin = from-field TAB line 3 _ _ f3 e3;
-      finish = from-field TAB line 4 _ _ f4 e4;
-      holds = from-field TAB line 5 _ _ f5 e5;
-      after = from-field TAB line 6 _ _ f6 e6;
+      first = from-field TAB line 0 _ _ f0 e0;
+      second = from-field TAB line 1 _ _ f1 e1;
+      third = from-field TAB line 2 _ _ f2 e2;
+      fourth = from-field TAB line 3 _ _ f3 e3;
     }
 
--- the codes that are read, beside those that are defined
+-- its first three fields
+pub record Head (line p0 p1 p2 : List ℕ) : Type 0 where
+  pub first : p0 ≡ field line 0
+  pub second : p1 ≡ field line 1
+  pub third : p2 ≡ field line 2
+
+pub head-cut :
+    {line p0 r1 p1 r2 p2 : List ℕ}
+    → p0 ≡ before TAB line → r1 ≡ drop (suc (length p0)) line
+    → p1 ≡ before TAB r1 → r2 ≡ drop (suc (length p1)) r1 → p2 ≡ before TAB r2 → Head line p0 p1 p2
+head-cut e0 q1 e1 q2 e2 =
+    let c = line-cut e0 q1 e1 q2 e2 refl refl in record { first = c .first; second = c .second; third = c .third }
+
+pub ready-field : (line : List ℕ) {rest part : List ℕ} → rest ≡ skipOn TAB 3 line → part ≡ before TAB rest → part ≡ field line 3
+ready-field line r e = e ∙ ap (before TAB) r ∙ field-at TAB line 3
+
+-- what is left after the first three
+pub line-rest :
+    (line : List ℕ) {p0 r1 p1 r2 p2 r3 : List ℕ}
+    → p0 ≡ before TAB line → r1 ≡ drop (suc (length p0)) line
+    → p1 ≡ before TAB r1 → r2 ≡ drop (suc (length p1)) r1
+    → p2 ≡ before TAB r2 → r3 ≡ drop (suc (length p2)) r2 → r3 ≡ skipOn TAB 3 line
+unfolding skipOn
+line-rest line e0 q1 e1 q2 e2 q3 =
+    skip-next TAB 2 line _ _ (skip-next TAB 1 line _ _ (skip-next TAB 0 line _ _ refl e0 q1) e1 q2) e2 q3
+
+-- ---- from the planned start on
+
 items-code : (spelt fine : Bool) (stop : ℕ) (l : List ℕ) → itemsOf spelt fine stop l .code ≡ codeFor spelt fine
 items-code false fine stop l = refl
 items-code true false stop l = refl
@@ -129,93 +168,119 @@ after-code s tasks few =
     items-code (isAfter s) (afterOk (min tasks 64) (afterOf s)) _ (afterOf s)
     ∙ ap (λ (n : ℕ). codeFor (isAfter s) (afterOk n (afterOf s))) m
 
-module _ (ended : Bool) (boards tasks : ℕ) (line : List ℕ) (k : ℕ)
-    {word : ℕ} {number board begin finish : Ranged} {holds after : Items} {end : ℕ}
-    (w : word ≡ wordCode (bytes "task") (field line 0)) (n : number ≡ rangedRead k k (field line 1)) (b : board ≡ rangedRead 1 boards (field line 2))
-    (s : begin ≡ rangedRead 0 most (field line 3)) (f : finish ≡ rangedRead (begin .value + 1) most (field line 4)) (h : holds ≡ holdsRead (field line 5))
-    (a : after ≡ afterRead (field line 6) tasks) (few : tasks ≤ 64) (e : end ≡ endCode ended 7 line) where
-  abbrev codes : List ℕ
-  codes = word ∷ number .code ∷ board .code ∷ begin .code ∷ finish .code ∷ holds .code ∷ after .code ∷ end ∷ []
+pub tail-reads :
+    (tasks : ℕ) {rest p0 p1 p2 p3 : List ℕ} → Cut rest p0 p1 p2 p3 → {begin finish : Ranged} {holds after : Items}
+    → begin ≡ rangedRead 0 most p0 → finish ≡ rangedRead (begin .value + 1) most p1 → holds ≡ holdsRead p2 → after ≡ afterRead p3 tasks
+    → _≡_ {A = Tail} (record { begin = begin; finish = finish; holds = holds; after = after }) (tailRead tasks rest 0)
+unfolding tailRead
+tail-reads tasks c b f h a = rw (f, b, h, a, c .first, c .second, c .third, c .fourth)
 
-  -- with a planned finish above any tick low
-  abbrev defined : ℕ → List ℕ
-  defined low =
-      wordCode (bytes "task") (field line 0)
-      ∷ fieldCode k k (field line 1)
-      ∷ fieldCode 1 boards (field line 2)
-      ∷ fieldCode 0 most (field line 3)
-      ∷ fieldCode (low + 1) most (field line 4)
-      ∷ codeFor (isHolds (field line 5)) (holdsOk (holdsOf (field line 5)))
-      ∷ codeFor (isAfter (field line 6)) (afterOk tasks (afterOf (field line 6)))
-      ∷ endCode ended 7 line
-      ∷ []
+-- read from what is left, or from the line
+pub tail-moves : (tasks : ℕ) (line : List ℕ) (n : ℕ) {rest : List ℕ} → rest ≡ skipOn TAB n line → tailRead tasks rest 0 ≡ tailRead tasks line n
+unfolding tailRead
+tail-moves tasks line n e =
+    let f = from-skip TAB line n in
+    let z : n + 0 ≡ n = omega arith in
+    let f0 : field (skipOn TAB n line) 0 ≡ field line n = f .at 0 ∙ ap (field line) z in
+    let f1 : field (skipOn TAB n line) (0 + 1) ≡ field line (n + 1) = f .at 1 in
+    let f2 : field (skipOn TAB n line) (0 + 2) ≡ field line (n + 2) = f .at 2 in
+    let f3 : field (skipOn TAB n line) (0 + 3) ≡ field line (n + 3) = f .at 3 in
+    rw e
+    (λ i. record {
+      begin = rangedRead 0 most (f0 i);
+      finish = rangedRead (rangedRead 0 most (f0 i) .value + 1) most (f1 i);
+      holds = holdsRead (f2 i);
+      after = afterRead (f3 i) tasks;
+    })
 
-  codes-are : codes ≡ defined (begin .value)
-  codes-are =
-      let p1 : number .code ≡ fieldCode k k (field line 1) = ap (λ (x : Ranged). x .code) n ∙ ranged-code k k (field line 1) in
-      let p2 : board .code ≡ fieldCode 1 boards (field line 2) = ap (λ (x : Ranged). x .code) b ∙ ranged-code 1 boards (field line 2) in
-      let p3 : begin .code ≡ fieldCode 0 most (field line 3) = ap (λ (x : Ranged). x .code) s ∙ ranged-code 0 most (field line 3) in
-      let p4 : finish .code ≡ fieldCode (begin .value + 1) most (field line 4) =
-      ap (λ (x : Ranged). x .code) f ∙ ranged-code (begin .value + 1) most (field line 4) in
-      let p5 : holds .code ≡ codeFor (isHolds (field line 5)) (holdsOk (holdsOf (field line 5))) =
-      ap (λ (x : Items). x .code) h ∙ holds-code (field line 5) in
-      let p6 : after .code ≡ codeFor (isAfter (field line 6)) (afterOk tasks (afterOf (field line 6))) =
-      ap (λ (x : Items). x .code) a ∙ after-code (field line 6) tasks few in
-      λ i. w i ∷ p1 i ∷ p2 i ∷ p3 i ∷ p4 i ∷ p5 i ∷ p6 i ∷ e i ∷ []
+pub tail-codes :
+    (ended : Bool) (tasks : ℕ) (line : List ℕ) (n : ℕ) → tasks ≤ 64 → {tail : Tail} {end : ℕ} → tail ≡ tailRead tasks line n → end ≡ endCode ended (n + 4) line
+    → (tail .begin .code ∷ tail .finish .code ∷ tail .holds .code ∷ tail .after .code ∷ end ∷ []) ≡ codesFrom ended tasks line n
+unfolding tailRead codesFrom
+tail-codes ended tasks line n few t e =
+    let p0 = ap (λ (x : Tail). x .begin .code) t ∙ ranged-code 0 most (field line n) in
+    let p1 = ap (λ (x : Tail). x .finish .code) t ∙ ranged-code (startAt line n + 1) most (field line (n + 1)) in
+    let p2 = ap (λ (x : Tail). x .holds .code) t ∙ holds-code (field line (n + 2)) in
+    let p3 = ap (λ (x : Tail). x .after .code) t ∙ after-code (field line (n + 3)) tasks few in
+    λ i. p0 i ∷ p1 i ∷ p2 i ∷ p3 i ∷ e i ∷ []
 
-  begin-value : fieldCode 0 most (field line 3) ≡ 0 → begin .value ≡ valueOf (field line 3)
-  begin-value z =
-      ap (λ (x : Ranged). x .value) s ∙ ranged-value 0 most (field line 3) (ranged-code 0 most (field line 3) ∙ z)
+-- ---- the ready tick
 
-  -- a planned start that is refused leaves the planned finish unseen
-  fault-is : faultOf line codes ≡ faultOf line (taskCodes ended boards tasks line k)
-  unfolding taskCodes
-  fault-is =
-      ap (faultOf line) codes-are
-      ∙ by-eq (fieldCode 0 most (field line 3)) 0
-      (λ z. ap (λ (low : ℕ). faultOf line (defined low)) (begin-value z))
-      (λ n. behind-refused line _ _ _ _ _ _ most (field line 4) _ (field-is-code 0 most (field line 3)) n)
+pub ready-eighteen : (ready : Ranged) (begin : ℕ) → (eqb (ready .code) 0 && ltb begin (ready .value)) ≡ true → 18 ≡ readyIn ready begin
+unfolding readyIn
+ready-eighteen ready begin e = rw e
 
-  all-codes : allOf isCode codes ≡ true
-  unfolding allOf
-  all-codes =
-      ap (allOf isCode) codes-are
-      ∙ (and-of (word-is-code (bytes "task") (field line 0))
-      (and-of (field-is-code k k (field line 1))
-      (and-of (field-is-code 1 boards (field line 2))
-      (and-of (field-is-code 0 most (field line 3))
-      (and-of (field-is-code (begin .value + 1) most (field line 4))
-      (and-of (for-code (isHolds (field line 5)) (holdsOk (holdsOf (field line 5))))
-      (and-of (for-code (isAfter (field line 6)) (afterOk tasks (afterOf (field line 6)))) (and-of (end-is-code ended 7 line) refl))))))))
+pub ready-other : (ready : Ranged) (begin : ℕ) → (eqb (ready .code) 0 && ltb begin (ready .value)) ≡ false → ready .code ≡ readyIn ready begin
+unfolding readyIn
+ready-other ready begin e = rw e
 
-  module _ {t : Bool} (z : t ≡ allOf (eqb 0) codes) where
-    clean : t ≡ eqb (faultOf line codes .code) 0
-    unfolding faultOf
-    clean = z ∙ faultless-is codes all-codes
+ready-is : (line : List ℕ) {ready : Ranged} {begin : ℕ} → ready ≡ rangedRead 0 most (field line 3) → begin ≡ startAt line 4 → readyIn ready begin ≡ readyCode line
+unfolding readyIn readyCode
+ready-is line r b =
+    rw (r, b, ranged-code 0 most (field line 3))
+    (by-eq (fieldCode 0 most (field line 3)) 0
+    (λ z. rw (ranged-value 0 most (field line 3) (ranged-code 0 most (field line 3) ∙ z)))
+    (λ n. rw (ne-eqb (fieldCode 0 most (field line 3)) 0 n)))
 
-    pub line-refused : not t ≡ true → {fault : Fault} → fault ≡ faultOf line codes → noLine fault ≡ lineRead ended boards tasks line k
-    unfolding lineRead
-    line-refused r q =
-        let no : eqb (faultOf line (taskCodes ended boards tasks line k) .code) 0 ≡ false = rw fault-is at (sym clean ∙ not-true t r) in
-        ap noLine (q ∙ fault-is) ∙ rw no
+-- ---- a line by its codes
 
-    zero-at : not t ≡ false → (i : ℕ) → i ≤ 7 → eqb 0 (lib.ListN.getD codes i 0) ≡ true
-    zero-at r i l = all-at (eqb 0) codes (sym z ∙ not-false t r) i 0 (omega arith)
+module _ (line codes : List ℕ) (board ready : ℕ) (tail : Tail) {t : Bool} (z : t ≡ allOf (eqb 0) codes) where
+  pub by-refused : not t ≡ true → {fault : Fault} → fault ≡ faultOf line codes → noLine fault ≡ lineBy line codes board ready tail
+  unfolding lineBy
+  by-refused n q = rw (sym z ∙ not-true t n, q)
 
-    value-at :
-        {x : Ranged} (low high : ℕ) (s : List ℕ) → x ≡ rangedRead low high s → eqb 0 (x .code) ≡ true → x .value ≡ valueOf s
-    value-at {x} low high s p q =
-        ap (λ (y : Ranged). y .value) p ∙ ranged-value low high s (ap (λ (y : Ranged). y .code) (sym p) ∙ sym (eqb-true 0 (x .code) q))
+  pub by-says :
+      not t ≡ false
+      → _≡_ {A = Line}
+      (record { fault = record { code = 0; column = 0 }; board = board; ready = ready; begin = tail .begin .value; finish = tail .finish .value; holds = tail .holds; after = tail .after })
+      (lineBy line codes board ready tail)
+  unfolding lineBy
+  by-says n = rw (sym z ∙ not-false t n)
 
-    pub line-in :
-        not t ≡ false
-        → _≡_ {A = Line}
-        (record { fault = record { code = 0; column = 0 }; board = board .value; begin = begin .value; finish = finish .value; holds = holds; after = after })
-        (lineRead ended boards tasks line k)
-    unfolding lineRead
-    line-in r =
-        let yes : eqb (faultOf line (taskCodes ended boards tasks line k) .code) 0 ≡ true = rw fault-is at (sym clean ∙ not-false t r) in
-        let v2 = value-at 1 boards (field line 2) b (zero-at r 2 (omega arith)) in
-        let v3 = value-at 0 most (field line 3) s (zero-at r 3 (omega arith)) in
-        let v4 = value-at (begin .value + 1) most (field line 4) f (zero-at r 4 (omega arith)) in
-        rw (yes, v2, v3, v4, h, a)
+module _ (ended : Bool) (tasks : ℕ) (line : List ℕ) (few : tasks ≤ 64) (word number code value : ℕ) {tail : Tail} {end : ℕ} where
+  pub first-is :
+      tail ≡ tailRead tasks line 3 → end ≡ endCode ended 7 line
+      → lineBy line (word ∷ number ∷ code ∷ tail .begin .code ∷ tail .finish .code ∷ tail .holds .code ∷ tail .after .code ∷ end ∷ []) value 0 tail
+      ≡ lineBy line (word ∷ number ∷ code ∷ codesFrom ended tasks line 3) value 0 (tailRead tasks line 3)
+  first-is t e = let c = tail-codes ended tasks line 3 few t e in λ i. lineBy line (word ∷ number ∷ code ∷ c i) value 0 (t i)
+
+  pub second-is :
+      {ready : Ranged} {c : ℕ} → ready ≡ rangedRead 0 most (field line 3) → tail ≡ tailRead tasks line 4 → end ≡ endCode ended 8 line → c ≡ readyIn ready (tail .begin .value)
+      → lineBy line (word ∷ number ∷ code ∷ c ∷ tail .begin .code ∷ tail .finish .code ∷ tail .holds .code ∷ tail .after .code ∷ end ∷ []) value (ready .value) tail
+      ≡ lineBy line (word ∷ number ∷ code ∷ readyCode line ∷ codesFrom ended tasks line 4) value (readyAt line) (tailRead tasks line 4)
+  unfolding tailRead
+  second-is {ready} r t e q =
+      let c = tail-codes ended tasks line 4 few t e in
+      let s : tail .begin .value ≡ startAt line 4 = ap (λ (x : Tail). x .begin .value) t in
+      let d = q ∙ ready-is line r s in
+      let v : ready .value ≡ readyAt line = ap (λ (x : Ranged). x .value) r in
+      λ i. lineBy line (word ∷ number ∷ code ∷ d i ∷ c i) value (v i) (t i)
+
+module _ (ended : Bool) (edition boards tasks : ℕ) (line : List ℕ) (k : ℕ) {word : ℕ} {number board : Ranged}
+    (w : word ≡ wordCode (bytes "task") (field line 0)) (n : number ≡ rangedRead k k (field line 1)) (b : board ≡ rangedRead 1 boards (field line 2)) where
+  n-code : number .code ≡ fieldCode k k (field line 1)
+  n-code = ap (λ (x : Ranged). x .code) n ∙ ranged-code k k (field line 1)
+
+  b-code : board .code ≡ fieldCode 1 boards (field line 2)
+  b-code = ap (λ (x : Ranged). x .code) b ∙ ranged-code 1 boards (field line 2)
+
+  b-value : board .value ≡ rangedRead 1 boards (field line 2) .value
+  b-value = ap (λ (x : Ranged). x .value) b
+
+  pub line-second :
+      edition ≡ 2
+      → lineBy line (word ∷ number .code ∷ board .code ∷ readyCode line ∷ codesFrom ended tasks line 4) (board .value) (readyAt line) (tailRead tasks line 4)
+      ≡ lineRead ended edition boards tasks line k
+  unfolding lineRead taskCodes
+  line-second e =
+      rw (eq-eqb edition 2 e)
+      (λ i. lineBy line (w i ∷ n-code i ∷ b-code i ∷ readyCode line ∷ codesFrom ended tasks line 4) (b-value i) (readyAt line) (tailRead tasks line 4))
+
+  pub line-first :
+      (edition ≡ 2 → ⊥)
+      → lineBy line (word ∷ number .code ∷ board .code ∷ codesFrom ended tasks line 3) (board .value) 0 (tailRead tasks line 3)
+      ≡ lineRead ended edition boards tasks line k
+  unfolding lineRead taskCodes
+  line-first e =
+      rw (ne-eqb edition 2 e)
+      (λ i. lineBy line (w i ∷ n-code i ∷ b-code i ∷ codesFrom ended tasks line 3) (b-value i) 0 (tailRead tasks line 3))

@@ -1,52 +1,60 @@
 -- What a task line says: its fault, or the text's task.
-use Prim.Native.Nat.{ℕ, _≤_, min}
-use mathlib.Core.Path.{_≡_, refl}
+use Prim.Native.Nat.{ℕ, _+_, _≤_, min}
+use mathlib.Core.Path.{_≡_, refl, _∙_}
 use mathlib.Core.Bool.{Bool, true, false, _&&_}
-use mathlib.Core.List.{List, [], _∷_}
+use mathlib.Core.List.{List}
 use native.Mathlib.Omega.{arith}
 use lib.Dec.{ltb, eqb}
 use lib.ListN.{length, take}
-use borrow.Author.Tests.{eq-eqb, eqb-true}
-use Rattle.laws.proofs.Cases.{by-bool, and-l, and-r, and-of, true-false}
-use Rattle.laws.proofs.Conj.{conj-at}
-use Rattle.laws.specs.Lists.{same}
+use borrow.Author.Tests.{eqb-true}
+use Rattle.laws.proofs.Cases.{by-bool, and-of, true-false}
+use Rattle.laws.specs.Lists.{allOf}
 use Rattle.laws.specs.Split.{indexOf, before}
-use Rattle.text.specs.Bytes.{bytes}
-use Rattle.text.specs.Number.{isNumber}
-use Rattle.text.specs.Line.{LF, hasLine, fields, field}
+use Rattle.text.specs.Number.{valueOf, most}
+use Rattle.text.specs.Line.{LF, hasLine, field}
 use Rattle.text.specs.Items.{holdsOk, afterOk, someItems, itemsOf, holdsRead, afterRead}
-use Rattle.faults.specs.Faults.{worst, faultOf}
 use Rattle.text.proofs.ListFields.{isHolds, holdsOf, isAfter, afterOf}
-use Rattle.plan.specs.Task.{Task, numbersOk, taskOk}
-use Rattle.plan.specs.Read.{lineTask, taskCodes}
-use Rattle.plan.proofs.LineCodes.{isTaskLine}
-use Rattle.reader.specs.private.Fields.{lineRead, nextLine}
+use Rattle.faults.specs.Faults.{rangedRead, worst, faultOf}
+use Rattle.faults.proofs.RangedLaws.{InRange, zero-field, ranged-code, ranged-value}
+use Rattle.faults.proofs.FaultLaws.{faultless-is}
+use Rattle.plan.specs.Task.{Task}
+use Rattle.plan.specs.Read.{startAt, taskCodes, taskFrom, lineTask}
+use Rattle.plan.proofs.LineCodes.{TimesOk, LineFine, fine-line, task-kinds}
+use Rattle.reader.specs.private.Fields.{tailRead, lineBy, lineRead, nextLine}
 use Rattle.reader.specs.declared.Line.{Line}
 
 -- the line that begins the text
-pub next-is : (boards tasks : ℕ) (s : List ℕ) (k : ℕ) {r : ℕ} → r ≡ indexOf LF s → lineRead (ltb r (length s)) boards tasks (take r s) k ≡ nextLine boards tasks s k
+pub next-is :
+    (edition boards tasks : ℕ) (s : List ℕ) (k : ℕ) {r : ℕ} → r ≡ indexOf LF s
+    → lineRead (ltb r (length s)) edition boards tasks (take r s) k ≡ nextLine edition boards tasks s k
 unfolding nextLine
-next-is boards tasks s k p = rw p
+next-is edition boards tasks s k p = rw p
 
 -- the fault that is read is the one defined
-line-fault :
-    (ended : Bool) (boards tasks : ℕ) (line : List ℕ) (k : ℕ)
-    → lineRead ended boards tasks line k .fault ≡ faultOf line (taskCodes ended boards tasks line k)
-unfolding lineRead faultOf
-line-fault ended boards tasks line k =
-    by-bool (eqb (worst (taskCodes ended boards tasks line k)) 0)
-    (λ e. rw (e, eqb-true (worst (taskCodes ended boards tasks line k)) 0 e))
-    (λ e. rw e)
+module _ (ended : Bool) (edition boards tasks : ℕ) (line : List ℕ) (k : ℕ) (few-boards : boards ≤ most) (few : k ≤ most) where
+  abbrev codes : List ℕ
+  codes = taskCodes ended edition boards tasks line k
+
+  clean : allOf (eqb 0) codes ≡ eqb (worst codes) 0
+  clean = faultless-is codes (task-kinds ended edition boards tasks line k few-boards few)
+
+  pub line-fault : lineRead ended edition boards tasks line k .fault ≡ faultOf line codes
+  unfolding lineRead lineBy faultOf
+  line-fault =
+      by-bool (eqb edition 2)
+      (λ e. by-bool (eqb (worst codes) 0) (λ w. rw (e, clean, w, eqb-true (worst codes) 0 w)) (λ w. rw (e, clean, w)))
+      (λ e. by-bool (eqb (worst codes) 0) (λ w. rw (e, clean, w, eqb-true (worst codes) 0 w)) (λ w. rw (e, clean, w)))
 
 pub next-fault :
-    (boards tasks : ℕ) (s : List ℕ) (k : ℕ)
-    → nextLine boards tasks s k .fault ≡ faultOf (before LF s) (taskCodes (hasLine s) boards tasks (before LF s) k)
+    (edition boards tasks : ℕ) (s : List ℕ) (k : ℕ) → boards ≤ most → k ≤ most
+    → nextLine edition boards tasks s k .fault ≡ faultOf (before LF s) (taskCodes (hasLine s) edition boards tasks (before LF s) k)
 unfolding nextLine
-next-fault boards tasks s k = line-fault (hasLine s) boards tasks (before LF s) k
+next-fault edition boards tasks s k b h = line-fault (hasLine s) edition boards tasks (before LF s) k b h
 
 -- what a granted line says is the text's task
 pub record LineSays (line : Line) (task : Task) : Type 0 where
   pub board : line .board ≡ task .board
+  pub ready : line .ready ≡ task .ready
   pub begin : line .begin ≡ task .begin
   pub finish : line .finish ≡ task .finish
   pub holds : line .holds ≡ someItems (line .holds .stop) (task .holds)
@@ -66,45 +74,45 @@ holds-say : (s : List ℕ) → (isHolds s && holdsOk (holdsOf s)) ≡ true → h
 unfolding holdsRead
 holds-say s h = rw items-stop (items-say (isHolds s) (holdsOk (holdsOf s)) _ (holdsOf s) h)
 
-after-say : (s : List ℕ) (tasks : ℕ) → (isAfter s && afterOk (min tasks 64) (afterOf s)) ≡ true → afterRead s tasks ≡ someItems (afterRead s tasks .stop) (afterOf s)
+after-say :
+    (s : List ℕ) (tasks : ℕ) → (isAfter s && afterOk (min tasks 64) (afterOf s)) ≡ true
+    → afterRead s tasks ≡ someItems (afterRead s tasks .stop) (afterOf s)
 unfolding afterRead
 after-say s tasks h = rw items-stop (items-say (isAfter s) (afterOk (min tasks 64) (afterOf s)) _ (afterOf s) h)
 
-module _ (ended : Bool) (boards tasks : ℕ) (line : List ℕ) (k : ℕ) (few : tasks ≤ 64) (formed : isTaskLine line ≡ true) (fine : taskOk boards tasks (lineTask line) ≡ true) where
-  -- the last two tests of a line that is well formed
-  lists-spelt : (isHolds (field line 5) ≡ true) × (isAfter (field line 6) ≡ true)
-  unfolding isTaskLine
-  lists-spelt =
-      let all =
-      conj-at
-      (eqb (length (fields line)) 7
-      ∷ same (field line 0) (bytes "task")
-      ∷ isNumber (field line 1)
-      ∷ isNumber (field line 2)
-      ∷ isNumber (field line 3)
-      ∷ isNumber (field line 4)
-      ∷ isHolds (field line 5)
-      ∷ isAfter (field line 6)
-      ∷ []) formed in
-      (all 6 (omega arith), all 7 (omega arith))
+value-of : (low high : ℕ) (s : List ℕ) → high ≤ most → InRange low high s → rangedRead low high s .value ≡ valueOf s
+value-of low high s h r = ranged-value low high s (ranged-code low high s ∙ zero-field low high s h r)
 
-  lists-fine : (holdsOk (holdsOf (field line 5)) ≡ true) × (afterOk (min tasks 64) (afterOf (field line 6)) ≡ true)
-  unfolding lineTask
-  lists-fine =
+-- a line by codes that are all 0
+module _ (boards tasks : ℕ) (line codes : List ℕ) (few-boards : boards ≤ most) (few : tasks ≤ 64) (all : allOf (eqb 0) codes ≡ true) (board-in : InRange 1 boards (field line 2)) where
+  by-said :
+      (ready n : ℕ) {said : ℕ} → TimesOk tasks line n → said ≡ ready
+      → LineSays (lineBy line codes (rangedRead 1 boards (field line 2) .value) said (tailRead tasks line n)) (taskFrom line ready n)
+  unfolding lineBy tailRead taskFrom
+  by-said ready n t r =
       let m : min tasks 64 ≡ tasks = omega arith in
-      let lists = and-r (numbersOk boards (lineTask line)) _ fine in (
-        and-l (holdsOk (holdsOf (field line 5))) _ lists,
-        rw m (and-r (holdsOk (holdsOf (field line 5))) (afterOk tasks (afterOf (field line 6))) lists),
-      )
-
-  pub read-says : faultOf line (taskCodes ended boards tasks line k) .code ≡ 0 → LineSays (lineRead ended boards tasks line k) (lineTask line)
-  unfolding lineRead lineTask
-  read-says z =
-      let e : eqb (faultOf line (taskCodes ended boards tasks line k) .code) 0 ≡ true = eq-eqb (faultOf line (taskCodes ended boards tasks line k) .code) 0 z in
+      let b = value-of 0 most (field line n) (omega arith) (record { spelt = t .begin; from = omega arith; to = omega (arith, t .lasts, t .to) }) in
       record {
-        board = rw e;
-        begin = rw e;
-        finish = rw e;
-        holds = rw e (holds-say (field line 5) (and-of (lists-spelt .0) (lists-fine .0)));
-        after = rw e (after-say (field line 6) tasks (and-of (lists-spelt .1) (lists-fine .1)));
+        board = rw all (value-of 1 boards (field line 2) few-boards board-in);
+        ready = rw all r;
+        begin = rw all b;
+        finish = rw all (value-of (startAt line n + 1) most (field line (n + 1)) (omega arith) (record { spelt = t .finish; from = omega (arith, t .lasts, b); to = t .to }));
+        holds = rw all (holds-say (field line (n + 2)) (and-of (t .holds) (t .drives)));
+        after = rw all (after-say (field line (n + 3)) tasks (and-of (t .after) (rw m (t .order))));
       }
+
+pub read-says :
+    (ended : Bool) (edition boards tasks : ℕ) (line : List ℕ) (k : ℕ) → boards ≤ most → k ≤ most → tasks ≤ 64 → ended ≡ true
+    → LineFine edition boards tasks line k → LineSays (lineRead ended edition boards tasks line k) (lineTask edition line)
+unfolding lineRead lineTask
+read-says ended edition boards tasks line k few-boards few-k few there f =
+    let codes = taskCodes ended edition boards tasks line k in
+    let all = fine-line ended edition boards tasks line k few-boards few-k there f in
+    by-bool (eqb edition 2)
+    (λ e.
+    let t : TimesOk tasks line 4 = rw e at (f .times) in
+    let r = f .ready e in
+    rw e
+    (by-said boards tasks line codes few-boards few all (f .head .board) (valueOf (field line 3)) 4 t
+    (value-of 0 most (field line 3) (omega arith) (record { spelt = r .0; from = omega arith; to = omega (arith, r .1, t .lasts, t .to) }))))
+    (λ e. rw e (by-said boards tasks line codes few-boards few all (f .head .board) 0 3 (rw e at (f .times)) refl))

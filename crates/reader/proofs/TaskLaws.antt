@@ -27,8 +27,9 @@ use Rattle.plan.specs.Answer.{refuse, granted, isRefused}
 use Rattle.plan.specs.declared.Answer.{Answer}
 use Rattle.plan.specs.Task.{Task}
 use Rattle.plan.specs.Value.{planOf}
-use Rattle.plan.specs.Read.{boardsOf, tasksOf, taskCodes, lineAnswer, linesAnswer, textTask, formAnswer, linesOf}
+use Rattle.plan.specs.Read.{editionOf, boardsOf, tasksOf, taskCodes, lineAnswer, linesAnswer, textTask, formAnswer, linesOf}
 use Rattle.plan.proofs.PlanTasks.{TaskFits, task-fits}
+use Rattle.plan.proofs.LineCodes.{fine-task}
 use Rattle.plan.proofs.TextLines.{skip-turn}
 use Rattle.plan.proofs.ReadOk.{LineOk, line-ok}
 use Rattle.plan.specs.declared.Reading.{Reading}
@@ -70,19 +71,21 @@ pub grid-length : (width places : ℕ) (f : ℕ → List ℕ) (n : ℕ) → leng
 unfolding grid
 grid-length width places f n = length-rows width n f (replicate places 0) ∙ length-replicate {A = ℕ} places 0
 
-pub plan-made : (boards tasks : ℕ) (task : ℕ → Task)
-    → planOf boards tasks task
+pub plan-made : (edition boards tasks : ℕ) (task : ℕ → Task)
+    → planOf edition boards tasks task
     ≡ record {
+      edition = edition;
       boards = boards;
       tasks = tasks;
       board = column (λ k. task k .board) tasks;
+      ready = column (λ k. task k .ready) tasks;
       begin = column (λ k. task k .begin) tasks;
       finish = column (λ k. task k .finish) tasks;
       holds = grid 32 2048 (λ k. task k .holds) tasks;
       after = grid 64 4096 (λ k. task k .after) tasks;
     }
 unfolding planOf column grid
-plan-made boards tasks task = refl
+plan-made edition boards tasks task = refl
 
 pub past-line : (s : List ℕ) {r : ℕ} {more : List ℕ} → r ≡ indexOf LF s → more ≡ drop (suc r) s → more ≡ Split.after LF s
 past-line s p q = q ∙ ap (λ (n : ℕ). drop (suc n) s) p
@@ -101,36 +104,38 @@ list-put out at list f l e =
     e ∙ rw (le-leb (at + length (take (list .count) (list .items))) (length out) (omega (arith, f .fits)))
 
 -- k lines are read: what is known of them, and of the rest
-pub record Going (s : List ℕ) (k : ℕ) (board begin finish holds after rest : List ℕ) : Type 0 where
+pub record Going (s : List ℕ) (k : ℕ) (board ready begin finish holds after rest : List ℕ) : Type 0 where
   pub rest-is : rest ≡ skip (k + 1) s
   pub passed : linesAnswer s ≡ scanTo isRefused granted (lineAnswer s) (k + 1) (tasksOf s + 1)
   pub board-is : board ≡ column (λ i. textTask s i .board) k
+  pub ready-is : ready ≡ column (λ i. textTask s i .ready) k
   pub begin-is : begin ≡ column (λ i. textTask s i .begin) k
   pub finish-is : finish ≡ column (λ i. textTask s i .finish) k
   pub holds-is : holds ≡ grid 32 2048 (λ i. textTask s i .holds) k
   pub after-is : after ≡ grid 64 4096 (λ i. textTask s i .after) k
 
 pub going-start : (s : List ℕ) {rest : List ℕ} → rest ≡ Split.after LF s
-    → Going s 0 (replicate 64 0) (replicate 64 0) (replicate 64 0) (replicate 2048 0) (replicate 4096 0) rest
+    → Going s 0 (replicate 64 0) (replicate 64 0) (replicate 64 0) (replicate 64 0) (replicate 2048 0) (replicate 4096 0) rest
 unfolding skipOn linesAnswer
 going-start s e = record {
   rest-is = e;
   passed = refl;
   board-is = column-start _;
+  ready-is = column-start _;
   begin-is = column-start _;
   finish-is = column-start _;
   holds-is = grid-start 32 2048 _;
   after-is = grid-start 64 4096 _;
 }
 
-module _ (s : List ℕ) (k : ℕ) {board begin finish holds after rest : List ℕ} (g : Going s k board begin finish holds after rest) where
+module _ (s : List ℕ) (k : ℕ) {board ready begin finish holds after rest : List ℕ} (g : Going s k board ready begin finish holds after rest) where
   pub holds-whole : 2048 ≡ length holds
   holds-whole = sym (ap length (g .holds-is) ∙ grid-length 32 2048 _ k)
 
   pub after-whole : 4096 ≡ length after
   after-whole = sym (ap length (g .after-is) ∙ grid-length 64 4096 _ k)
 
-  module _ {boards tasks : ℕ} (first : FirstRead s boards tasks) (e : k ≡ tasks) where
+  module _ {edition boards tasks : ℕ} (first : FirstRead s edition boards tasks) (e : k ≡ tasks) where
     all : k ≡ tasksOf s
     all = e ∙ first .tasks-are
 
@@ -151,20 +156,22 @@ module _ (s : List ℕ) (k : ℕ) {board begin finish holds after rest : List �
         length rest ≡ 0
         → _≡_ {A = Reading} (record {
           answer = granted;
-          plan = record { boards = boards; tasks = tasks; board = board; begin = begin; finish = finish; holds = holds; after = after };
+          plan = record { edition = edition; boards = boards; tasks = tasks; board = board; ready = ready; begin = begin; finish = finish; holds = holds; after = after };
         }) (linesOf s)
     unfolding linesOf
     going-end z =
         let left : length rest ≡ length (skip (tasksOf s + 1) s) = ap length rest-end in
         let done : ltb 0 (length (skip (tasksOf s + 1) s)) ≡ false = le-ltb 0 (length (skip (tasksOf s + 1) s)) (omega (arith, left)) in
         let answer : formAnswer s ≡ granted = answer-lines s first ∙ rw (faultless, done) in
-        rw (answer, plan-made (boardsOf s) (tasksOf s) (textTask s))
+        rw (answer, plan-made (editionOf s) (boardsOf s) (tasksOf s) (textTask s))
         (λ i. record {
           answer = granted;
           plan = record {
+            edition = (first .edition-is) i;
             boards = (first .boards-are) i;
             tasks = (first .tasks-are) i;
             board = (g .board-is ∙ ap (column (λ j. textTask s j .board)) all) i;
+            ready = (g .ready-is ∙ ap (column (λ j. textTask s j .ready)) all) i;
             begin = (g .begin-is ∙ ap (column (λ j. textTask s j .begin)) all) i;
             finish = (g .finish-is ∙ ap (column (λ j. textTask s j .finish)) all) i;
             holds = (g .holds-is ∙ ap (grid 32 2048 (λ j. textTask s j .holds)) all) i;
@@ -172,15 +179,18 @@ module _ (s : List ℕ) (k : ℕ) {board begin finish holds after rest : List �
           };
         })
 
-  module _ {boards tasks : ℕ} (first : FirstRead s boards tasks) (before-last : k < tasks) {line : Line} (said : line ≡ nextLine boards tasks rest (k + 1)) where
+  module _ {edition boards tasks : ℕ} (first : FirstRead s edition boards tasks) (before-last : k < tasks) {line : Line} (said : line ≡ nextLine edition boards tasks rest (k + 1)) where
     below : k < tasksOf s
     below = omega (arith, first .tasks-are)
 
-    l : line ≡ nextLine (boardsOf s) (tasksOf s) rest (k + 1)
-    l = said ∙ rw (first .boards-are, first .tasks-are)
+    l : line ≡ nextLine (editionOf s) (boardsOf s) (tasksOf s) rest (k + 1)
+    l = said ∙ rw (first .edition-is, first .boards-are, first .tasks-are)
 
-    the-fault : line .fault ≡ faultOf (lineAt s (k + 1)) (taskCodes (hasLine (skip (k + 1) s)) (boardsOf s) (tasksOf s) (lineAt s (k + 1)) (k + 1))
-    the-fault = rw (l, g .rest-is) (next-fault (boardsOf s) (tasksOf s) (skip (k + 1) s) (k + 1))
+    few : (boardsOf s ≤ 1000000) × (k + 1 ≤ 1000000)
+    few = (omega (arith, first .few-boards, first .boards-are), omega (arith, first .few-tasks, before-last))
+
+    the-fault : line .fault ≡ faultOf (lineAt s (k + 1)) (taskCodes (hasLine (skip (k + 1) s)) (editionOf s) (boardsOf s) (tasksOf s) (lineAt s (k + 1)) (k + 1))
+    the-fault = rw (l, g .rest-is) (next-fault (editionOf s) (boardsOf s) (tasksOf s) (skip (k + 1) s) (k + 1) (few .0) (few .1))
 
     the-answer : lineAnswer s (k + 1) ≡ refuse (line .fault .code) (k + 2) (line .fault .column)
     unfolding lineAnswer
@@ -189,7 +199,7 @@ module _ (s : List ℕ) (k : ℕ) {board begin finish holds after rest : List �
     -- the column is no larger than the text
     pub column-small : line .fault .column < 4294967296
     column-small =
-        let c = column-most (lineAt s (k + 1)) (taskCodes (hasLine (skip (k + 1) s)) (boardsOf s) (tasksOf s) (lineAt s (k + 1)) (k + 1)) in
+        let c = column-most (lineAt s (k + 1)) (taskCodes (hasLine (skip (k + 1) s)) (editionOf s) (boardsOf s) (tasksOf s) (lineAt s (k + 1)) (k + 1)) in
         let e : line .fault .column ≡ _ = ap (λ (x : Fault). x .column) the-fault in
         omega (arith, c, e, index-le LF (skip (k + 1) s), length-take (indexOf LF (skip (k + 1) s)) (skip (k + 1) s), skip-le LF (k + 1) s, first .short)
 
@@ -208,11 +218,11 @@ module _ (s : List ℕ) (k : ℕ) {board begin finish holds after rest : List �
       unfolding nextLine
       says =
           rw (l, g .rest-is)
-          (read-says (hasLine (skip (k + 1) s)) (boardsOf s) (tasksOf s) (lineAt s (k + 1)) (k + 1) (omega (arith, first .few-tasks, first .tasks-are))
-          (line-there .formed) (line-there .ranges) (ap (λ (x : Fault). x .code) (sym the-fault) ∙ z))
+          (read-says (hasLine (skip (k + 1) s)) (editionOf s) (boardsOf s) (tasksOf s) (lineAt s (k + 1)) (k + 1) (few .0) (few .1) (omega (arith, first .few-tasks, first .tasks-are))
+          (line-there .there) (line-there .fine))
 
       pub fits : TaskFits (boardsOf s) (tasksOf s) (textTask s k)
-      fits = task-fits (boardsOf s) (tasksOf s) (textTask s k) (line-there .ranges)
+      fits = task-fits (boardsOf s) (tasksOf s) (textTask s k) (fine-task (editionOf s) (boardsOf s) (tasksOf s) (lineAt s (k + 1)) (k + 1) (line-there .fine))
 
       pub board-small : line .board < 256
       board-small = omega (arith, says .board, fits .board .1, first .few-boards, first .boards-are)
@@ -238,11 +248,12 @@ module _ (s : List ℕ) (k : ℕ) {board begin finish holds after rest : List �
       pub going-turn : {holds2 after2 rest2 : List ℕ}
           → holds2 ≡ sets holds (32 * k) (take (line .holds .count) (line .holds .items))
           → after2 ≡ sets after (64 * k) (take (line .after .count) (line .after .items)) → rest2 ≡ Split.after LF rest
-          → Going s (k + 1) (set board k (line .board)) (set begin k (line .begin)) (set finish k (line .finish)) holds2 after2 rest2
+          → Going s (k + 1) (set board k (line .board)) (set ready k (line .ready)) (set begin k (line .begin)) (set finish k (line .finish)) holds2 after2 rest2
       going-turn h a r = record {
         rest-is = r ∙ ap (Split.after LF) (g .rest-is) ∙ sym (skip-turn (k + 1) s);
         passed = g .passed ∙ scan-turn _ _ _ (k + 1) (tasksOf s + 1) (omega (arith, below)) (rw (the-answer, z));
         board-is = ap (λ (x : List ℕ). set x k (line .board)) (g .board-is) ∙ column-turn _ k (line .board) (says .board);
+        ready-is = ap (λ (x : List ℕ). set x k (line .ready)) (g .ready-is) ∙ column-turn _ k (line .ready) (says .ready);
         begin-is = ap (λ (x : List ℕ). set x k (line .begin)) (g .begin-is) ∙ column-turn _ k (line .begin) (says .begin);
         finish-is = ap (λ (x : List ℕ). set x k (line .finish)) (g .finish-is) ∙ column-turn _ k (line .finish) (says .finish);
         holds-is =

@@ -1,10 +1,16 @@
 // The fields of the first line and of a task line.
 ghost use mathlib.Core.Path.{_≡_};
+ghost use mathlib.Core.List.{_∷_};
 ghost use Prim.Native.Nat.{_≤_};
-ghost use Rattle.reader.specs.private.Fields.{sizesRead, lineRead, noSizes, noLine};
+ghost use Rattle.laws.specs.Split.{skipOn};
+ghost use Rattle.text.specs.Line.{TAB};
+ghost use Rattle.plan.specs.Read.{codesFrom, readyCode};
+ghost use Rattle.reader.specs.private.Fields.{sizesRead, noSizes, noLine, tailRead, readyAt, readyIn, lineBy, lineRead};
 use crate::Line;
 use crate::Sizes;
+use crate::Tail;
 use faults::Fault;
+use faults::Ranged;
 use faults::end_code;
 use faults::fault_of;
 use faults::is_faultless;
@@ -27,6 +33,7 @@ fn no_sizes() -> Sizes
 {
     Sizes {
         ok: false,
+        edition: 0,
         boards: 0,
         tasks: 0,
     }
@@ -39,16 +46,18 @@ pub(crate) fn read_sizes(line: &[u8]) -> Sizes
     if count_fields(line) != 4 {
         return no_sizes();
     }
-    if !(same(field(line, 0), b"plan") & same(field(line, 1), b"1")) {
+    if !same(field(line, 0), b"plan") {
         return no_sizes();
     }
+    let edition = read_ranged(field(line, 1), 1, 2);
     let boards = read_ranged(field(line, 2), 1, 8);
     let tasks = read_ranged(field(line, 3), 1, 64);
-    if (boards.code != 0) | (tasks.code != 0) {
+    if (edition.code != 0) | ((boards.code != 0) | (tasks.code != 0)) {
         return no_sizes();
     }
     Sizes {
         ok: true,
+        edition: edition.value,
         boards: boards.value,
         tasks: tasks.value,
     }
@@ -66,6 +75,7 @@ fn no_line(fault: Fault) -> Line
     Line {
         fault,
         board: 0,
+        ready: 0,
         begin: 0,
         finish: 0,
         holds: none,
@@ -73,48 +83,140 @@ fn no_line(fault: Fault) -> Line
     }
 }
 
-// The k-th task line. Each field is looked for where the one before it ends.
-pub(crate) fn read_line(line: &[u8], ended: bool, boards: u32, tasks: u32, k: u32) -> Line
+// From the planned start on. Each field is looked for where the one before it ends.
+fn read_tail(rest: &[u8], tasks: u32) -> Tail
+    ensures { λ r. ⌜ r ≡ tailRead tasks (now (rest .entry)) 0 ⌝ }
+{
+    let begin_field = part_before(rest, TAB);
+    let from_finish = past(rest, begin_field.len());
+    let finish_field = part_before(from_finish, TAB);
+    let from_holds = past(from_finish, finish_field.len());
+    let holds_field = part_before(from_holds, TAB);
+    let from_after = past(from_holds, holds_field.len());
+    let begin = read_ranged(begin_field, 0, MOST);
+    let finish = read_ranged(finish_field, begin.value + 1, MOST);
+    let holds = read_holds(holds_field);
+    let after = read_after(part_before(from_after, TAB), tasks);
+    Tail {
+        begin,
+        finish,
+        holds,
+        after,
+    }
+}
+
+// A line by the codes of its fields: only a refused one is looked at for its column.
+fn line_by<'a>(line: &'a [u8], codes: &'a [u8], board: u32, ready: u32, tail: Tail) -> Line
+    ensures { λ r. ⌜ r ≡ lineBy (now (line .entry)) (now (codes .entry)) board ready tail ⌝ }
+{
+    if !is_faultless(codes) {
+        return no_line(fault_of(line, codes));
+    }
+    let begin = tail.begin;
+    let finish = tail.finish;
+    let holds = tail.holds;
+    let after = tail.after;
+    Line {
+        fault: Fault { code: 0, column: 0 },
+        board,
+        ready,
+        begin: begin.value,
+        finish: finish.value,
+        holds,
+        after,
+    }
+}
+
+// A line of edition 1 past its board.
+fn read_first<'a>(
+    line: &'a [u8],
+    ended: bool,
+    tasks: u32,
+    word: u8,
+    number: u8,
+    board: Ranged,
+    rest: &'a [u8],
+) -> Line
+    requires { ⌜ (tasks ≤ 64) × (now rest ≡ skipOn TAB 3 (now line)) ⌝ }
+    ensures { λ r. ⌜ r ≡ lineBy (now (line .entry)) (word ∷ number ∷ board .code ∷ codesFrom ended tasks (now (line .entry)) 3) (board .value) 0 (tailRead tasks (now (line .entry)) 3) ⌝ }
+{
+    let tail = read_tail(rest, tasks);
+    let codes = [
+        word,
+        number,
+        board.code,
+        tail.begin.code,
+        tail.finish.code,
+        tail.holds.code,
+        tail.after.code,
+        end_code(line, 7, ended),
+    ];
+    line_by(line, &codes, board.value, 0, tail)
+}
+
+// 18: ready after planned start.
+fn ready_code(ready: Ranged, begin: u32) -> u8
+    ensures { λ r. ⌜ r ≡ readyIn ready begin ⌝ }
+{
+    if (ready.code == 0) & (begin < ready.value) {
+        return 18;
+    }
+    ready.code
+}
+
+// A line of edition 2 past its board.
+fn read_second<'a>(
+    line: &'a [u8],
+    ended: bool,
+    tasks: u32,
+    word: u8,
+    number: u8,
+    board: Ranged,
+    rest: &'a [u8],
+) -> Line
+    requires { ⌜ (tasks ≤ 64) × (now rest ≡ skipOn TAB 3 (now line)) ⌝ }
+    ensures { λ r. ⌜ r ≡ lineBy (now (line .entry)) (word ∷ number ∷ board .code ∷ readyCode (now (line .entry)) ∷ codesFrom ended tasks (now (line .entry)) 4) (board .value) (readyAt (now (line .entry))) (tailRead tasks (now (line .entry)) 4) ⌝ }
+{
+    let ready_field = part_before(rest, TAB);
+    let ready = read_ranged(ready_field, 0, MOST);
+    let tail = read_tail(past(rest, ready_field.len()), tasks);
+    let codes = [
+        word,
+        number,
+        board.code,
+        ready_code(ready, tail.begin.value),
+        tail.begin.code,
+        tail.finish.code,
+        tail.holds.code,
+        tail.after.code,
+        end_code(line, 8, ended),
+    ];
+    line_by(line, &codes, board.value, ready.value, tail)
+}
+
+// The k-th task line.
+pub(crate) fn read_line(
+    line: &[u8],
+    ended: bool,
+    edition: u32,
+    boards: u32,
+    tasks: u32,
+    k: u32,
+) -> Line
     requires { ⌜ tasks ≤ 64 ⌝ }
-    ensures { λ r. ⌜ r ≡ lineRead ended boards tasks (now (line .entry)) k ⌝ }
+    ensures { λ r. ⌜ r ≡ lineRead ended edition boards tasks (now (line .entry)) k ⌝ }
 {
     let word = part_before(line, TAB);
     let from_number = past(line, word.len());
     let number_field = part_before(from_number, TAB);
     let from_board = past(from_number, number_field.len());
     let board_field = part_before(from_board, TAB);
-    let from_begin = past(from_board, board_field.len());
-    let begin_field = part_before(from_begin, TAB);
-    let from_finish = past(from_begin, begin_field.len());
-    let finish_field = part_before(from_finish, TAB);
-    let from_holds = past(from_finish, finish_field.len());
-    let holds_field = part_before(from_holds, TAB);
-    let from_after = past(from_holds, holds_field.len());
+    let rest = past(from_board, board_field.len());
+    let word_is = word_code(word, b"task");
     let number = read_ranged(number_field, k, k);
     let board = read_ranged(board_field, 1, boards);
-    let begin = read_ranged(begin_field, 0, MOST);
-    let finish = read_ranged(finish_field, begin.value + 1, MOST);
-    let holds = read_holds(holds_field);
-    let after = read_after(part_before(from_after, TAB), tasks);
-    let codes = [
-        word_code(word, b"task"),
-        number.code,
-        board.code,
-        begin.code,
-        finish.code,
-        holds.code,
-        after.code,
-        end_code(line, 7, ended),
-    ];
-    if !is_faultless(&codes) {
-        return no_line(fault_of(line, &codes));
+    if edition == 2 {
+        return read_second(line, ended, tasks, word_is, number.code, board, rest);
     }
-    Line {
-        fault: Fault { code: 0, column: 0 },
-        board: board.value,
-        begin: begin.value,
-        finish: finish.value,
-        holds,
-        after,
-    }
+    read_first(line, ended, tasks, word_is, number.code, board, rest)
 }

@@ -24,20 +24,22 @@ use text::part::past;
 use text::put::put_text;
 
 // The k-th task line, which begins the rest of the text and ends at the first LF.
-fn next_line(rest: &[u8], end: usize, boards: u32, tasks: u32, k: u32) -> Line
+fn next_line(rest: &[u8], end: usize, edition: u32, boards: u32, tasks: u32, k: u32) -> Line
     requires { ⌜ (tasks ≤ 64) × (end ≡ indexOf LF (now rest)) ⌝ }
-    ensures { λ r. ⌜ r ≡ nextLine boards tasks (now (rest .entry)) k ⌝ }
+    ensures { λ r. ⌜ r ≡ nextLine edition boards tasks (now (rest .entry)) k ⌝ }
 {
-    read_line(&rest[..end], end < rest.len(), boards, tasks, k)
+    read_line(&rest[..end], end < rest.len(), edition, boards, tasks, k)
 }
 
 fn zero_plan() -> Plan
     ensures { λ r. ⌜ r ≡ zeroPlan ⌝ }
 {
     Plan {
+        edition: 0,
         boards: 0,
         tasks: 0,
         board: [0u8; 64],
+        ready: [0u32; 64],
         begin: [0u32; 64],
         finish: [0u32; 64],
         holds: [0u8; 2048],
@@ -76,11 +78,12 @@ fn put_items(out: &mut [u8], at: usize, list: Items)
 }
 
 // The task lines, the rest of the text going on to the next line's reader.
-fn read_tasks(text: &[u8], boards: u32, tasks: u32) -> Reading
-    requires { ⌜ FirstRead (now text) boards tasks ⌝ }
+fn read_tasks(text: &[u8], edition: u32, boards: u32, tasks: u32) -> Reading
+    requires { ⌜ FirstRead (now text) edition boards tasks ⌝ }
     ensures { λ r. ⌜ r ≡ linesOf (now (text .entry)) ⌝ }
 {
     let mut board = [0u8; 64];
+    let mut ready = [0u32; 64];
     let mut begin = [0u32; 64];
     let mut finish = [0u32; 64];
     let mut holds = [0u8; 2048];
@@ -89,13 +92,14 @@ fn read_tasks(text: &[u8], boards: u32, tasks: u32) -> Reading
     let mut k: u32 = 0;
     while k < tasks {
         let end = find(rest, LF);
-        let line = next_line(rest, end, boards, tasks, k + 1);
+        let line = next_line(rest, end, edition, boards, tasks, k + 1);
         let fault = line.fault;
         if fault.code != 0 {
             return refused(answer_of(fault.code as u32, k + 2, fault.column as u32));
         }
         let i = k as usize;
         board[i] = line.board as u8;
+        ready[i] = line.ready;
         begin[i] = line.begin;
         finish[i] = line.finish;
         put_items(&mut holds, 32 * i, line.holds);
@@ -110,9 +114,11 @@ fn read_tasks(text: &[u8], boards: u32, tasks: u32) -> Reading
     Reading {
         answer: answer_of(0, 0, 0),
         plan: Plan {
+            edition: edition as u8,
             boards: boards as u8,
             tasks: tasks as u8,
             board,
+            ready,
             begin,
             finish,
             holds,
@@ -135,5 +141,5 @@ pub fn read_lines(text: &[u8]) -> Reading
     if !sizes.ok {
         return refused(answer_of(2, 1, 0));
     }
-    read_tasks(text, sizes.boards, sizes.tasks)
+    read_tasks(text, sizes.edition, sizes.boards, sizes.tasks)
 }

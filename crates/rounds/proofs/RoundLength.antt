@@ -5,13 +5,15 @@ use mathlib.Core.Bool.{Bool, true}
 use mathlib.Core.Path.{_≡_}
 use native.Mathlib.Omega.{arith}
 use native.Mathlib.Nat.{mul-suc, mul-le-mul-left, mul-zero}
+use lib.Dec.{eqb}
 use lib.ListN.{length, length-append}
-use Rattle.laws.proofs.Cases.{by-le, and-l, and-r}
+use Rattle.laws.proofs.Cases.{by-bool, by-le, and-l, and-r}
 use Rattle.laws.specs.Digits.{digitsOf}
 use Rattle.laws.proofs.Digits.{digits-small, digits-big}
 use Rattle.laws.specs.Lists.{allOf}
 use Rattle.laws.specs.Split.{joinOn}
 use Rattle.text.proofs.Numerals.{digits-seven}
+use Rattle.text.specs.Line.{TAB, LF, lineText}
 use Rattle.text.specs.Items.{COMMA, between, driveOf, listText, holdText}
 use Rattle.plan.specs.Task.{Task}
 use Rattle.plan.specs.Write.{sizesText, taskText, taskTexts}
@@ -48,14 +50,28 @@ hold-short h b = let r = between-facts 1 32 (driveOf h) b in omega (arith, digit
 after-short : (tasks : ℕ) → tasks ≤ 64 → (n : ℕ) → between 1 tasks n ≡ true → length (digitsOf n) < 3
 after-short tasks few n b = let r = between-facts 1 tasks n b in omega (arith, digits-two n (omega arith))
 
+-- a line is as long as its fields, each with its tab or LF
+abbrev total : List (List ℕ) → ℕ
+total [] = 0
+total (f ∷ fs) = length f + 1 + total fs
+
+line-total : (f : List ℕ) (fs : List (List ℕ)) → length (lineText (f ∷ fs)) ≡ total (f ∷ fs)
+unfolding joinOn
+line-total f [] = omega (arith, length-append f (LF ∷ []))
+line-total f (g ∷ fs) =
+    let rest = line-total g fs in
+    omega
+    (arith, rest, length-append (joinOn TAB (f ∷ g ∷ fs)) (LF ∷ []), length-append f (TAB ∷ joinOn TAB (g ∷ fs)), length-append (joinOn TAB (g ∷ fs)) (LF ∷ []))
+
 -- a task line
 pub task-length :
-    (boards tasks number : ℕ) (task : Task) → boards ≤ 8 → tasks ≤ 64 → number ≤ 64 → TaskFits boards tasks task
-    → length (taskText number task) ≤ 350
-unfolding taskText joinOn
-task-length boards tasks number task p q r f =
+    (edition boards tasks number : ℕ) (task : Task) → boards ≤ 8 → tasks ≤ 64 → number ≤ 64 → TaskFits boards tasks task
+    → length (taskText edition number task) ≤ 358
+unfolding taskText
+task-length edition boards tasks number task p q r f =
     let n1 = digits-two number (omega arith) in
     let n2 = digits-one (task .board) (omega (arith, f .board .1)) in
+    let n = digits-seven (task .ready) (omega (arith, f .ready, f .runs, f .ends)) in
     let n3 = digits-seven (task .begin) (omega (arith, f .runs, f .ends)) in
     let n4 = digits-seven (task .finish) (f .ends) in
     let l5 =
@@ -63,19 +79,20 @@ task-length boards tasks number task p q r f =
     let l6 =
     list-length digitsOf (between 1 tasks) 3 (after-short tasks q) 64 (task .after) (omega (arith, f .after .room))
     (f .after .within) in
-    simp length-append (omega arith)
+    rw line-total (by-bool (eqb edition 2) (λ e. rw e (omega arith)) (λ e. rw e (omega arith)))
 
 -- the task lines
 pub texts-length :
-    (task : ℕ → Task) (n : ℕ) → ((k : ℕ) → k < n → length (taskText (k + 1) (task k)) ≤ 350)
-    → length (taskTexts task n) ≤ n * 350
+    (edition : ℕ) (task : ℕ → Task) (n : ℕ) → ((k : ℕ) → k < n → length (taskText edition (k + 1) (task k)) ≤ 358)
+    → length (taskTexts edition task n) ≤ n * 358
 unfolding taskTexts
-texts-length task zero f = omega arith
-texts-length task (suc n) f =
-    let i = texts-length task n (λ k h. f k (omega arith)) in let h = f n (omega arith) in simp length-append (omega arith)
+texts-length edition task zero f = omega arith
+texts-length edition task (suc n) f =
+    let i = texts-length edition task n (λ k h. f k (omega arith)) in let h = f n (omega arith) in simp length-append (omega arith)
 
 -- the first line
-pub sizes-length : (boards tasks : ℕ) → boards ≤ 8 → tasks ≤ 64 → length (sizesText boards tasks) ≤ 12
-unfolding sizesText joinOn
-sizes-length boards tasks p q =
-    simp length-append (omega (arith, digits-one boards (omega arith), digits-two tasks (omega arith)))
+pub sizes-length :
+    (edition boards tasks : ℕ) → edition ≤ 2 → boards ≤ 8 → tasks ≤ 64 → length (sizesText edition boards tasks) ≤ 12
+unfolding sizesText
+sizes-length edition boards tasks e p q =
+    rw line-total (omega (arith, digits-one edition (omega arith), digits-one boards (omega arith), digits-two tasks (omega arith)))

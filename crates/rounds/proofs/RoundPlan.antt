@@ -10,23 +10,22 @@ use borrow.Author.Tests.{eqb-true}
 use Rattle.laws.proofs.Cases.{and-l, and-r}
 use Rattle.laws.proofs.Digits.{value-digits}
 use Rattle.laws.specs.Split.{before, joinOn, skipOn}
-use Rattle.text.specs.Number.{valueOf}
-use Rattle.text.specs.Line.{TAB, LF, hasLine, skip, lineAt, field}
+use Rattle.text.specs.Line.{TAB, LF, hasLine, skip, lineAt, fields}
 use Rattle.plan.specs.Answer.{granted, isGranted}
-use Rattle.plan.specs.Task.{Task, taskOk}
+use Rattle.plan.specs.Task.{taskOk}
 use Rattle.plan.specs.Judged.{tasksAnswer}
 use Rattle.plan.specs.Value.{taskAt, planOf, rangesOk, isAccepted}
-use Rattle.plan.specs.Read.{sizesOk, boardsOf, tasksOf, lineTask, textTask, readingOf}
+use Rattle.plan.specs.Read.{sizesOk, editionOf, boardsOf, tasksOf, lineTask, textTask, readingOf}
 use Rattle.plan.specs.Write.{sizesText, taskText, taskTexts, textOf}
 use Rattle.plan.specs.declared.Answer.{Answer}
 use Rattle.plan.specs.declared.Plan.{Plan}
-use Rattle.plan.proofs.LineCodes.{isTaskLine}
+use Rattle.plan.proofs.LineCodes.{LineFine}
 use Rattle.plan.proofs.Judged.{tasks-granted, tasks-same}
-use Rattle.plan.proofs.PlanTasks.{Sized, RangesKept, ranges-kept, task-kept, task-fits, planOf-same, planOf-own}
+use Rattle.plan.proofs.PlanTasks.{SizedPlan, RangesKept, ranges-kept, task-kept, task-fits, planOf-same, planOf-own}
 use Rattle.rounds.proofs.RoundBack.{sizesFields, taskFields, made-line, made-rest, made-has, sizes-whole, sizes-fields}
-use Rattle.rounds.proofs.RoundBack.{sizes-read, task-whole, task-read, task-number, task-back, skip-texts, texts-from}
+use Rattle.rounds.proofs.RoundBack.{sizes-read, task-whole, task-fields, task-fine, task-back, skip-texts, texts-from}
 use Rattle.rounds.proofs.RoundLength.{task-length, texts-length, sizes-length}
-use Rattle.plan.proofs.ReadOk.{LineOk, FormOk, TextOk, ok-text, read-answer, read-plan}
+use Rattle.plan.proofs.ReadOk.{LineOk, TextOk, ok-text, read-answer, read-plan}
 
 module _ (plan : Plan) where
   accepted-ranges : isAccepted plan ≡ true → rangesOk plan ≡ true
@@ -40,13 +39,16 @@ module _ (plan : Plan) where
       (eqb-true (tasksAnswer (plan .tasks) (taskAt plan) .code) 0
       (and-r (rangesOk plan) (isGranted (tasksAnswer (plan .tasks) (taskAt plan))) h))
 
-task-ok-at :
-    {b c m n : ℕ} {x y : Task} → b ≡ c → m ≡ n → x ≡ y → taskOk c n y ≡ true → taskOk b m x ≡ true
-task-ok-at p q r h = rw (p, q, r) h
+fine-at :
+    {d e b c m n : ℕ} {line : List ℕ} {k : ℕ} → d ≡ e → b ≡ c → m ≡ n → LineFine e c n line k → LineFine d b m line k
+fine-at p q r f = rw (p, q, r) f
 
 module _ (plan : Plan) (ok : isAccepted plan ≡ true) where
   facts : RangesKept plan
   facts = ranges-kept plan (accepted-ranges plan ok)
+
+  abbrev edition : ℕ
+  edition = plan .edition
 
   task-ok : (k : ℕ) → k < plan .tasks → taskOk (plan .boards) (plan .tasks) (taskAt plan k) ≡ true
   task-ok k h = task-kept plan k (facts .kept k h) .task
@@ -57,23 +59,26 @@ module _ (plan : Plan) (ok : isAccepted plan ≡ true) where
   text-length =
       let few = facts .tasks .1 in
       let b = facts .boards .1 in
-      let a = sizes-length (plan .boards) (plan .tasks) b few in
-      let c = texts-length (taskAt plan) (plan .tasks)
-      (λ k h. task-length (plan .boards) (plan .tasks) (k + 1) (taskAt plan k) b few (omega arith)
+      let a = sizes-length edition (plan .boards) (plan .tasks) (facts .edition .1) b few in
+      let c = texts-length edition (taskAt plan) (plan .tasks)
+      (λ k h. task-length edition (plan .boards) (plan .tasks) (k + 1) (taskAt plan k) b few (omega arith)
       (task-fits (plan .boards) (plan .tasks) (taskAt plan k) (task-ok k h))) in
       simp length-append (omega arith)
 
   abbrev lines : List ℕ
-  lines = taskTexts (taskAt plan) (plan .tasks)
+  lines = taskTexts edition (taskAt plan) (plan .tasks)
 
   -- its first line
-  first-line : lineAt (textOf plan) 0 ≡ joinOn TAB (sizesFields (plan .boards) (plan .tasks))
+  first-line : lineAt (textOf plan) 0 ≡ joinOn TAB (sizesFields edition (plan .boards) (plan .tasks))
   unfolding textOf sizesText skipOn
-  first-line = made-line _ _ (sizes-whole (plan .boards) (plan .tasks)) lines
+  first-line = made-line _ _ (sizes-whole edition (plan .boards) (plan .tasks)) lines
 
   first-has : hasLine (textOf plan) ≡ true
   unfolding textOf sizesText
-  first-has = made-has _ _ (sizes-whole (plan .boards) (plan .tasks)) lines
+  first-has = made-has _ _ (sizes-whole edition (plan .boards) (plan .tasks)) lines
+
+  text-edition : editionOf (textOf plan) ≡ edition
+  text-edition = rw (first-line, sizes-fields, value-digits)
 
   text-boards : boardsOf (textOf plan) ≡ plan .boards
   text-boards = rw (first-line, sizes-fields, value-digits)
@@ -84,30 +89,35 @@ module _ (plan : Plan) (ok : isAccepted plan ≡ true) where
   -- its task lines
   text-rest : (n : ℕ) → skip (n + 1) (textOf plan) ≡ skip n lines
   unfolding textOf sizesText skipOn
-  text-rest n = rw add-one (ap (skip n) (made-rest _ _ (sizes-whole (plan .boards) (plan .tasks)) lines))
+  text-rest n = rw add-one (ap (skip n) (made-rest _ _ (sizes-whole edition (plan .boards) (plan .tasks)) lines))
 
   module _ (k : ℕ) (h : k < plan .tasks) where
-    from-line : (later : List ℕ) × (skip (k + 1) (textOf plan) ≡ taskText (k + 1) (taskAt plan k) ++ later)
-    from-line = let r = texts-from (taskAt plan) (plan .tasks) k h in (r .0, text-rest k ∙ r .1)
+    from-line : (later : List ℕ) × (skip (k + 1) (textOf plan) ≡ taskText edition (k + 1) (taskAt plan k) ++ later)
+    from-line = let r = texts-from edition (taskAt plan) (plan .tasks) k h in (r .0, text-rest k ∙ r .1)
 
-    task-line : lineAt (textOf plan) (k + 1) ≡ joinOn TAB (taskFields (k + 1) (taskAt plan k))
+    task-line : lineAt (textOf plan) (k + 1) ≡ joinOn TAB (taskFields edition (k + 1) (taskAt plan k))
     unfolding taskText
-    task-line = ap (before LF) (from-line .1) ∙ made-line _ _ (task-whole (k + 1) (taskAt plan k)) (from-line .0)
+    task-line = ap (before LF) (from-line .1) ∙ made-line _ _ (task-whole edition (k + 1) (taskAt plan k)) (from-line .0)
 
     task-has : hasLine (skip (k + 1) (textOf plan)) ≡ true
     unfolding taskText
-    task-has = ap hasLine (from-line .1) ∙ made-has _ _ (task-whole (k + 1) (taskAt plan k)) (from-line .0)
+    task-has = ap hasLine (from-line .1) ∙ made-has _ _ (task-whole edition (k + 1) (taskAt plan k)) (from-line .0)
+
+    line-fields : fields (lineAt (textOf plan) (k + 1)) ≡ taskFields edition (k + 1) (taskAt plan k)
+    line-fields = ap fields task-line ∙ task-fields edition (k + 1) (taskAt plan k)
 
     -- its tasks
     pub text-task : textTask (textOf plan) k ≡ taskAt plan k
-    text-task = ap lineTask task-line ∙ task-back (k + 1) (taskAt plan k)
+    text-task =
+        ap (λ (e : ℕ). lineTask e (lineAt (textOf plan) (k + 1))) text-edition
+        ∙ task-back edition (k + 1) (taskAt plan k) (lineAt (textOf plan) (k + 1)) line-fields (plan .boards) (plan .tasks) (task-ok k h)
+        (task-kept plan k (facts .kept k h) .edition)
 
     line-kept : LineOk (textOf plan) k
     line-kept = record {
       there = task-has;
-      formed = ap isTaskLine task-line ∙ task-read (k + 1) (taskAt plan k);
-      number = ap (λ (l : List ℕ). valueOf (field l 1)) task-line ∙ task-number (k + 1) (taskAt plan k);
-      ranges = task-ok-at text-boards text-tasks text-task (task-ok k h);
+      fine = fine-at text-edition text-boards text-tasks
+          (task-fine edition (k + 1) (taskAt plan k) (lineAt (textOf plan) (k + 1)) line-fields (plan .boards) (plan .tasks) (task-ok k h));
     }
 
   text-kept : TextOk (textOf plan)
@@ -116,7 +126,7 @@ module _ (plan : Plan) (ok : isAccepted plan ≡ true) where
       short = text-length;
       first = first-has;
       sizes = ap sizesOk first-line
-          ∙ sizes-read (plan .boards) (plan .tasks) (facts .boards .0) (facts .boards .1) (facts .tasks .0) (facts .tasks .1);
+          ∙ sizes-read edition (plan .boards) (plan .tasks) (facts .edition) (facts .boards) (facts .tasks);
       lines = λ k h. line-kept k (rw text-tasks at h);
       ends = ap length (ap (λ (n : ℕ). skip (n + 1) (textOf plan)) text-tasks ∙ text-rest (plan .tasks) ∙ none);
     };
@@ -126,16 +136,17 @@ module _ (plan : Plan) (ok : isAccepted plan ≡ true) where
   }
     where
       none : skip (plan .tasks) lines ≡ []
-      none = ap (skip (plan .tasks)) (sym (append-nil lines)) ∙ skip-texts (taskAt plan) (plan .tasks) []
+      none = ap (skip (plan .tasks)) (sym (append-nil lines)) ∙ skip-texts edition (taskAt plan) (plan .tasks) []
 
   -- it reads back as the plan
-  pub plan-back : Sized plan → readingOf (textOf plan) ≡ record { answer = granted; plan = plan }
+  pub plan-back : SizedPlan plan → readingOf (textOf plan) ≡ record { answer = granted; plan = plan }
   plan-back size =
       let z = ok-text (textOf plan) text-kept in
       let p =
       read-plan (textOf plan) (ap (λ (x : Answer). x .code) z)
-      ∙ ap (λ (b : ℕ). planOf b (tasksOf (textOf plan)) (textTask (textOf plan))) text-boards
-      ∙ ap (λ (n : ℕ). planOf (plan .boards) n (textTask (textOf plan))) text-tasks
-      ∙ planOf-same (plan .boards) (plan .tasks) (textTask (textOf plan)) (taskAt plan) text-task
+      ∙ ap (λ (e : ℕ). planOf e (boardsOf (textOf plan)) (tasksOf (textOf plan)) (textTask (textOf plan))) text-edition
+      ∙ ap (λ (b : ℕ). planOf edition b (tasksOf (textOf plan)) (textTask (textOf plan))) text-boards
+      ∙ ap (λ (n : ℕ). planOf edition (plan .boards) n (textTask (textOf plan))) text-tasks
+      ∙ planOf-same edition (plan .boards) (plan .tasks) (textTask (textOf plan)) (taskAt plan) text-task
       ∙ planOf-own plan size (accepted-ranges plan ok) in
       λ i. record { answer = (read-answer (textOf plan) ∙ z) i; plan = p i }

@@ -8,27 +8,29 @@ use Rattle.laws.specs.Split.{skipOn}
 use Rattle.text.specs.Line.{skip, lineAt}
 use Rattle.plan.specs.Task.{Task}
 use Rattle.plan.specs.Value.{taskAt, planOf}
-use Rattle.plan.specs.Read.{tasksOf, textTask, textAnswer, textPlan, readingOf}
+use Rattle.plan.specs.Read.{editionOf, boardsOf, tasksOf, textTask, textAnswer, textPlan, readingOf}
 use Rattle.plan.specs.Write.{taskText, taskTexts, textOf}
 use Rattle.plan.proofs.ReadOk.{text-ok, read-plan, form-task}
 use Rattle.rounds.proofs.RoundLines.{line-joined, sizes-spelt, task-spelt}
 
 -- the lines of the first n tasks are those of these tasks alone
-pub texts-same : (task other : ℕ → Task) (n : ℕ) → ((k : ℕ) → k < n → task k ≡ other k) → taskTexts task n ≡ taskTexts other n
+pub texts-same :
+    (edition : ℕ) (task other : ℕ → Task) (n : ℕ) → ((k : ℕ) → k < n → task k ≡ other k)
+    → taskTexts edition task n ≡ taskTexts edition other n
 unfolding taskTexts
-texts-same task other zero e = refl
-texts-same task other (suc n) e = rw (texts-same task other n (λ k h. e k (omega arith)), e n (omega arith))
+texts-same edition task other zero e = refl
+texts-same edition task other (suc n) e = rw (texts-same edition task other n (λ k h. e k (omega arith)), e n (omega arith))
 
 module _ (s : List ℕ) (z : textAnswer s .code ≡ 0) where
   -- its task lines are the lines of the text
-  read-lines : (n : ℕ) → n ≤ tasksOf s → taskTexts (textTask s) n ++ skip (n + 1) s ≡ skip 1 s
+  read-lines : (n : ℕ) → n ≤ tasksOf s → taskTexts (editionOf s) (textTask s) n ++ skip (n + 1) s ≡ skip 1 s
   unfolding taskTexts
   read-lines zero h = refl
   read-lines (suc n) h =
       let l = text-ok s z .form .lines n h in
       let e : suc n + 1 ≡ n + 1 + 1 = omega arith in
-      append-assoc (taskTexts (textTask s) n) (taskText (n + 1) (textTask s n)) (skip (suc n + 1) s)
-      ∙ rw (e, task-spelt (lineAt s (n + 1)) (n + 1) (l .formed) (l .number), line-joined s (n + 1) (l .there))
+      append-assoc (taskTexts (editionOf s) (textTask s) n) (taskText (editionOf s) (n + 1) (textTask s n)) (skip (suc n + 1) s)
+      ∙ rw (e, task-spelt (editionOf s) (boardsOf s) (tasksOf s) (lineAt s (n + 1)) (n + 1) (l .fine), line-joined s (n + 1) (l .there))
       (read-lines n (omega arith))
 
   -- the text is the text of the plan
@@ -37,10 +39,10 @@ module _ (s : List ℕ) (z : textAnswer s .code ≡ 0) where
   read-back =
       let n : ℕ = tasksOf s in
       let none : skip (n + 1) s ≡ [] = sym (take-all 0 (skip (n + 1) s) (omega (arith, text-ok s z .form .ends))) in
-      let lines : taskTexts (textTask s) n ≡ skip 1 s =
-      sym (append-nil (taskTexts (textTask s) n))
-      ∙ ap (λ (r : List ℕ). taskTexts (textTask s) n ++ r) (sym none)
+      let lines : taskTexts (editionOf s) (textTask s) n ≡ skip 1 s =
+      sym (append-nil (taskTexts (editionOf s) (textTask s) n))
+      ∙ ap (λ (r : List ℕ). taskTexts (editionOf s) (textTask s) n ++ r) (sym none)
       ∙ read-lines n (omega arith) in
       ap textOf (read-plan s z)
-      ∙ rw (texts-same (taskAt (textPlan s)) (textTask s) n (form-task s (text-ok s z .form)), lines, sizes-spelt (lineAt s 0) (text-ok s z .form .sizes))
+      ∙ rw (texts-same (editionOf s) (taskAt (textPlan s)) (textTask s) n (form-task s (text-ok s z .form)), lines, sizes-spelt (lineAt s 0) (text-ok s z .form .sizes))
       (line-joined s 0 (text-ok s z .form .first))

@@ -15,7 +15,7 @@ use Rattle.plan.specs.Value.{isAccepted}
 use Rattle.plan.specs.Read.{readingOf}
 use Rattle.plan.specs.Write.{textOf, writeAnswer, writtenOf, bufferAfter}
 use Rattle.plan.specs.declared.Plan.{Plan}
-use Rattle.plan.proofs.PlanTasks.{Sized}
+use Rattle.plan.proofs.PlanTasks.{SizedPlan}
 use Rattle.rounds.proofs.RoundPlan.{plan-back}
 
 -- A refused writer changes no byte
@@ -50,7 +50,7 @@ module _ (plan : Plan) (out : List ℕ) (ok : isAccepted plan ≡ true) (room : 
 
   -- what the writer leaves reads back
   pub write-back :
-      Sized plan
+      SizedPlan plan
       → readingOf (take (writtenOf plan (length out) .length) (bufferAfter plan out)) ≡ record { answer = granted; plan = plan }
   write-back size =
       ap (λ (n : ℕ). readingOf (take n (bufferAfter plan out))) write-length

@@ -2,7 +2,7 @@
 use Prim.Native.Nat.{ℕ, _≤_, max}
 use native.Mathlib.Omega.{arith}
 use mathlib.Core.Bool.{Bool, true, false, not, cond, _&&_, and-false}
-use mathlib.Core.List.{List}
+use mathlib.Core.List.{List, []}
 use mathlib.Core.Path.{_≡_, refl, sym, _∙_}
 use mathlib.Core.Logic.{_≢_}
 use lib.Dec.{eqb, ltb, leb}
@@ -11,10 +11,10 @@ use Rattle.laws.proofs.Cases.{by-bool, by-eq, true-false, and-no}
 use Rattle.laws.specs.Every.{every, any}
 use Rattle.laws.specs.Picked.{latest}
 use Rattle.theory.specs.Plan.{Plan}
-use Rattle.theory.specs.Book.{Book, ended, allEnded, due, limit, taskTest, soundTest}
-use Rattle.plan.specs.Value.{at, blankFrom, isAccepted}
+use Rattle.theory.specs.Book.{Book, ended, allEnded, due, readyDue, limit, taskTest, soundTest}
+use Rattle.plan.specs.Value.{at, isAccepted}
 use Rattle.plan.specs.declared.Plan as declared
-use Rattle.view.specs.View.{planFor, bookSeen}
+use Rattle.view.specs.View.{planSeen, planFor, bookSeen}
 use Rattle.view.proofs.Accepted.{plan-facts}
 use Rattle.sound.specs.Sound.{nothingPast, soundOn}
 
@@ -41,25 +41,37 @@ pub and-four :
 and-four {p} {q} {r} {t} e f g h = rw (e, f, g, h) (and-assoc p q (r && t))
 
 -- a task's state by its mark
-module _ (plan : Plan) (book : Book) (i : ℕ) {free : Bool} (h : free ≡ allEnded plan (book .mark) i) where
+module _ (tasks : ℕ) (ready begin finish mark start end dropped : List ℕ) (clock i : ℕ) {free : Bool}
+    (f : free ≡ allEnded (planSeen tasks [] begin finish) (at mark) i) where
+  abbrev plan : Plan
+  plan = planSeen tasks ready begin finish
+
+  abbrev book : Book
+  book = bookSeen mark start end dropped clock
+
+  -- who has ended has nothing to do with ready ticks
+  h : free ≡ allEnded plan (at mark) i
+  unfolding allEnded
+  h = f
+
   pub test-waiting :
       book .mark i ≡ 0 → (leb (book .dropped i) 1 && (not free && (eqb (book .start i) 0 && eqb (book .end i) 0))) ≡ taskTest plan book i
   unfolding taskTest
   test-waiting m = rw (h, eq-eqb (book .mark i) 0 m)
 
-  module _ {since : ℕ} (s : since ≡ due plan (book .end) i) (n0 : book .mark i ≢ 0) where
+  module _ (n0 : book .mark i ≢ 0) where
     pub test-skipped :
-        {some : Bool} → book .dropped i ≡ 1 → some ≡ any (plan .tasks) (plan .waits i)
+        {since : ℕ} → since ≡ due plan (book .end) i → {some : Bool} → book .dropped i ≡ 1 → some ≡ any (plan .tasks) (plan .waits i)
         → (eqb (book .mark i) 2
         && (some && (free && (eqb (book .start i) since && (eqb (book .end i) (book .start i) && leb (book .end i) (book .clock))))))
         ≡ taskTest plan book i
     unfolding taskTest
-    test-skipped {some} d w =
+    test-skipped s d w =
         by-eq (book .mark i) 1
         (λ m. rw (le-leb (book .dropped i) 1 (omega arith), ne-eqb (book .mark i) 0 n0, eq-eqb (book .mark i) 1 m, ne-eqb (book .mark i) 2 (omega arith), ne-eqb (book .dropped i) 0 (omega arith)))
         (λ n1. rw (h, s, w, le-leb (book .dropped i) 1 (omega arith), ne-eqb (book .mark i) 0 n0, ne-eqb (book .mark i) 1 n1, eq-eqb (book .dropped i) 1 d))
 
-    module _ {until : ℕ} (u : until ≡ limit plan book i) (d : book .dropped i ≢ 1) where
+    module _ {since until : ℕ} (s : since ≡ readyDue plan (book .end) i) (u : until ≡ limit plan book i) (d : book .dropped i ≢ 1) where
       -- dropped neither 1 nor 0 is no mark
       drop-small : (b : Bool) → (leb (book .dropped i) 1 && (eqb (book .dropped i) 0 && b)) ≡ (eqb (book .dropped i) 0 && b)
       drop-small b =
@@ -90,7 +102,7 @@ module _ (plan : Plan) (book : Book) (i : ℕ) {free : Bool} (h : free ≡ allEn
           rw (h, s, u, c, ne-eqb (book .mark i) 0 n0, ne-eqb (book .mark i) 1 n1, ne-eqb (book .dropped i) 1 d) (sym
           (drop-small-in (eqb (book .mark i) 2)
           (allEnded plan (book .mark) i
-          && (eqb (book .start i) (due plan (book .end) i)
+          && (eqb (book .start i) (readyDue plan (book .end) i)
           && (ltb (book .start i) (book .end i)
           && (leb (book .end i) (limit plan book i) && leb (book .end i) (book .clock)))))))
 

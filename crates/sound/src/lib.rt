@@ -1,6 +1,7 @@
 // The test of code 9 of a book, by lent arrays, whatever they hold.
 ghost use mathlib.Core.Path.{_≡_};
 ghost use mathlib.Core.Bool.{cond};
+ghost use mathlib.Core.List.{[]};
 ghost use Prim.Native.Nat.{_<_, _≤_, max};
 ghost use Rattle.laws.specs.Every.{every, any};
 ghost use Rattle.laws.specs.Picked.{latest};
@@ -13,6 +14,7 @@ use judge::ranges::blank_bytes;
 use judge::ranges::blank_ticks;
 use judge::ranges::is_accepted;
 use view::limit_of;
+use view::start_of;
 use view::wide;
 
 // Have all that the task waits for ended?
@@ -24,7 +26,7 @@ fn all_ended<'a>(
     i: usize,
 ) -> bool
     requires { ⌜ (tasks ≤ 64) × (i < 64) ⌝ }
-    ensures { λ r. ⌜ r ≡ allEnded (planSeen tasks (now (begin .entry)) (now (finish .entry))) (at (now (mark .entry))) i ⌝ }
+    ensures { λ r. ⌜ r ≡ allEnded (planSeen tasks [] (now (begin .entry)) (now (finish .entry))) (at (now (mark .entry))) i ⌝ }
 {
     let by = begin[i];
     let mut all = true;
@@ -52,7 +54,7 @@ fn due_at<'a>(
     i: usize,
 ) -> u32
     requires { ⌜ (tasks ≤ 64) × (i < 64) ⌝ }
-    ensures { λ r. ⌜ r ≡ due (planSeen tasks (now (begin .entry)) (now (finish .entry))) (at (now (end .entry))) i ⌝ }
+    ensures { λ r. ⌜ r ≡ due (planSeen tasks [] (now (begin .entry)) (now (finish .entry))) (at (now (end .entry))) i ⌝ }
 {
     let by = begin[i];
     let mut last = 0;
@@ -77,7 +79,7 @@ fn last_end<'a>(mark: &'a [u8; 64], end: &'a [u32; 64], tasks: usize) -> u32
 // Does the task wait for somebody?
 fn waits_at_all<'a>(begin: &'a [u32; 64], finish: &'a [u32; 64], tasks: usize, i: usize) -> bool
     requires { ⌜ (tasks ≤ 64) × (i < 64) ⌝ }
-    ensures { λ r. ⌜ r ≡ any tasks (planSeen tasks (now (begin .entry)) (now (finish .entry)) .waits i) ⌝ }
+    ensures { λ r. ⌜ r ≡ any tasks (planSeen tasks [] (now (begin .entry)) (now (finish .entry)) .waits i) ⌝ }
 {
     let by = begin[i];
     let mut some = false;
@@ -89,6 +91,7 @@ fn waits_at_all<'a>(begin: &'a [u32; 64], finish: &'a [u32; 64], tasks: usize, i
 
 // Is the task's state as the rules say?
 fn task_sound<'a>(
+    ready: &'a [u32; 64],
     begin: &'a [u32; 64],
     finish: &'a [u32; 64],
     start: &'a [u32; 64],
@@ -100,10 +103,11 @@ fn task_sound<'a>(
     i: usize,
 ) -> bool
     requires { ⌜ (tasks ≤ 64) × (i < 64) ⌝ }
-    ensures { λ r. ⌜ r ≡ taskTest (planSeen tasks (now (begin .entry)) (now (finish .entry))) (bookSeen (now (mark .entry)) (now (start .entry)) (now (end .entry)) (now (dropped .entry)) clock) i ⌝ }
+    ensures { λ r. ⌜ r ≡ taskTest (planSeen tasks (now (ready .entry)) (now (begin .entry)) (now (finish .entry))) (bookSeen (now (mark .entry)) (now (start .entry)) (now (end .entry)) (now (dropped .entry)) clock) i ⌝ }
 {
     let state = mark[i];
     let gone = dropped[i];
+    let awaited = ready[i];
     let started = start[i];
     let over = end[i];
     let free = all_ended(begin, finish, mark, tasks, i);
@@ -111,6 +115,7 @@ fn task_sound<'a>(
         return (gone <= 1) & (!free & ((started == 0) & (over == 0)));
     }
     let due = due_at(begin, finish, end, tasks, i);
+    let from = start_of(awaited, due);
     if gone == 1 {
         let some = waits_at_all(begin, finish, tasks, i);
         let at_once = (started == due) & ((over == started) & (over <= clock));
@@ -118,14 +123,15 @@ fn task_sound<'a>(
     }
     let limit = limit_of(begin[i], finish[i], started);
     if state == 1 {
-        let runs = (started == due) & ((over == 0) & (wide(clock) <= limit));
+        let runs = (started == from) & ((over == 0) & (wide(clock) <= limit));
         return (gone == 0) & (free & runs);
     }
     let in_time = (started < over) & ((wide(over) <= limit) & (over <= clock));
-    (state == 2) & ((gone == 0) & (free & ((started == due) & in_time)))
+    (state == 2) & ((gone == 0) & (free & ((started == from) & in_time)))
 }
 
 fn tasks_sound<'a>(
+    ready: &'a [u32; 64],
     begin: &'a [u32; 64],
     finish: &'a [u32; 64],
     start: &'a [u32; 64],
@@ -136,10 +142,21 @@ fn tasks_sound<'a>(
     tasks: usize,
 ) -> bool
     requires { ⌜ tasks ≤ 64 ⌝ }
-    ensures { λ r. ⌜ r ≡ every tasks (taskTest (planSeen tasks (now (begin .entry)) (now (finish .entry))) (bookSeen (now (mark .entry)) (now (start .entry)) (now (end .entry)) (now (dropped .entry)) clock)) ⌝ }
+    ensures { λ r. ⌜ r ≡ every tasks (taskTest (planSeen tasks (now (ready .entry)) (now (begin .entry)) (now (finish .entry))) (bookSeen (now (mark .entry)) (now (start .entry)) (now (end .entry)) (now (dropped .entry)) clock)) ⌝ }
 {
     for i in 0..tasks {
-        if !task_sound(begin, finish, start, end, mark, dropped, clock, tasks, i) {
+        if !task_sound(
+            ready,
+            begin,
+            finish,
+            start,
+            end,
+            mark,
+            dropped,
+            clock,
+            tasks,
+            i,
+        ) {
             return false;
         }
     }
@@ -161,10 +178,12 @@ fn past_nothing<'a>(
 }
 
 pub fn is_sound<'a>(
+    edition: u8,
     boards: u8,
     tasks: u8,
     clock: u32,
     board: &'a [u8; 64],
+    ready: &'a [u32; 64],
     begin: &'a [u32; 64],
     finish: &'a [u32; 64],
     start: &'a [u32; 64],
@@ -174,16 +193,26 @@ pub fn is_sound<'a>(
     holds: &'a [u8; 2048],
     after: &'a [u8; 4096],
 ) -> bool
-    ensures { λ r. ⌜ r ≡ soundOn (planWith boards tasks (now (board .entry)) (now (begin .entry)) (now (finish .entry)) (now (holds .entry)) (now (after .entry))) (now (mark .entry)) (now (start .entry)) (now (end .entry)) (now (dropped .entry)) clock ⌝ }
+    ensures { λ r. ⌜ r ≡ soundOn (planWith edition boards tasks (now (board .entry)) (now (ready .entry)) (now (begin .entry)) (now (finish .entry)) (now (holds .entry)) (now (after .entry))) (now (mark .entry)) (now (start .entry)) (now (end .entry)) (now (dropped .entry)) clock ⌝ }
 {
-    if !is_accepted(boards, tasks, board, begin, finish, holds, after) {
+    if !is_accepted(
+        edition,
+        boards,
+        tasks,
+        board,
+        ready,
+        begin,
+        finish,
+        holds,
+        after,
+    ) {
         return false;
     }
     let n = tasks as usize;
     if !past_nothing(start, end, mark, dropped, n) {
         return false;
     }
-    if !tasks_sound(begin, finish, start, end, mark, dropped, clock, n) {
+    if !tasks_sound(ready, begin, finish, start, end, mark, dropped, clock, n) {
         return false;
     }
     clock == last_end(mark, end, n)

@@ -12,7 +12,7 @@ use borrow.Author.Tests.{eq-eqb, ne-eqb}
 use Rattle.laws.proofs.Cases.{by-le}
 use Rattle.laws.specs.Lists.{same}
 use Rattle.laws.specs.Split.{indexOf, before, after, skipOn, splitOn, consFirst}
-use Rattle.laws.proofs.Split.{index-le, split-found, split-none}
+use Rattle.laws.proofs.Split.{index-le, skip-suc, split-found, split-none}
 
 -- ---- a search
 
@@ -155,6 +155,26 @@ module _ (c : ℕ) (line : List ℕ) (n : ℕ) (rest part : List ℕ) (f : From 
         ∙ field-turn c rest more (suc m) _ (omega arith) (past-part c rest part e more q) (f .at (suc m))
         ∙ ap (λ (k : ℕ). getD (splitOn c line) k []) b;
   }
+
+-- the same by what is left
+pub skip-next :
+    (c n : ℕ) (line rest part : List ℕ) → rest ≡ skipOn c n line → part ≡ before c rest → {more : List ℕ}
+    → more ≡ drop (suc (length part)) rest → more ≡ skipOn c (suc n) line
+skip-next c n line rest part r e q = past-part c rest part e _ q ∙ ap (after c) r ∙ sym (skip-suc c n line)
+
+pub from-skip : (c : ℕ) (line : List ℕ) (n : ℕ) → From c line n (skipOn c n line)
+unfolding skipOn
+from-skip c line zero = from-start c line
+from-skip c line (suc n) = record {
+  at = λ m.
+      let a : m ≡ suc m - 1 = omega arith in
+      let b : n + suc m ≡ suc n + m = omega arith in
+      let more = after c (skipOn c n line) in
+      ap (λ (s : List ℕ). getD (splitOn c s) m []) (skip-suc c n line)
+      ∙ ap (λ (k : ℕ). getD (splitOn c more) k []) a
+      ∙ field-turn c (skipOn c n line) more (suc m) _ (omega arith) refl (from-skip c line n .at (suc m))
+      ∙ ap (λ (k : ℕ). getD (splitOn c line) k []) b;
+}
 
 -- ---- how many parts
 

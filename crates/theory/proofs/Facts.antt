@@ -1,12 +1,12 @@
 -- A sound book as facts, and a run of reports and drops.
 use mathlib.Core.Path.{_≡_}
 use mathlib.Core.Logic.{_≢_}
-use mathlib.Core.Bool.{Bool, true, cond}
+use mathlib.Core.Bool.{true, cond}
 use mathlib.Core.List.{List, [], _∷_}
-use Prim.Native.Nat.{ℕ, _+_, _≤_, _<_}
+use Prim.Native.Nat.{ℕ, _≤_, _<_}
 use lib.Dec.{eqb}
 use Rattle.theory.specs.Plan.{Plan}
-use Rattle.theory.specs.Book.{Book, limit, allEnded, due, lastEnd}
+use Rattle.theory.specs.Book.{Book, limit, allEnded, due, readyDue, lastEnd}
 use Rattle.theory.specs.Report.{reportCode, dropCode, next, dropIt}
 use Rattle.theory.specs.Events.{Event, ends, drops}
 
@@ -29,11 +29,11 @@ pub data TaskOk (Waits : ℕ → Type 0) (plan : Plan) (book : Book) (i : ℕ) :
       book .mark i ≡ 0 → book .dropped i ≤ 1 → Waits i → book .start i ≡ 0 → book .end i ≡ 0 → TaskOk Waits plan book i
   is-running :
       book .mark i ≡ 1 → book .dropped i ≡ 0 → allEnded plan (book .mark) i ≡ true
-      → book .start i ≡ due plan (book .end) i → book .end i ≡ 0 → book .clock ≤ limit plan book i
+      → book .start i ≡ readyDue plan (book .end) i → book .end i ≡ 0 → book .clock ≤ limit plan book i
       → TaskOk Waits plan book i
   has-ended :
       book .mark i ≡ 2 → book .dropped i ≡ 0 → allEnded plan (book .mark) i ≡ true
-      → book .start i ≡ due plan (book .end) i → book .start i < book .end i → book .end i ≤ limit plan book i
+      → book .start i ≡ readyDue plan (book .end) i → book .start i < book .end i → book .end i ≤ limit plan book i
       → book .end i ≤ book .clock → TaskOk Waits plan book i
   was-skipped :
       book .mark i ≡ 2 → book .dropped i ≡ 1 → Waiter plan i → allEnded plan (book .mark) i ≡ true

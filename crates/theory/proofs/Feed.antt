@@ -145,7 +145,8 @@ module _ (plan : Plan) (law : Lawful plan) (target : Book) (sound : Sound plan t
   first-before = record {
     clocks = omega (arith, next-clock plan book k (target .end k), end-by-clock (sound .task k task));
     ended-stay = ends;
-    started-stay = starts-in plan (next plan book k (target .end k)) target after-sound sound ends;
+    started-stay = λ j l.
+        starts-in plan (next plan book k (target .end k)) target after-sound sound ends j l (first-drops j l);
     drops-stay = λ j l h. sym (first-drops j l) ∙ h;
     new-ends = λ j l n h.
         by-le (target .end k) (target .end j)

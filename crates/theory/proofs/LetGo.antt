@@ -1,7 +1,7 @@
 -- Letting go whoever may go makes a book sound that was sound but for those who have just become free.
-use mathlib.Core.Path.{_≡_, refl, sym, _∙_}
+use mathlib.Core.Path.{_≡_, refl, sym, ap, _∙_}
 use mathlib.Core.Bool.{true, false}
-use Prim.Native.Nat.{ℕ, _≤_, _<_}
+use Prim.Native.Nat.{ℕ, _≤_, _<_, max}
 use native.Mathlib.Omega.{arith}
 use borrow.Author.Tests.{eq-eqb}
 use Rattle.laws.proofs.Cases.{by-bool, by-eq, true-false, and-of}
@@ -19,8 +19,8 @@ use Rattle.theory.proofs.Skip.{Halfway, goes-at, goes-of}
 -- what letting go does at a task
 pub data LetGoAt (plan : Plan) (book after : Book) (i : ℕ) : Type 0 where
   starts :
-      book .mark i ≡ 0 → allEnded plan (book .mark) i ≡ true → after .mark i ≡ 1 → after .start i ≡ book .clock
-      → LetGoAt plan book after i
+      book .mark i ≡ 0 → allEnded plan (book .mark) i ≡ true → after .mark i ≡ 1
+      → after .start i ≡ max (plan .ready i) (book .clock) → LetGoAt plan book after i
   stays :
       (book .mark i ≡ 0 → allEnded plan (book .mark) i ≡ false) → after .mark i ≡ book .mark i
       → after .start i ≡ book .start i → LetGoAt plan book after i
@@ -71,7 +71,8 @@ module _ (plan : Plan) (book : Book) where
           (i : ℕ) → i < plan .tasks → LetGoAt plan book (letGo plan book) i → TaskOk (FreeNow plan book) plan book i
           → TaskOk (Blocker plan ((letGo plan book) .mark)) plan (letGo plan book) i
       task i l (LetGoAt.starts z all m s) (TaskOk.is-waiting m′ d w s′ e) =
-          TaskOk.is-running m (kept i l z all d) (sym (let-go-all i) ∙ all) (s ∙ sym (w .since all)) e (omega arith)
+          TaskOk.is-running m (kept i l z all d) (sym (let-go-all i) ∙ all) (s ∙ ap (max (plan .ready i)) (sym (w .since all))) e
+          (omega arith)
       task i l (LetGoAt.starts z all m s) (TaskOk.is-running m′ d all′ s′ e c) = absurd (omega arith)
       task i l (LetGoAt.starts z all m s) (TaskOk.has-ended m′ d all′ s′ a f c) = absurd (omega arith)
       task i l (LetGoAt.starts z all m s) (TaskOk.was-skipped m′ d w all′ s′ e c) = absurd (omega arith)

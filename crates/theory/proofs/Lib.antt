@@ -16,3 +16,4 @@ pub mod Progress
 pub mod EarlyStart
 pub mod Feed
 pub mod Reach
+pub mod Unready

@@ -1,12 +1,12 @@
 -- A book moved on to a moment: whoever ended stays ended, and whoever ends by it ends at that moment.
-use mathlib.Core.Path.{_≡_, refl, sym, _∙_}
+use mathlib.Core.Path.{_≡_, refl, sym, ap, _∙_}
 use mathlib.Core.Logic.{_≢_}
 use mathlib.Core.Bool.{true}
-use Prim.Native.Nat.{ℕ, _≤_, _<_}
+use Prim.Native.Nat.{ℕ, _≤_, _<_, max}
 use Rattle.laws.proofs.Cases.{by-bool}
 use Rattle.laws.proofs.Latest.{latest-is, latest-same}
 use Rattle.theory.specs.Plan.{Plan}
-use Rattle.theory.specs.Book.{Book, allEnded, due}
+use Rattle.theory.specs.Book.{Book, allEnded, due, readyDue}
 use Rattle.theory.proofs.Facts.{Blocker, Waiter}
 use Rattle.theory.proofs.Reflect.{all-ended-at, blocker}
 use Rattle.theory.proofs.Task.{all-ended-more}
@@ -31,6 +31,10 @@ module _ {plan : Plan} {book after : Book} (on : Onward plan book after) where
   onward-due i all =
       latest-same (plan .tasks) _ _ _ _ (λ j l. refl)
       (λ j l w. sym ((on .stay j l (all-ended-at plan (book .mark) i all j l w)) .1))
+
+  pub onward-start :
+      (i : ℕ) → allEnded plan (book .mark) i ≡ true → readyDue plan (book .end) i ≡ readyDue plan (after .end) i
+  onward-start i all = ap (max (plan .ready i)) (onward-due i all)
 
   -- whoever is free by it is free since now
   pub onward-since : (i : ℕ) → Blocker plan (book .mark) i → allEnded plan (after .mark) i ≡ true → due plan (after .end) i ≡ after .clock

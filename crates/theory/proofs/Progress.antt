@@ -31,10 +31,10 @@ pub record Progress (plan : Plan) (book : Book) : Type 0 where
   pub taken : reportCode plan book who (limit plan book who) ≡ 0
 
 module _ (plan : Plan) (law : Lawful plan) (book : Book) (sound : Sound plan book) where
-  -- whoever waits has one before it that runs: by induction on the planned start
+  -- whoever waits has one planned before it that runs: by induction on the planned start
   runs-before :
       (n i : ℕ) → plan .begin i < n → i < plan .tasks → book .mark i ≢ 2
-      → (k : ℕ) × (k < plan .tasks) × (book .mark k ≡ 1)
+      → (k : ℕ) × (k < plan .tasks) × (book .mark k ≡ 1) × (plan .begin k ≤ plan .begin i)
   runs-before zero i f l h = absurd (omega arith)
   runs-before (suc n) i f l h =
       by-eq (book .mark i) 0
@@ -42,11 +42,14 @@ module _ (plan : Plan) (law : Lawful plan) (book : Book) (sound : Sound plan boo
       let b = waiting-why (sound .task i l) z in
       let a = law .before i (b .who) l (b .task) (b .held) in
       let p = law .lasts (b .who) (b .task) in
-      runs-before n (b .who) (omega arith) (b .task) (b .still))
-      (λ n0. let r = mark-range (sound .task i l) in (i, l, omega arith))
+      let r = runs-before n (b .who) (omega arith) (b .task) (b .still) in
+      (r .0, r .1, r .2, omega (arith, r .3)))
+      (λ n0. let r = mark-range (sound .task i l) in (i, l, omega arith, omega arith))
 
-  -- some task runs while one has not ended
-  pub some-runs : (i : ℕ) → i < plan .tasks → book .mark i ≢ 2 → (k : ℕ) × (k < plan .tasks) × (book .mark k ≡ 1)
+  -- some task runs while one has not ended, planned no later
+  pub some-runs :
+      (i : ℕ) → i < plan .tasks → book .mark i ≢ 2
+      → (k : ℕ) × (k < plan .tasks) × (book .mark k ≡ 1) × (plan .begin k ≤ plan .begin i)
   some-runs i l h = runs-before (suc (plan .begin i)) i (omega arith) l h
 
   -- a running task of least limit is accepted at its limit

@@ -172,13 +172,24 @@ drop-waits (TaskOk.is-running m d all s e c) o = absurd (omega arith)
 drop-waits (TaskOk.has-ended m d all s a f c) o = absurd (omega arith)
 drop-waits (TaskOk.was-skipped m d w all s e c) o = w
 
+-- so whoever starts when the book is opened is never dropped
+opened-kept :
+    (plan : Plan) (book : Book) → Sound plan book → (j : ℕ) → j < plan .tasks → (opened plan) .mark j ≢ 0 → book .dropped j ≡ 0
+opened-kept plan book sound j l n =
+    let r = drop-range (sound .task j l) in
+    by-eq (book .dropped j) 1
+    (λ d. absurd (n (opened-waits plan j l (drop-waits (sound .task j l) d))))
+    (λ o. omega arith)
+
 -- every sound book is later than the opened one
 pub opened-first : (plan : Plan) (book : Book) → Sound plan book → Later plan (opened plan) book
 unfolding opened
 opened-first plan book sound = record {
   clocks = omega arith;
   ended-stay = λ j l h. absurd (opened-none plan j l h);
-  started-stay = starts-in plan (opened plan) book (sound-opened plan) sound (λ j l h. absurd (opened-none plan j l h));
+  started-stay = λ j l n.
+      starts-in plan (opened plan) book (sound-opened plan) sound (λ i li h. absurd (opened-none plan i li h)) j l
+      (sym (opened-kept plan book sound j l n)) n;
   drops-stay = λ j l h. absurd (omega arith);
   new-ends = λ j l n h. omega arith;
 }

@@ -10,7 +10,7 @@ use Rattle.laws.proofs.Cases.{by-bool, by-eq, and-l, and-r, and-of, implies-at,
 use Rattle.laws.specs.Every.{implies, every, any}
 use Rattle.laws.proofs.Every.{every-at, every-of, every-fails, any-at, any-of}
 use Rattle.theory.specs.Plan.{Plan}
-use Rattle.theory.specs.Book.{Book, ended, running, waiting, isDropped, limit, allEnded, due, lastEnd}
+use Rattle.theory.specs.Book.{Book, ended, running, waiting, isDropped, limit, allEnded, due, readyDue, lastEnd}
 use Rattle.theory.proofs.Facts.{Blocker, Waiter, TaskOk, Sound}
 use Rattle.theory.specs.Book.{taskTest, soundTest, waitingOk, runningOk, endedOk, skippedOk}
 use Rattle.theory.specs.Report.{nonePast, reportCode, dropCode}
@@ -68,7 +68,7 @@ module _ (plan : Plan) (book : Book) where
         eq-eqb (book .mark i) 1 m,
         eq-eqb (book .dropped i) 0 d,
         all,
-        eq-eqb (book .start i) (due plan (book .end) i) s,
+        eq-eqb (book .start i) (readyDue plan (book .end) i) s,
         eq-eqb (book .end i) 0 e,
         le-leb (book .clock) (limit plan book i) c,
       )
@@ -81,7 +81,7 @@ module _ (plan : Plan) (book : Book) where
         ne-eqb (book .dropped i) 1 (omega arith),
         eq-eqb (book .dropped i) 0 d,
         all,
-        eq-eqb (book .start i) (due plan (book .end) i) s,
+        eq-eqb (book .start i) (readyDue plan (book .end) i) s,
         lt-ltb (book .start i) (book .end i) a,
         le-leb (book .end i) (limit plan book i) f,
         le-leb (book .end i) (book .clock) c,
@@ -108,19 +108,23 @@ module _ (plan : Plan) (book : Book) where
       TaskOk.is-waiting m d (blocker plan (book .mark) i (not-true _ (and-l _ _ h)))
       (eqb-true _ _ (and-l _ _ q)) (eqb-true _ _ (and-r (eqb (book .start i) 0) _ q))
 
-  running-at : (i : ℕ) → book .mark i ≡ 1 → runningOk plan book i ≡ true → TaskOk (Blocker plan (book .mark)) plan book i
+  running-at :
+      (i : ℕ) → book .mark i ≡ 1 → runningOk plan book i (readyDue plan (book .end) i) ≡ true
+      → TaskOk (Blocker plan (book .mark)) plan book i
   running-at i m h =
       let p = and-r (eqb (book .dropped i) 0) _ h in
       let q = and-r (allEnded plan (book .mark) i) _ p in
-      let r = and-r (eqb (book .start i) (due plan (book .end) i)) _ q in
+      let r = and-r (eqb (book .start i) (readyDue plan (book .end) i)) _ q in
       TaskOk.is-running m (eqb-true _ _ (and-l _ _ h)) (and-l _ _ p) (eqb-true _ _ (and-l _ _ q)) (eqb-true _ _ (and-l _ _ r))
       (leb-true _ _ (and-r (eqb (book .end i) 0) _ r))
 
-  ended-at : (i : ℕ) → book .mark i ≡ 2 → endedOk plan book i ≡ true → TaskOk (Blocker plan (book .mark)) plan book i
+  ended-at :
+      (i : ℕ) → book .mark i ≡ 2 → endedOk plan book i (readyDue plan (book .end) i) ≡ true
+      → TaskOk (Blocker plan (book .mark)) plan book i
   ended-at i m h =
       let p = and-r (eqb (book .dropped i) 0) _ h in
       let q = and-r (allEnded plan (book .mark) i) _ p in
-      let r = and-r (eqb (book .start i) (due plan (book .end) i)) _ q in
+      let r = and-r (eqb (book .start i) (readyDue plan (book .end) i)) _ q in
       let u = and-r (ltb (book .start i) (book .end i)) _ r in
       TaskOk.has-ended m (eqb-true _ _ (and-l _ _ h)) (and-l _ _ p) (eqb-true _ _ (and-l _ _ q)) (ltb-true _ _ (and-l _ _ r))
       (leb-true _ _ (and-l _ _ u)) (leb-true _ _ (and-r (leb (book .end i) (limit plan book i)) _ u))
@@ -136,7 +140,8 @@ module _ (plan : Plan) (book : Book) where
       (eqb-true _ _ (and-l _ _ r)) (leb-true _ _ (and-r (eqb (book .end i) (book .start i)) _ r))
 
   over-at :
-      (i : ℕ) → book .mark i ≡ 2 → cond (isDropped (book .dropped) i) (skippedOk plan book i) (endedOk plan book i) ≡ true
+      (i : ℕ) → book .mark i ≡ 2
+      → cond (isDropped (book .dropped) i) (skippedOk plan book i) (endedOk plan book i (readyDue plan (book .end) i)) ≡ true
       → TaskOk (Blocker plan (book .mark)) plan book i
   over-at i m h =
       by-eq (book .dropped i) 1
@@ -147,8 +152,9 @@ module _ (plan : Plan) (book : Book) where
   marked-at :
       (i : ℕ) → book .dropped i ≤ 1
       → cond (waiting (book .mark) i) (waitingOk plan book i)
-      (cond (running (book .mark) i) (runningOk plan book i)
-      (ended (book .mark) i && cond (isDropped (book .dropped) i) (skippedOk plan book i) (endedOk plan book i)))
+      (cond (running (book .mark) i) (runningOk plan book i (readyDue plan (book .end) i))
+      (ended (book .mark) i
+      && cond (isDropped (book .dropped) i) (skippedOk plan book i) (endedOk plan book i (readyDue plan (book .end) i))))
       ≡ true
       → TaskOk (Blocker plan (book .mark)) plan book i
   marked-at i d h =
@@ -158,7 +164,10 @@ module _ (plan : Plan) (book : Book) where
       by-eq (book .mark i) 1
       (λ m. running-at i m (rw (ne-eqb (book .mark i) 0 n0, eq-eqb (book .mark i) 1 m) at h))
       (λ n1.
-      let q : (ended (book .mark) i && cond (isDropped (book .dropped) i) (skippedOk plan book i) (endedOk plan book i)) ≡ true =
+      let q :
+      (ended (book .mark) i
+      && cond (isDropped (book .dropped) i) (skippedOk plan book i) (endedOk plan book i (readyDue plan (book .end) i)))
+      ≡ true =
       rw (ne-eqb (book .mark i) 0 n0, ne-eqb (book .mark i) 1 n1) at h in
       over-at i (eqb-true (book .mark i) 2 (and-l _ _ q)) (and-r (ended (book .mark) i) _ q)))
 

@@ -3,7 +3,7 @@ use mathlib.Core.Path.{_≡_, refl, sym, ap, _∙_, fun-ext}
 use mathlib.Core.Logic.{_≢_, _↔_, ⊎-elim}
 use mathlib.Core.Bool.{true}
 use mathlib.Core.List.{List, [], _∷_, List·Memᴰ, List·Memᴰ·head, List·Memᴰ·tail, List·Memᴰ·cases-cons}
-use Prim.Native.Nat.{ℕ, zero, suc, _<_}
+use Prim.Native.Nat.{ℕ, zero, suc, _<_, max}
 use native.Mathlib.Omega.{arith}
 use borrow.Author.Tests.{eq-eqb, ne-eqb}
 use Rattle.laws.proofs.Cases.{by-eq, by-le}
@@ -55,7 +55,7 @@ module _ (plan : Plan) (law : Lawful plan) (book other : Book) (sound : Sound pl
       let now′ = skipped-now (sound′ .task j l) n′ (sym (drops j l) ∙ d) in
       let e : due plan (other .end) j ≡ due plan (book .end) j =
       latest-same (plan .tasks) _ _ _ _ (λ i li. refl) (λ i li w. (there i li w) .1) in
-      (now′ .0, now′ .1 ∙ started-at (sound′ .task j l) n′ ∙ e ∙ sym (started-at (sound .task j l) n) ∙ sym (now .1))
+      (now′ .0, now′ .1 ∙ now′ .2 ∙ e ∙ sym (now .2) ∙ sym (now .1))
 
   ends-by :
       (n j : ℕ) → plan .begin j < n → j < plan .tasks → book .mark j ≡ 2 → (other .mark j ≡ 2) × (other .end j ≡ book .end j)
@@ -72,17 +72,24 @@ module _ (plan : Plan) (law : Lawful plan) (book other : Book) (sound : Sound pl
   pub ends-in : EndsIn plan book other
   ends-in j l m = ends-by (suc (plan .begin j)) j (omega arith) l m
 
--- then whoever has started in the one has started in the other, at the same tick
+-- then whoever has started in the one has started in the other, at the same tick, dropped in both or in neither
 pub starts-in :
     (plan : Plan) (book other : Book) → Sound plan book → Sound plan other → EndsIn plan book other → (j : ℕ)
-    → j < plan .tasks → book .mark j ≢ 0 → (other .mark j ≢ 0) × (other .start j ≡ book .start j)
-starts-in plan book other sound sound′ f j l n =
+    → j < plan .tasks → book .dropped j ≡ other .dropped j → book .mark j ≢ 0
+    → (other .mark j ≢ 0) × (other .start j ≡ book .start j)
+starts-in plan book other sound sound′ f j l drop n =
     let all = started-all (sound .task j l) n in
     let all′ = all-ended-more plan (book .mark) (other .mark) j (λ i li h. (f i li h) .0) all in
     let n′ = free-started (sound′ .task j l) all′ in
     let d : due plan (other .end) j ≡ due plan (book .end) j =
-    latest-same (plan .tasks) _ _ _ _ (λ i li. refl) (λ i li w. (f i li (all-ended-at plan (book .mark) j all i li w)) .1) in
-    (n′, started-at (sound′ .task j l) n′ ∙ d ∙ sym (started-at (sound .task j l) n))
+    latest-same (plan .tasks) _ _ _ _ (λ i li. refl) (λ i li w. (f i li (all-ended-at plan (book .mark) j all i li w)) .1) in (
+      n′,
+      by-eq (book .dropped j) 1
+          (λ o. (skipped-now (sound′ .task j l) n′ (sym drop ∙ o)) .2 ∙ d ∙ sym ((skipped-now (sound .task j l) n o) .2))
+          (λ o.
+          started-at (sound′ .task j l) n′ (λ e. o (drop ∙ e)) ∙ ap (max (plan .ready j)) d
+          ∙ sym (started-at (sound .task j l) n o)),
+    )
 
 -- a sound book is determined by its ends and drops
 module _ (plan : Plan) (book other : Book) (sound : Sound plan book) (sound′ : Sound plan other)
@@ -102,9 +109,9 @@ module _ (plan : Plan) (book other : Book) (sound : Sound plan book) (sound′ :
       (λ z.
       by-eq (other .mark i) 0
       (λ z′. (z ∙ sym z′, no-start (sound .task i l) z ∙ sym (no-start (sound′ .task i l) z′)))
-      (λ n′. absurd ((starts-in plan other book sound′ sound back i l n′) .0 z)))
+      (λ n′. absurd ((starts-in plan other book sound′ sound back i l (sym (drops i l)) n′) .0 z)))
       (λ n.
-      let s = starts-in plan book other sound sound′ there i l n in
+      let s = starts-in plan book other sound sound′ there i l (drops i l) n in
       by-eq (book .mark i) 2 (λ e. (e ∙ sym ((there i l e) .0), sym (s .1)))
       (λ n2.
       by-eq (other .mark i) 2 (λ e. absurd (n2 ((back i l e) .0)))

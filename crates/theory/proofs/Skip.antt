@@ -17,7 +17,7 @@ use Rattle.theory.specs.Book.{Book, ended, waiting, isDropped, allEnded,
 use Rattle.theory.proofs.Facts.{TaskOk}
 use Rattle.theory.specs.Report.{goes, skips, skipOnce, skipTimes}
 use Rattle.theory.proofs.Task.{end-by-clock, all-ended-more}
-use Rattle.theory.proofs.Onward.{FreeNow, Onward, onward-all, onward-due, onward-free}
+use Rattle.theory.proofs.Onward.{FreeNow, Onward, onward-all, onward-due, onward-start, onward-free}
 
 -- a book in which whoever is free to go has not gone yet
 pub record Halfway (plan : Plan) (book : Book) : Type 0 where
@@ -97,9 +97,9 @@ module _ (plan : Plan) (book : Book) where
         task i l (SkipAt.stays m s e) (TaskOk.is-waiting m′ d′ w s′ e′) =
             TaskOk.is-waiting (m ∙ m′) d′ (record { since = onward-free on i (w .since); some = w .some }) (s ∙ s′) (e ∙ e′)
         task i l (SkipAt.stays m s e) (TaskOk.is-running m′ d′ all′ s′ e′ c) =
-            TaskOk.is-running (m ∙ m′) d′ (onward-all on i all′) (s ∙ s′ ∙ onward-due on i all′) (e ∙ e′) (omega arith)
+            TaskOk.is-running (m ∙ m′) d′ (onward-all on i all′) (s ∙ s′ ∙ onward-start on i all′) (e ∙ e′) (omega arith)
         task i l (SkipAt.stays m s e) (TaskOk.has-ended m′ d′ all′ s′ a f c) =
-            TaskOk.has-ended (m ∙ m′) d′ (onward-all on i all′) (s ∙ s′ ∙ onward-due on i all′) (omega arith) (omega arith)
+            TaskOk.has-ended (m ∙ m′) d′ (onward-all on i all′) (s ∙ s′ ∙ onward-start on i all′) (omega arith) (omega arith)
             (omega arith)
         task i l (SkipAt.stays m s e) (TaskOk.was-skipped m′ d′ w all′ s′ e′ c) =
             TaskOk.was-skipped (m ∙ m′) d′ w (onward-all on i all′) (s ∙ s′ ∙ onward-due on i all′) (e ∙ e′ ∙ sym s) (omega arith)

@@ -1,10 +1,10 @@
 -- A report ends a task, skips the dropped ones that may go, then lets go whoever may go; a drop only marks a task. Soundness is
 -- kept, and what a report does at each task.
-use mathlib.Core.Path.{_≡_, refl, sym, _∙_}
+use mathlib.Core.Path.{_≡_, refl, sym, ap, _∙_}
 use mathlib.Core.Logic.{_≢_}
 use mathlib.Core.Bool.{true, false}
 use mathlib.Core.List.{List, [], _∷_}
-use Prim.Native.Nat.{ℕ, _≤_, _<_}
+use Prim.Native.Nat.{ℕ, _≤_, _<_, max}
 use native.Mathlib.Omega.{arith}
 use borrow.Author.Tests.{eq-eqb, ne-eqb}
 use Rattle.laws.proofs.Cases.{by-eq, and-no}
@@ -19,7 +19,7 @@ use Rattle.theory.specs.Events.{Event}
 use Rattle.theory.proofs.Facts.{stepTo, bookAfter, run}
 use Rattle.theory.proofs.Reflect.{Taken, code-taken, Said, said}
 use Rattle.theory.proofs.Task.{end-by-clock, waiting-why, no-start, no-end}
-use Rattle.theory.proofs.Onward.{FreeNow, Onward, onward-all, onward-due, onward-since}
+use Rattle.theory.proofs.Onward.{FreeNow, Onward, onward-all, onward-due, onward-start, onward-since}
 use Rattle.theory.proofs.Skip.{Halfway, halfway-skips, settled, SkippedAt, skips-at, skips-clock, skips-dropped}
 use Rattle.theory.proofs.LetGo.{LetGoAt, let-go-at, let-go-all, sound-let-go}
 
@@ -73,7 +73,7 @@ module _ (plan : Plan) (book : Book) (k tick : ℕ) (ok : Accepts plan book k ti
       task i l (EndAt.ends e m v) (TaskOk.is-running m′ d all s e′ c) =
           let p : book .start i < tick = rw e (ok .after) in
           let q : tick ≤ limit plan book i = rw e (ok .in-time) in
-          TaskOk.has-ended m d (onward-all on i all) (s ∙ onward-due on i all) (omega arith) (omega arith) (omega arith)
+          TaskOk.has-ended m d (onward-all on i all) (s ∙ onward-start on i all) (omega arith) (omega arith) (omega arith)
       task i l (EndAt.ends e m v) (TaskOk.has-ended m′ d all s a f c) =
           let q : book .mark i ≡ 1 = rw e (ok .runs) in absurd (omega arith)
       task i l (EndAt.ends e m v) (TaskOk.was-skipped m′ d w all s e′ c) =
@@ -82,9 +82,9 @@ module _ (plan : Plan) (book : Book) (k tick : ℕ) (ok : Accepts plan book k ti
           let some : Waiter plan i = record { who = w .who; task = w .task; held = w .held } in
           TaskOk.is-waiting (m ∙ m′) d (record { since = onward-since on i w; some = λ o. some }) s (v ∙ e′)
       task i l (EndAt.stays n m v) (TaskOk.is-running m′ d all s e′ c) =
-          TaskOk.is-running (m ∙ m′) d (onward-all on i all) (s ∙ onward-due on i all) (v ∙ e′) (ok .others i l m′)
+          TaskOk.is-running (m ∙ m′) d (onward-all on i all) (s ∙ onward-start on i all) (v ∙ e′) (ok .others i l m′)
       task i l (EndAt.stays n m v) (TaskOk.has-ended m′ d all s a f c) =
-          TaskOk.has-ended (m ∙ m′) d (onward-all on i all) (s ∙ onward-due on i all) (omega arith) (omega arith)
+          TaskOk.has-ended (m ∙ m′) d (onward-all on i all) (s ∙ onward-start on i all) (omega arith) (omega arith)
           (omega (arith, ok .now))
       task i l (EndAt.stays n m v) (TaskOk.was-skipped m′ d w all s e′ c) =
           TaskOk.was-skipped (m ∙ m′) d w (onward-all on i all) (s ∙ onward-due on i all) (v ∙ e′) (omega (arith, ok .now))
@@ -159,8 +159,8 @@ sound-run plan book (event ∷ later) sound = sound-run plan (bookAfter plan boo
 pub data AtTask (plan : Plan) (book : Book) (k tick : ℕ) (after : Book) (i : ℕ) : Type 0 where
   ends : i ≡ k → after .mark i ≡ 2 → after .start i ≡ book .start i → after .end i ≡ tick → AtTask plan book k tick after i
   starts :
-      i ≢ k → book .mark i ≡ 0 → allEnded plan (after .mark) i ≡ true → after .mark i ≡ 1 → after .start i ≡ tick
-      → after .end i ≡ book .end i → AtTask plan book k tick after i
+      i ≢ k → book .mark i ≡ 0 → allEnded plan (after .mark) i ≡ true → after .mark i ≡ 1
+      → after .start i ≡ max (plan .ready i) tick → after .end i ≡ book .end i → AtTask plan book k tick after i
   skipped :
       i ≢ k → book .mark i ≡ 0 → book .dropped i ≡ 1 → allEnded plan (after .mark) i ≡ true → after .mark i ≡ 2
       → after .start i ≡ tick → after .end i ≡ tick → AtTask plan book k tick after i
@@ -193,7 +193,8 @@ module _ (plan : Plan) (book : Book) (k tick : ℕ) where
       go (EndAt.stays n m v) (SkippedAt.skipped z d all m′ s v′) (LetGoAt.stays z″ m″ s″) =
           AtTask.skipped n (sym m ∙ z) d (sym (let-go-all plan half i) ∙ all) (m″ ∙ m′) (s″ ∙ s) v′
       go (EndAt.stays n m v) (SkippedAt.stays m′ s v′) (LetGoAt.starts z all m″ s″) =
-          AtTask.starts n (sym m ∙ sym m′ ∙ z) (sym (let-go-all plan half i) ∙ all) m″ (s″ ∙ half-clock) (v′ ∙ v)
+          AtTask.starts n (sym m ∙ sym m′ ∙ z) (sym (let-go-all plan half i) ∙ all) m″
+          (s″ ∙ ap (max (plan .ready i)) half-clock) (v′ ∙ v)
       go (EndAt.stays n m v) (SkippedAt.stays m′ s v′) (LetGoAt.stays z m″ s″) =
           by-eq (book .mark i) 0
           (λ w.

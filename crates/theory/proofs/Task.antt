@@ -7,7 +7,7 @@ use native.Mathlib.Omega.{arith}
 use borrow.Author.Tests.{eqb-true, eq-eqb}
 use Rattle.laws.proofs.Cases.{same-test}
 use Rattle.theory.specs.Plan.{Plan}
-use Rattle.theory.specs.Book.{Book, ended, limit, allEnded, due}
+use Rattle.theory.specs.Book.{Book, ended, limit, allEnded, due, readyDue}
 use Rattle.theory.proofs.Facts.{Blocker, TaskOk}
 use Rattle.theory.proofs.Reflect.{all-ended-at, all-ended-of}
 
@@ -36,11 +36,21 @@ module _ {Waits : ℕ → Type 0} {plan : Plan} {book : Book} {i : ℕ} where
   started-all (TaskOk.has-ended m d all s a f c) n = all
   started-all (TaskOk.was-skipped m d w all s e c) n = all
 
-  pub started-at : TaskOk Waits plan book i → book .mark i ≢ 0 → book .start i ≡ due plan (book .end) i
-  started-at (TaskOk.is-waiting m d w s e) n = absurd (n m)
-  started-at (TaskOk.is-running m d all s e c) n = s
-  started-at (TaskOk.has-ended m d all s a f c) n = s
-  started-at (TaskOk.was-skipped m d w all s e c) n = s
+  pub started-at :
+      TaskOk Waits plan book i → book .mark i ≢ 0 → book .dropped i ≢ 1 → book .start i ≡ readyDue plan (book .end) i
+  started-at (TaskOk.is-waiting m d w s e) n o = absurd (n m)
+  started-at (TaskOk.is-running m d all s e c) n o = s
+  started-at (TaskOk.has-ended m d all s a f c) n o = s
+  started-at (TaskOk.was-skipped m d w all s e c) n o = absurd (o d)
+
+  -- dropped or not, it starts between the latest of the ends it waits for and what it is due at if not dropped
+  pub started-between :
+      TaskOk Waits plan book i → book .mark i ≢ 0
+      → (due plan (book .end) i ≤ book .start i) × (book .start i ≤ readyDue plan (book .end) i)
+  started-between (TaskOk.is-waiting m d w s e) n = absurd (n m)
+  started-between (TaskOk.is-running m d all s e c) n = (omega arith, omega arith)
+  started-between (TaskOk.has-ended m d all s a f c) n = (omega arith, omega arith)
+  started-between (TaskOk.was-skipped m d w all s e c) n = (omega arith, omega arith)
 
   pub runs-on : TaskOk Waits plan book i → book .mark i ≡ 1 → book .clock ≤ limit plan book i
   runs-on (TaskOk.is-waiting m d w s e) z = absurd (omega arith)
@@ -69,12 +79,14 @@ module _ {Waits : ℕ → Type 0} {plan : Plan} {book : Book} {i : ℕ} where
   ended-after (TaskOk.has-ended m d all s a f c) z n = a
   ended-after (TaskOk.was-skipped m d w all s e c) z n = absurd (n d)
 
-  -- whoever was dropped took none
-  pub skipped-now : TaskOk Waits plan book i → book .mark i ≢ 0 → book .dropped i ≡ 1 → (book .mark i ≡ 2) × (book .end i ≡ book .start i)
+  -- whoever was dropped took none, and its ready tick is ignored
+  pub skipped-now :
+      TaskOk Waits plan book i → book .mark i ≢ 0 → book .dropped i ≡ 1
+      → (book .mark i ≡ 2) × (book .end i ≡ book .start i) × (book .start i ≡ due plan (book .end) i)
   skipped-now (TaskOk.is-waiting m d w s e) n o = absurd (n m)
   skipped-now (TaskOk.is-running m d all s e c) n o = absurd (omega arith)
   skipped-now (TaskOk.has-ended m d all s a f c) n o = absurd (omega arith)
-  skipped-now (TaskOk.was-skipped m d w all s e c) n o = (m, e)
+  skipped-now (TaskOk.was-skipped m d w all s e c) n o = (m, e, s)
 
   pub end-by-clock : TaskOk Waits plan book i → book .end i ≤ book .clock
   end-by-clock (TaskOk.is-waiting m d w s e) = omega arith

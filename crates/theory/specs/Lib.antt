@@ -3,3 +3,4 @@ pub mod Book
 pub mod Report
 pub mod Figure
 pub mod Events
+pub mod Unready

@@ -6,15 +6,18 @@ use lib.Dec.{leb}
 
 pub record Plan : Type 0 where
   pub tasks : ℕ
+  pub ready : ℕ → ℕ
   pub begin : ℕ → ℕ
   pub finish : ℕ → ℕ
   pub waits : ℕ → ℕ → Bool
 
 -- all that the promises ask of a plan
 pub record Lawful (plan : Plan) : Type 0 where
+  pub ready : (i : ℕ) → i < plan .tasks → plan .ready i ≤ plan .begin i
   pub lasts : (i : ℕ) → i < plan .tasks → plan .begin i < plan .finish i
   pub before : (i j : ℕ) → i < plan .tasks → j < plan .tasks → plan .waits i j ≡ true → plan .finish j ≤ plan .begin i
 
 -- Early Start: task i waits for each task j with planned finish j ≤ planned start i, on any board
-abbrev pub earlyStart : ℕ → (ℕ → ℕ) → (ℕ → ℕ) → Plan
-earlyStart tasks begin finish = record { tasks = tasks; begin = begin; finish = finish; waits = λ i j. leb (finish j) (begin i) }
+abbrev pub earlyStart : ℕ → (ℕ → ℕ) → (ℕ → ℕ) → (ℕ → ℕ) → Plan
+earlyStart tasks ready begin finish =
+    record { tasks = tasks; ready = ready; begin = begin; finish = finish; waits = λ i j. leb (finish j) (begin i) }

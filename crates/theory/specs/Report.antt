@@ -1,6 +1,6 @@
 -- Reports and drops: their refusal numbers and the book after them; opening.
 use mathlib.Core.Bool.{Bool, not, cond, _&&_, _||_}
-use Prim.Native.Nat.{ℕ, zero, suc}
+use Prim.Native.Nat.{ℕ, zero, suc, max}
 use lib.Dec.{leb, ltb, eqb}
 use Rattle.laws.specs.Every.{implies, every}
 use Rattle.theory.specs.Plan.{Plan}
@@ -54,11 +54,12 @@ unfoldable pub skipTimes : ℕ → Plan → Book → Book
 skipTimes zero plan book = book
 skipTimes (suc n) plan book = skipTimes n plan (skipOnce plan book)
 
--- whoever may go starts at the clock
+-- whoever may go starts at the later of its ready tick and the clock: the start is fixed, even if it lies past the clock
 abbrev pub letGo : Plan → Book → Book
 letGo plan book =
     let going = put (goes plan book) in
-    bookOf (going 1 (book .mark)) (going (book .clock) (book .start)) (book .end) (book .dropped) (book .clock)
+    bookOf (going 1 (book .mark)) (λ i. going (max (plan .ready i) (book .clock)) (book .start) i) (book .end) (book .dropped)
+    (book .clock)
 
 -- the book after an accepted report: end it, skip the dropped tasks that may go, let go whoever may go.
 -- No chain is longer than there are tasks
@@ -73,6 +74,6 @@ dropIt book k = bookOf (book .mark) (book .start) (book .end) (putAt k 1 (book .
 abbrev pub blank : Book
 blank = bookOf (λ i. 0) (λ i. 0) (λ i. 0) (λ i. 0) 0
 
--- A task that waits for nobody starts at tick 0
+-- A task that waits for nobody starts at its ready tick
 unfoldable pub opened : Plan → Book
 opened plan = letGo plan blank

@@ -23,6 +23,7 @@ use Rattle.view.specs.View.{planFor}
 pub record TaskFacts (plan : Plan) (k : ℕ) : Type 0 where
   pub board-from : 0 < at (plan .board) k
   pub board-to : at (plan .board) k ≤ plan .boards
+  pub ready : at (plan .ready) k ≤ at (plan .begin) k
   pub lasts : at (plan .begin) k < at (plan .finish) k
   pub by-most : at (plan .finish) k ≤ 1000000
 
@@ -47,7 +48,7 @@ module _ (plan : Plan) (ok : isAccepted plan ≡ true) where
   task-facts : (k : ℕ) → k < plan .tasks → TaskFacts plan k
   task-facts k l =
       let t = task-fits (plan .boards) (plan .tasks) (taskAt plan k) (task-kept plan k (ranges .kept k l) .task) in
-      record { board-from = t .board .0; board-to = t .board .1; lasts = t .runs; by-most = t .ends }
+      record { board-from = t .board .0; board-to = t .board .1; ready = t .ready; lasts = t .runs; by-most = t .ends }
 
   pub plan-facts : PlanFacts plan
   plan-facts = record {
@@ -62,7 +63,11 @@ module _ (plan : Plan) (ok : isAccepted plan ≡ true) where
 
   -- an accepted plan is lawful
   pub plan-lawful : theory-plan.Lawful (planFor plan)
-  plan-lawful = record { lasts = λ k l. task-facts k l .lasts; before = λ i j li lj w. leb-true _ _ w }
+  plan-lawful = record {
+    ready = λ k l. task-facts k l .ready;
+    lasts = λ k l. task-facts k l .lasts;
+    before = λ i j li lj w. leb-true _ _ w;
+  }
 
 -- of two tasks that do not overlap one waits for the other
 apart : (a b c d : ℕ) → (ltb a d && ltb c b) ≡ false → (leb d a ≡ true) ⊎ (leb b c ≡ true)

@@ -6,7 +6,6 @@ use mathlib.Core.Path.{_≡_, sym, _∙_}
 use lib.ListN.{length, replicate, length-replicate, getD-replicate, List·getD-eq-default}
 use lib.Seq.{ext-getD}
 use Rattle.laws.proofs.Cases.{by-le}
-use Rattle.laws.specs.Each.{each}
 use Rattle.laws.proofs.Each.{length-each, each-past, each-below, each-idle}
 use Rattle.laws.proofs.Rows.{each-same}
 use Rattle.plan.specs.Value.{at}

@@ -1,13 +1,12 @@
 -- Tests and folds over tasks look no further than an array's places.
-use Prim.Native.Nat.{ℕ, zero, suc, _<_, _≤_, min}
+use Prim.Native.Nat.{ℕ, zero, suc, _≤_, min}
 use native.Mathlib.Omega.{arith}
-use mathlib.Core.Bool.{Bool, true, false}
+use mathlib.Core.Bool.{Bool, true}
 use mathlib.Core.List.{List}
-use mathlib.Core.Path.{_≡_, refl, sym, ap, _∙_}
+use mathlib.Core.Path.{_≡_, sym, ap, _∙_}
 use lib.ListN.{length, List·getD-eq-default}
 use Rattle.laws.proofs.Cases.{by-eq, by-le}
 use Rattle.laws.specs.Every.{every}
-use Rattle.laws.specs.Picked.{least}
 use Rattle.plan.specs.Value.{at}
 
 -- past its last place a list holds nothing
@@ -29,11 +28,6 @@ module _ (A : Type 0) (most : ℕ) (fold : ℕ → A) (stays : (n : ℕ) → mos
       (λ h. let e : min n most ≡ most = omega arith in ap fold e ∙ sym (onward n (omega arith)))
 
 module _ (most n : ℕ) where
-  pub least-short :
-      (w : ℕ → Bool) (f : ℕ → ℕ) → ((j : ℕ) → most ≤ j → w j ≡ false) → least (min n most) w f ≡ least n w f
-  unfolding least
-  least-short w f none = short _ most (λ m. least m w f) (λ m h. rw (none m h)) n
-
   pub every-short : (p : ℕ → Bool) → ((j : ℕ) → most ≤ j → p j ≡ true) → every (min n most) p ≡ every n p
   unfolding every
   every-short p all = short _ most (λ m. every m p) (λ m h. rw (all m h)) n

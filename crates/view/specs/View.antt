@@ -11,11 +11,11 @@ use Rattle.plan.specs.Value.{at}
 use Rattle.plan.specs.declared.Plan.{Plan}
 
 -- Task i waits for each task j with planned finish j ≤ planned start i, on any board
-abbrev pub planSeen : ℕ → List ℕ → List ℕ → theory-plan.Plan
-planSeen tasks begin finish = earlyStart tasks (at begin) (at finish)
+abbrev pub planSeen : ℕ → List ℕ → List ℕ → List ℕ → theory-plan.Plan
+planSeen tasks ready begin finish = earlyStart tasks (at ready) (at begin) (at finish)
 
 abbrev pub planFor : Plan → theory-plan.Plan
-planFor plan = planSeen (plan .tasks) (plan .begin) (plan .finish)
+planFor plan = planSeen (plan .tasks) (plan .ready) (plan .begin) (plan .finish)
 
 abbrev pub bookSeen : List ℕ → List ℕ → List ℕ → List ℕ → ℕ → theory-book.Book
 bookSeen mark start end dropped clock = bookOf (at mark) (at start) (at end) (at dropped) clock

@@ -1,12 +1,22 @@
-// What several tests of a book ask: a task's limit, ticks wide enough to be compared with it, the places of the tasks.
+// What several functions on a book ask: a task's start and limit, ticks wide enough to be compared with it, the places of the tasks.
 ghost use mathlib.Core.Path.{_≡_};
-ghost use Prim.Native.Nat.{_+_, _-_, min};
+ghost use Prim.Native.Nat.{_+_, _-_, min, max};
 ghost use lib.ListN.{length};
 
 pub fn wide(tick: u32) -> u64
     ensures { λ r. ⌜ r ≡ tick ⌝ }
 {
     tick as u64
+}
+
+// A task starts at the later of its ready tick and the latest end of those it waits for.
+pub fn start_of(ready: u32, end: u32) -> u32
+    ensures { λ r. ⌜ r ≡ max ready end ⌝ }
+{
+    if ready < end {
+        return end;
+    }
+    ready
 }
 
 // A task's limit is its start + length.

@@ -1,6 +1,6 @@
 -- A text written part by part into lent bytes, and how long a number is.
 use Prim.Native.Nat.{ℕ, _+_}
-use mathlib.Core.Path.{_≡_, ap, _∙_}
+use mathlib.Core.Path.{_≡_, refl, ap, _∙_}
 use mathlib.Core.List.{List, [], _∷_, _++_, append-assoc, append-nil}
 use native.Mathlib.Omega.{arith}
 use lib.ListN.{length, length-append}
@@ -15,6 +15,9 @@ use Rattle.writer.specs.private.WriteParts.{Room, Wrote}
 pub whole : {m : List ℕ} {p : ℕ} {xs m′ : List ℕ} {p′ : ℕ} → Room m p xs → Put m p xs m′ p′ → Wrote m p xs m′ p′
 whole {m} {p} {xs} h w =
     let e = le-leb (p + length xs) (length m) (h .fits) in record { place = w .place ∙ rw e; bytes = w .bytes ∙ rw e }
+
+pub nothing : (out : List ℕ) (at : ℕ) → Wrote out at [] out at
+nothing out at = record { place = omega arith; bytes = refl }
 
 pub also :
     {out : List ℕ} {at : ℕ} {xs m : List ℕ} {p : ℕ} {ys m′ : List ℕ} {p′ : ℕ} → Wrote out at xs m p → Wrote m p ys m′ p′

@@ -1,30 +1,31 @@
 -- The parts of a plan text, measured and written.
 use Prim.Native.Nat.{ℕ, zero, suc, _+_, _-_, _*_, _/_, _≤_, _<_}
 use mathlib.Core.Path.{_≡_, refl, sym, ap, _∙_}
-use mathlib.Core.Bool.{Bool, true, false, not, cond, _&&_}
+use mathlib.Core.Bool.{Bool, true, false, not, cond}
 use mathlib.Core.List.{List, [], _∷_, _++_, map, append-assoc, append-nil}
 use native.Mathlib.Omega.{arith}
 use native.Mathlib.Numerals.{add-one}
 use lib.ListN.{length, getD, take, drop, drop-of-length-le, length-append, length-take}
 use lib.Seq.{length-sets, drop-cons}
-use lib.Dec.{leb}
-use borrow.Author.Tests.{leb-true, le-ltb, lt-ltb, not-true, not-false}
-use Rattle.laws.proofs.Cases.{by-eq, and-l, and-r}
+use lib.Dec.{eqb}
+use borrow.Author.Tests.{eq-eqb, ne-eqb, le-ltb, lt-ltb, not-true, not-false}
+use Rattle.laws.proofs.Cases.{by-eq, and-l}
 use Rattle.laws.specs.Digits.{digitsOf}
-use Rattle.laws.specs.Every.{every}
 use Rattle.laws.specs.Split.{indexOf, joinOn}
-use Rattle.text.specs.Items.{COMMA, NONE, between, isShared, listText}
+use Rattle.text.specs.Items.{COMMA, NONE, isShared, listText}
 use Rattle.text.proofs.ListFields.{holdsText, afterText}
-use Rattle.text.specs.Line.{TAB, LF}
+use Rattle.text.specs.Bytes.{bytes}
+use Rattle.text.specs.Line.{TAB, LF, lineText}
 use Rattle.plan.specs.Answer.{isGranted}
 use Rattle.plan.specs.Task.{Task}
 use Rattle.plan.specs.Judged.{tasksAnswer}
-use Rattle.plan.specs.Value.{row, items, taskAt, keptOk, pastBlank, rangesOk, isAccepted}
-use Rattle.plan.specs.Write.{sizesText, taskText, taskTexts, textOf, writeAnswer, writtenOf, bufferAfter}
-use Rattle.writer.specs.private.WriteParts.{itemText, numberField, listField, numbersText, Measured, Room, Wrote, answered}
+use Rattle.plan.specs.Value.{row, items, taskAt, rangesOk, isAccepted}
+use Rattle.plan.proofs.PlanTasks.{ranges-kept}
+use Rattle.plan.specs.Write.{sizesText, fieldsFrom, taskText, taskTexts, textOf, writeAnswer, writtenOf, bufferAfter}
+use Rattle.writer.specs.private.WriteParts.{itemText, numberField, listField, readyField, numbersText, Measured, Room, Wrote, answered, Answered}
 use Rattle.plan.specs.declared.Plan.{Plan}
 use Rattle.plan.specs.declared.Written.{Written}
-use Rattle.writer.proofs.RunLaws.{Left, joined, two, all-left, next-room, turn, parted, done}
+use Rattle.writer.proofs.RunLaws.{nothing, Left, joined, two, all-left, next-room, turn, parted, done}
 
 -- ---- the items of a list
 
@@ -111,108 +112,135 @@ few-items width k l h =
 -- ---- lines
 
 pub numbers-text :
-    (number board begin finish : ℕ)
-    → numbersText number board begin finish
-    ≡ joined (numberField number TAB ∷ numberField board TAB ∷ numberField begin TAB ∷ numberField finish TAB ∷ [])
+    (edition number board ready begin finish : ℕ)
+    → numbersText edition number board ready begin finish
+    ≡ joined (numberField number TAB ∷ numberField board TAB ∷ readyField edition ready ∷ numberField begin TAB ∷ numberField finish TAB ∷ [])
 unfolding numbersText joined
-numbers-text number board begin finish = simp append-nil
+numbers-text edition number board ready begin finish = simp append-nil
 
-abbrev taskParts : ℕ → Task → List (List ℕ)
-taskParts number task =
+abbrev taskParts : ℕ → ℕ → Task → List (List ℕ)
+taskParts edition number task =
     (116 ∷ 97 ∷ 115 ∷ 107 ∷ 9 ∷ [])
-    ∷ numbersText number (task .board) (task .begin) (task .finish)
+    ∷ numbersText edition number (task .board) (task .ready) (task .begin) (task .finish)
     ∷ listField true (task .holds) TAB
     ∷ listField false (task .after) LF
     ∷ []
 
-pub task-text : (number : ℕ) (task : Task) → taskText number task ≡ joined (taskParts number task)
-unfolding taskText joinOn numbersText joined
-task-text number task = simp (append-assoc, append-nil)
+pub task-text : (edition number : ℕ) (task : Task) → taskText edition number task ≡ joined (taskParts edition number task)
+unfolding taskText joinOn readyField numbersText joined
+task-text edition number task = go (eqb edition 2)
+  where
+    go :
+        (stands : Bool)
+        → lineText
+        (bytes "task" ∷ digitsOf number ∷ digitsOf (task .board)
+        ∷ cond stands (digitsOf (task .ready) ∷ fieldsFrom task) (fieldsFrom task))
+        ≡ joined
+        ((116 ∷ 97 ∷ 115 ∷ 107 ∷ 9 ∷ [])
+        ∷ (numberField number TAB
+        ++ (numberField (task .board) TAB
+        ++ (cond stands (numberField (task .ready) TAB) [] ++ (numberField (task .begin) TAB ++ numberField (task .finish) TAB))))
+        ∷ listField true (task .holds) TAB
+        ∷ listField false (task .after) LF
+        ∷ [])
+    go true = simp (append-assoc, append-nil)
+    go false = simp (append-assoc, append-nil)
 
-abbrev sizesParts : ℕ → ℕ → List (List ℕ)
-sizesParts boards tasks =
-    (112 ∷ 108 ∷ 97 ∷ 110 ∷ 9 ∷ 49 ∷ 9 ∷ []) ∷ numberField boards TAB ∷ numberField tasks LF ∷ []
+abbrev sizesParts : ℕ → ℕ → ℕ → List (List ℕ)
+sizesParts edition boards tasks =
+    (112 ∷ 108 ∷ 97 ∷ 110 ∷ 9 ∷ []) ∷ numberField edition TAB ∷ numberField boards TAB ∷ numberField tasks LF ∷ []
 
-pub sizes-text : (boards tasks : ℕ) → sizesText boards tasks ≡ joined (sizesParts boards tasks)
+pub sizes-text : (edition boards tasks : ℕ) → sizesText edition boards tasks ≡ joined (sizesParts edition boards tasks)
 unfolding sizesText joinOn joined
-sizes-text boards tasks = simp (append-assoc, append-nil)
+sizes-text edition boards tasks = simp (append-assoc, append-nil)
 
 -- ---- and their lengths
 
+module _ (edition ready : ℕ) where
+  pub ready-stands : edition ≡ 2 → readyField edition ready ≡ numberField ready TAB
+  unfolding readyField
+  ready-stands e = rw (eq-eqb edition 2 e)
+
+  pub ready-none : (edition ≡ 2 → ⊥) → readyField edition ready ≡ []
+  unfolding readyField
+  ready-none n = rw (ne-eqb edition 2 n)
+
 pub numbers-length :
-    (number board begin finish : ℕ)
-    → length (numbersText number board begin finish)
-    ≡ length (digitsOf number) + length (digitsOf board) + length (digitsOf begin) + length (digitsOf finish) + 4
+    (edition number board ready begin finish : ℕ)
+    → length (numbersText edition number board ready begin finish)
+    ≡ length (digitsOf number)
+    + length (digitsOf board)
+    + length (readyField edition ready)
+    + length (digitsOf begin)
+    + length (digitsOf finish)
+    + 4
 unfolding numbersText
-numbers-length number board begin finish = simp length-append (omega arith)
+numbers-length edition number board ready begin finish = simp length-append (omega arith)
 
 pub sizes-length :
-    (boards tasks : ℕ) {b t : ℕ} → b ≡ boards → t ≡ tasks
-    → length (sizesText boards tasks) ≡ 9 + length (digitsOf b) + length (digitsOf t)
+    (edition boards tasks : ℕ) {e b t : ℕ} → e ≡ edition → b ≡ boards → t ≡ tasks
+    → length (sizesText edition boards tasks) ≡ 8 + length (digitsOf e) + length (digitsOf b) + length (digitsOf t)
 unfolding joined
-sizes-length boards tasks p q = rw (p, q, sizes-text) (simp length-append (omega arith))
+sizes-length edition boards tasks d p q = rw (d, p, q, sizes-text) (simp length-append (omega arith))
 
 pub task-length :
-    (number : ℕ) (task : Task)
-    → length (taskText number task)
+    (edition number : ℕ) (task : Task)
+    → length (taskText edition number task)
     ≡ 7
-    + length (numbersText number (task .board) (task .begin) (task .finish))
+    + length (numbersText edition number (task .board) (task .ready) (task .begin) (task .finish))
     + length (holdsText (task .holds))
     + length (afterText (task .after))
 unfolding joined
-task-length number task = rw task-text (simp length-append (omega arith))
+task-length edition number task = rw task-text (simp length-append (omega arith))
 
 -- ---- the lines of all tasks
 
-module _ (task : ℕ → Task) where
-  pub texts-turn : (k : ℕ) → taskTexts task (k + 1) ≡ taskTexts task k ++ taskText (k + 1) (task k)
+module _ (edition : ℕ) (task : ℕ → Task) where
+  pub texts-turn : (k : ℕ) → taskTexts edition task (k + 1) ≡ taskTexts edition task k ++ taskText edition (k + 1) (task k)
   unfolding taskTexts
-  texts-turn k = ap (taskTexts task) (add-one k)
+  texts-turn k = ap (taskTexts edition task) (add-one k)
 
   pub texts-length :
-      (k : ℕ) → length (taskTexts task (k + 1)) ≡ length (taskTexts task k) + length (taskText (k + 1) (task k))
-  texts-length k = rw texts-turn (length-append (taskTexts task k) (taskText (k + 1) (task k)))
+      (k : ℕ) → length (taskTexts edition task (k + 1)) ≡ length (taskTexts edition task k) + length (taskText edition (k + 1) (task k))
+  texts-length k = rw texts-turn (length-append (taskTexts edition task k) (taskText edition (k + 1) (task k)))
 
   -- the walk has come to the last
-  pub all-length : {n k x : ℕ} → k ≤ n → n ≤ k → x ≡ length (taskTexts task k) → x ≡ length (taskTexts task n)
+  pub all-length : {n k x : ℕ} → k ≤ n → n ≤ k → x ≡ length (taskTexts edition task k) → x ≡ length (taskTexts edition task n)
   all-length {n} {k} h g e = let q : n ≡ k = omega arith in rw q e
 
-  texts-le : (n k : ℕ) → k ≤ n → length (taskTexts task k) ≤ length (taskTexts task n)
+  texts-le : (n k : ℕ) → k ≤ n → length (taskTexts edition task k) ≤ length (taskTexts edition task n)
   unfolding taskTexts
   texts-le zero k h = let e : k ≡ 0 = omega arith in rw e (omega arith)
   texts-le (suc n) k h =
       by-eq k (suc n)
       (λ e. rw e (omega arith))
       (λ ne.
-      omega (arith, texts-le n k (omega arith), length-append (taskTexts task n) (taskText (n + 1) (task n))))
+      omega (arith, texts-le n k (omega arith), length-append (taskTexts edition task n) (taskText edition (n + 1) (task n))))
 
   module _ {out : List ℕ} {at : ℕ} (n k : ℕ) {m : List ℕ} {p : ℕ} where
     pub task-room :
-        k < n → Room out at (taskTexts task n) → Wrote out at (taskTexts task k) m p → Room m p (taskText (k + 1) (task k))
+        k < n → Room out at (taskTexts edition task n) → Wrote out at (taskTexts edition task k) m p → Room m p (taskText edition (k + 1) (task k))
     task-room h r w =
         record {
           fits = rw (w .bytes, w .place, length-sets)
               (omega (arith, r .fits, texts-length k, texts-le n (k + 1) (omega arith)));
         }
 
-    pub all-written : k ≤ n → n ≤ k → Wrote out at (taskTexts task k) m p → Wrote out at (taskTexts task n) m p
+    pub all-written : k ≤ n → n ≤ k → Wrote out at (taskTexts edition task k) m p → Wrote out at (taskTexts edition task n) m p
     all-written h g w = let q : n ≡ k = omega arith in rw q w
 
-  pub none-written : (out : List ℕ) (at : ℕ) → Wrote out at (taskTexts task 0) out at
+  pub none-written : (out : List ℕ) (at : ℕ) → Wrote out at (taskTexts edition task 0) out at
   unfolding taskTexts
-  none-written out at = record { place = omega arith; bytes = refl }
+  none-written out at = nothing out at
 
 -- ---- the three answers
 
 module _ (plan : Plan) where
   abbrev head : List ℕ
-  head = sizesText (plan .boards) (plan .tasks)
+  head = sizesText (plan .edition) (plan .boards) (plan .tasks)
 
   abbrev body : List ℕ
-  body = taskTexts (taskAt plan) (plan .tasks)
-
-  abbrev kept : Bool
-  kept = every (plan .tasks) (keptOk plan) && pastBlank plan
+  body = taskTexts (plan .edition) (taskAt plan) (plan .tasks)
 
   text-is : textOf plan ≡ joined (head ∷ body ∷ [])
   unfolding textOf
@@ -222,51 +250,44 @@ module _ (plan : Plan) where
   unfolding textOf
   text-length = length-append head body
 
-  -- the writer's answer and the bytes after it
-  abbrev pub Answered : List ℕ → Written → List ℕ → Type 0
-  Answered out r written = (r ≡ writtenOf plan (length out)) × (written ≡ bufferAfter plan out)
+  pub yes-accepted : {accepted : Bool} → accepted ≡ isAccepted plan → not accepted ≡ false → isAccepted plan ≡ true
+  yes-accepted {accepted} e h = sym e ∙ not-false accepted h
 
-  module _ {accepted : Bool} (e : accepted ≡ isAccepted plan) (out : List ℕ) where
-    pub nine : {r : Written} → not accepted ≡ true → r ≡ answered 9 0 0 → Answered out r out
+  pub few-tasks : isAccepted plan ≡ true → plan .tasks ≤ 64
+  unfolding isAccepted
+  few-tasks ok = ranges-kept plan (and-l (rangesOk plan) (isGranted (tasksAnswer (plan .tasks) (taskAt plan))) ok) .tasks .1
+
+  module _ (out : List ℕ) where
+    pub nine :
+        {accepted : Bool} {r : Written} → accepted ≡ isAccepted plan → not accepted ≡ true → r ≡ answered 9 0 0
+        → Answered plan out r out
     unfolding writtenOf bufferAfter writeAnswer
-    nine h q = let f : isAccepted plan ≡ false = sym e ∙ not-true accepted h in (q ∙ rw f, rw f)
+    nine {accepted} e h q = let f : isAccepted plan ≡ false = sym e ∙ not-true accepted h in (q ∙ rw f, rw f)
 
-    module _ (h : not accepted ≡ false) where
-      yes-accepted : isAccepted plan ≡ true
-      yes-accepted = sym e ∙ not-false accepted h
+    module _ (ok : isAccepted plan ≡ true) {x y m n : ℕ} (p : Measured head x m) (q : Measured body y n) where
+      pub sixteen : {r : Written} → length out < m + n → r ≡ answered 16 (m + n) 0 → Answered plan out r out
+      unfolding writtenOf bufferAfter writeAnswer
+      sixteen l s =
+          let f : m + n ≡ length (textOf plan) = omega (arith, p .is, q .is, text-length) in
+          let short = lt-ltb (length out) (length (textOf plan)) (omega arith) in
+          (s ∙ rw (f, ok, short), rw (ok, short))
 
-      pub few-tasks : plan .tasks ≤ 64
-      unfolding isAccepted rangesOk
-      few-tasks =
-          let ranges = and-l (rangesOk plan) (isGranted (tasksAnswer (plan .tasks) (taskAt plan))) yes-accepted in
-          let sizes = and-r (between 1 8 (plan .boards)) (between 1 64 (plan .tasks) && kept) ranges in
-          leb-true (plan .tasks) 64
-          (and-r (leb 1 (plan .tasks)) (leb (plan .tasks) 64) (and-l (between 1 64 (plan .tasks)) kept sizes))
+      module _ (l : m + n ≤ length out) where
+        begun : Left out 0 (textOf plan) out 0 (head ∷ body ∷ [])
+        begun = all-left _ text-is (record { fits = omega (arith, p .is, q .is, text-length) })
 
-      module _ {x y m n : ℕ} (p : Measured head x m) (q : Measured body y n) where
-        pub sixteen : {r : Written} → length out < m + n → r ≡ answered 16 (m + n) 0 → Answered out r out
-        unfolding writtenOf bufferAfter writeAnswer
-        sixteen l s =
-            let f : m + n ≡ length (textOf plan) = omega (arith, p .is, q .is, text-length) in
-            let short = lt-ltb (length out) (length (textOf plan)) (omega arith) in
-            (s ∙ rw (f, yes-accepted, short), rw (yes-accepted, short))
+        pub head-room : Room out 0 head
+        head-room = next-room begun
 
-        module _ (l : m + n ≤ length out) where
-          begun : Left out 0 (textOf plan) out 0 (head ∷ body ∷ [])
-          begun = all-left _ text-is (record { fits = omega (arith, p .is, q .is, text-length) })
+        module _ {written : List ℕ} {at : ℕ} (v : Wrote out 0 head written at) where
+          pub body-room : Room written at body
+          body-room = next-room (turn begun v)
 
-          pub head-room : Room out 0 head
-          head-room = next-room begun
-
-          module _ {written : List ℕ} {at : ℕ} (v : Wrote out 0 head written at) where
-            pub body-room : Room written at body
-            body-room = next-room (turn begun v)
-
-            pub granted-text :
-                {written′ : List ℕ} {at′ : ℕ} {r : Written} → Wrote written at body written′ at′ → r ≡ answered 0 0 (m + n)
-                → Answered out r written′
-            unfolding writtenOf bufferAfter writeAnswer
-            granted-text w s =
-                let f : m + n ≡ length (textOf plan) = omega (arith, p .is, q .is, text-length) in
-                let long = le-ltb (length out) (length (textOf plan)) (omega arith) in
-                (s ∙ rw (f, yes-accepted, long), rw (yes-accepted, long) (done (turn (turn begun v) w) .bytes))
+          pub granted-text :
+              {written′ : List ℕ} {at′ : ℕ} {r : Written} → Wrote written at body written′ at′ → r ≡ answered 0 0 (m + n)
+              → Answered plan out r written′
+          unfolding writtenOf bufferAfter writeAnswer
+          granted-text w s =
+              let f : m + n ≡ length (textOf plan) = omega (arith, p .is, q .is, text-length) in
+              let long = le-ltb (length out) (length (textOf plan)) (omega arith) in
+              (s ∙ rw (f, ok, long), rw (ok, long) (done (turn (turn begun v) w) .bytes))

@@ -17,10 +17,9 @@ ghost use Prim.Native.Nat.{_+_, _*_, _<_, _≤_};
 ghost use lib.ListN.{length, take, drop};
 ghost use Rattle.laws.specs.Digits.{digitsOf};
 ghost use Rattle.text.specs.Items.{COMMA, isShared, listText};
-ghost use Rattle.plan.specs.Value.{items};
-ghost use Rattle.judge.specs.private.Arrays.{tasksIn};
+ghost use Rattle.plan.specs.Value.{items, planWith, isAccepted};
 ghost use Rattle.plan.specs.Write.{sizesText, taskText, taskTexts, writtenOf, bufferAfter};
-ghost use Rattle.writer.specs.private.WriteParts.{itemText, numberField, listField, numbersText, Measured, Room, Wrote, answered};
+ghost use Rattle.writer.specs.private.WriteParts.{tasksIn, itemText, numberField, listField, readyField, numbersText, Measured, Room, Wrote, answered, Answered};
 
 const COMMA: u8 = b',';
 
@@ -68,18 +67,30 @@ fn list_len(items: &[u8], lettered: bool) -> usize
     n
 }
 
-fn numbers_len(number: u32, board: u32, begin: u32, finish: u32) -> usize
-    ensures { λ r. ⌜ Measured (numbersText number board begin finish) 44 r ⌝ }
+// The ready tick is written in edition 2 alone.
+fn ready_len(edition: u8, ready: u32) -> usize
+    ensures { λ r. ⌜ Measured (readyField edition ready) 11 r ⌝ }
+{
+    if edition == 2 {
+        return number_len(ready) + 1;
+    }
+    0
+}
+
+fn numbers_len(edition: u8, number: u32, board: u32, ready: u32, begin: u32, finish: u32) -> usize
+    ensures { λ r. ⌜ Measured (numbersText edition number board ready begin finish) 55 r ⌝ }
 {
     let places = number_len(number) + number_len(board);
-    let ticks = number_len(begin) + number_len(finish);
-    // a tab after each
+    let ticks = ready_len(edition, ready) + number_len(begin) + number_len(finish);
+    // a tab after each but the ready tick, whose length has it
     places + ticks + 4
 }
 
 // The line of task k, from 0.
 fn task_len<'a>(
+    edition: u8,
     board: &'a [u8; 64],
+    ready: &'a [u32; 64],
     begin: &'a [u32; 64],
     finish: &'a [u32; 64],
     holds: &'a [u8; 2048],
@@ -87,9 +98,17 @@ fn task_len<'a>(
     k: usize,
 ) -> usize
     requires { ⌜ k < 64 ⌝ }
-    ensures { λ r. ⌜ Measured (taskText (k + 1) (tasksIn (now (board .entry)) (now (begin .entry)) (now (finish .entry)) (now (holds .entry)) (now (after .entry)) k)) 2000 r ⌝ }
+    ensures { λ r. ⌜ Measured (taskText edition (k + 1) (tasksIn (now (board .entry)) (now (ready .entry)) (now (begin .entry)) (now (finish .entry)) (now (holds .entry)) (now (after .entry)) k)) 2000 r ⌝ }
 {
-    let numbers = numbers_len((k + 1) as u32, wide(board[k]), begin[k], finish[k]);
+    let number = (k + 1) as u32;
+    let numbers = numbers_len(
+        edition,
+        number,
+        wide(board[k]),
+        ready[k],
+        begin[k],
+        finish[k],
+    );
     let held = list_len(items_at(holds, 32 * k, 32), true);
     let listed = list_len(items_at(after, 64 * k, 64), false);
     // `task` and a tab before the numbers, a tab or an LF after each list
@@ -97,28 +116,31 @@ fn task_len<'a>(
 }
 
 fn tasks_len<'a>(
+    edition: u8,
     tasks: usize,
     board: &'a [u8; 64],
+    ready: &'a [u32; 64],
     begin: &'a [u32; 64],
     finish: &'a [u32; 64],
     holds: &'a [u8; 2048],
     after: &'a [u8; 4096],
 ) -> usize
     requires { ⌜ tasks ≤ 64 ⌝ }
-    ensures { λ r. ⌜ Measured (taskTexts (tasksIn (now (board .entry)) (now (begin .entry)) (now (finish .entry)) (now (holds .entry)) (now (after .entry))) tasks) 128000 r ⌝ }
+    ensures { λ r. ⌜ Measured (taskTexts edition (tasksIn (now (board .entry)) (now (ready .entry)) (now (begin .entry)) (now (finish .entry)) (now (holds .entry)) (now (after .entry))) tasks) 128000 r ⌝ }
 {
     let mut n: usize = 0;
     for k in 0..tasks {
-        n += task_len(board, begin, finish, holds, after, k);
+        n += task_len(edition, board, ready, begin, finish, holds, after, k);
     }
     n
 }
 
-fn sizes_len(boards: u8, tasks: u8) -> usize
-    ensures { λ r. ⌜ Measured (sizesText boards tasks) 40 r ⌝ }
+fn sizes_len(edition: u8, boards: u8, tasks: u8) -> usize
+    ensures { λ r. ⌜ Measured (sizesText edition boards tasks) 40 r ⌝ }
 {
-    // `plan`, `1` and two tabs before the numbers, a tab or an LF after each
-    7 + number_len(wide(boards)) + number_len(wide(tasks)) + 2
+    let sizes = number_len(wide(boards)) + number_len(wide(tasks));
+    // `plan` and a tab before the numbers, a tab or an LF after each
+    5 + number_len(wide(edition)) + sizes + 3
 }
 
 // The parts written, where the caller has seen that there is room. Each answers the place after its text.
@@ -181,32 +203,63 @@ fn put_list_field(out: &mut [u8], at: usize, items: &[u8], lettered: bool, end: 
     put_byte(out, next, end)
 }
 
-fn put_numbers(out: &mut [u8], at: usize, number: u32, board: u32, begin: u32, finish: u32) -> usize
-    requires { ⌜ Room (now out) at (numbersText number board begin finish) ⌝ }
-    ensures { λ r. ⌜ Wrote (now (out .entry)) at (numbersText number board begin finish) (now (out .exit)) r ⌝ }
+fn put_ready(out: &mut [u8], at: usize, edition: u8, ready: u32) -> usize
+    requires { ⌜ Room (now out) at (readyField edition ready) ⌝ }
+    ensures { λ r. ⌜ Wrote (now (out .entry)) at (readyField edition ready) (now (out .exit)) r ⌝ }
+{
+    if edition == 2 {
+        return put_number_field(out, at, ready, TAB);
+    }
+    at
+}
+
+fn put_numbers(
+    out: &mut [u8],
+    at: usize,
+    edition: u8,
+    number: u32,
+    board: u32,
+    ready: u32,
+    begin: u32,
+    finish: u32,
+) -> usize
+    requires { ⌜ Room (now out) at (numbersText edition number board ready begin finish) ⌝ }
+    ensures { λ r. ⌜ Wrote (now (out .entry)) at (numbersText edition number board ready begin finish) (now (out .exit)) r ⌝ }
 {
     let first = put_number_field(out, at, number, TAB);
     let second = put_number_field(out, first, board, TAB);
-    let third = put_number_field(out, second, begin, TAB);
-    put_number_field(out, third, finish, TAB)
+    let third = put_ready(out, second, edition, ready);
+    let fourth = put_number_field(out, third, begin, TAB);
+    put_number_field(out, fourth, finish, TAB)
 }
 
 fn put_task<'a>(
     out: &mut [u8],
     at: usize,
+    edition: u8,
     board: &'a [u8; 64],
+    ready: &'a [u32; 64],
     begin: &'a [u32; 64],
     finish: &'a [u32; 64],
     holds: &'a [u8; 2048],
     after: &'a [u8; 4096],
     k: usize,
 ) -> usize
-    requires { ⌜ (k < 64) × Room (now out) at (taskText (k + 1) (tasksIn (now board) (now begin) (now finish) (now holds) (now after) k)) ⌝ }
-    ensures { λ r. ⌜ Wrote (now (out .entry)) at (taskText (k + 1) (tasksIn (now (board .entry)) (now (begin .entry)) (now (finish .entry)) (now (holds .entry)) (now (after .entry)) k)) (now (out .exit)) r ⌝ }
+    requires { ⌜ (k < 64) × Room (now out) at (taskText edition (k + 1) (tasksIn (now board) (now ready) (now begin) (now finish) (now holds) (now after) k)) ⌝ }
+    ensures { λ r. ⌜ Wrote (now (out .entry)) at (taskText edition (k + 1) (tasksIn (now (board .entry)) (now (ready .entry)) (now (begin .entry)) (now (finish .entry)) (now (holds .entry)) (now (after .entry)) k)) (now (out .exit)) r ⌝ }
 {
     let word = put_text(out, at, b"task\t");
     let number = (k + 1) as u32;
-    let numbers = put_numbers(out, word, number, wide(board[k]), begin[k], finish[k]);
+    let numbers = put_numbers(
+        out,
+        word,
+        edition,
+        number,
+        wide(board[k]),
+        ready[k],
+        begin[k],
+        finish[k],
+    );
     let held = put_list_field(out, numbers, items_at(holds, 32 * k, 32), true, TAB);
     put_list_field(out, held, items_at(after, 64 * k, 64), false, LF)
 }
@@ -214,30 +267,44 @@ fn put_task<'a>(
 fn put_tasks<'a>(
     out: &mut [u8],
     at: usize,
+    edition: u8,
     tasks: usize,
     board: &'a [u8; 64],
+    ready: &'a [u32; 64],
     begin: &'a [u32; 64],
     finish: &'a [u32; 64],
     holds: &'a [u8; 2048],
     after: &'a [u8; 4096],
 ) -> usize
-    requires { ⌜ (tasks ≤ 64) × Room (now out) at (taskTexts (tasksIn (now board) (now begin) (now finish) (now holds) (now after)) tasks) ⌝ }
-    ensures { λ r. ⌜ Wrote (now (out .entry)) at (taskTexts (tasksIn (now (board .entry)) (now (begin .entry)) (now (finish .entry)) (now (holds .entry)) (now (after .entry))) tasks) (now (out .exit)) r ⌝ }
+    requires { ⌜ (tasks ≤ 64) × Room (now out) at (taskTexts edition (tasksIn (now board) (now ready) (now begin) (now finish) (now holds) (now after)) tasks) ⌝ }
+    ensures { λ r. ⌜ Wrote (now (out .entry)) at (taskTexts edition (tasksIn (now (board .entry)) (now (ready .entry)) (now (begin .entry)) (now (finish .entry)) (now (holds .entry)) (now (after .entry))) tasks) (now (out .exit)) r ⌝ }
 {
     let mut place = at;
     for k in 0..tasks {
-        place = put_task(out, place, board, begin, finish, holds, after, k);
+        place = put_task(
+            out,
+            place,
+            edition,
+            board,
+            ready,
+            begin,
+            finish,
+            holds,
+            after,
+            k,
+        );
     }
     place
 }
 
-fn put_sizes(out: &mut [u8], at: usize, boards: u8, tasks: u8) -> usize
-    requires { ⌜ Room (now out) at (sizesText boards tasks) ⌝ }
-    ensures { λ r. ⌜ Wrote (now (out .entry)) at (sizesText boards tasks) (now (out .exit)) r ⌝ }
+fn put_sizes(out: &mut [u8], at: usize, edition: u8, boards: u8, tasks: u8) -> usize
+    requires { ⌜ Room (now out) at (sizesText edition boards tasks) ⌝ }
+    ensures { λ r. ⌜ Wrote (now (out .entry)) at (sizesText edition boards tasks) (now (out .exit)) r ⌝ }
 {
-    let words = put_text(out, at, b"plan\t1\t");
-    let next = put_number_field(out, words, wide(boards), TAB);
-    put_number_field(out, next, wide(tasks), LF)
+    let word = put_text(out, at, b"plan\t");
+    let first = put_number_field(out, word, wide(edition), TAB);
+    let second = put_number_field(out, first, wide(boards), TAB);
+    put_number_field(out, second, wide(tasks), LF)
 }
 
 fn answered(code: u32, first: u32, length: u32) -> Written
@@ -253,14 +320,54 @@ fn answered(code: u32, first: u32, length: u32) -> Written
     }
 }
 
+// The text of an accepted plan, where there is room for it.
+fn write_accepted<'a>(
+    out: &mut [u8],
+    edition: u8,
+    boards: u8,
+    tasks: u8,
+    board: &'a [u8; 64],
+    ready: &'a [u32; 64],
+    begin: &'a [u32; 64],
+    finish: &'a [u32; 64],
+    holds: &'a [u8; 2048],
+    after: &'a [u8; 4096],
+) -> Written
+    requires { ⌜ isAccepted (planWith edition boards tasks (now board) (now ready) (now begin) (now finish) (now holds) (now after)) ≡ true ⌝ }
+    ensures { λ r. ⌜ Answered (planWith edition boards tasks (now (board .entry)) (now (ready .entry)) (now (begin .entry)) (now (finish .entry)) (now (holds .entry)) (now (after .entry))) (now (out .entry)) r (now (out .exit)) ⌝ }
+{
+    let count = tasks as usize;
+    let head = sizes_len(edition, boards, tasks);
+    let needed = head + tasks_len(edition, count, board, ready, begin, finish, holds, after);
+    if out.len() < needed {
+        return answered(16, needed as u32, 0);
+    }
+    let at = put_sizes(out, 0, edition, boards, tasks);
+    put_tasks(
+        out,
+        at,
+        edition,
+        count,
+        board,
+        ready,
+        begin,
+        finish,
+        holds,
+        after,
+    );
+    answered(0, 0, needed as u32)
+}
+
 pub fn write_plan(plan: Plan, out: &mut [u8]) -> Written
     ensures answer { λ r. ⌜ r ≡ writtenOf plan (length (now (out .entry))) ⌝ }
     ensures bytes { λ r. ⌜ now (out .exit) ≡ bufferAfter plan (now (out .entry)) ⌝ }
 {
     if !is_accepted(
+        plan.edition,
         plan.boards,
         plan.tasks,
         &plan.board,
+        &plan.ready,
         &plan.begin,
         &plan.finish,
         &plan.holds,
@@ -268,30 +375,16 @@ pub fn write_plan(plan: Plan, out: &mut [u8]) -> Written
     ) {
         return answered(9, 0, 0);
     }
-    let tasks = plan.tasks as usize;
-    let head = sizes_len(plan.boards, plan.tasks);
-    let needed = head
-        + tasks_len(
-            tasks,
-            &plan.board,
-            &plan.begin,
-            &plan.finish,
-            &plan.holds,
-            &plan.after,
-        );
-    if out.len() < needed {
-        return answered(16, needed as u32, 0);
-    }
-    let at = put_sizes(out, 0, plan.boards, plan.tasks);
-    put_tasks(
+    write_accepted(
         out,
-        at,
-        tasks,
+        plan.edition,
+        plan.boards,
+        plan.tasks,
         &plan.board,
+        &plan.ready,
         &plan.begin,
         &plan.finish,
         &plan.holds,
         &plan.after,
-    );
-    answered(0, 0, needed as u32)
+    )
 }

@@ -1,49 +1,76 @@
 //! Texts with one line damaged in one to three of its fields, in every way.
 
 /// The lines that are damaged have an item in each list.
-const PLAN_LINES: [&str; 4] = [
-    "plan\t1\t2\t3",
-    "task\t1\t1\t0\t5\te1,s3\t-",
-    "task\t2\t2\t5\t7\ts3\t1",
-    "task\t3\t1\t8\t9\te1\t1,2",
+const PLAN_1: &str = "plan\t1\t2\t3
+task\t1\t1\t0\t5\te1,s3\t-
+task\t2\t2\t5\t7\ts3\t1
+task\t3\t1\t8\t9\te1\t1,2
+";
+
+const PLAN_2: &str = "plan\t2\t2\t3
+task\t1\t1\t0\t0\t5\te1,s3\t-
+task\t2\t2\t3\t5\t7\ts3\t1
+task\t3\t1\t8\t8\t9\te1\t1,2
+";
+
+/// Its last task is ready after its planned start, which faults beside it hide.
+const READY_TOO_LATE: &str = "plan\t2\t2\t3
+task\t1\t1\t0\t0\t5\te1,s3\t-
+task\t2\t2\t3\t5\t7\ts3\t1
+task\t3\t1\t9\t8\t9\te1\t1,2
+";
+
+/// The second line is damaged. On plan A the first is refused and read on from,
+/// and the third accepted.
+const ENDS: [&str; 4] = [
+    "end\t9\t1\nend\t2\t3\nend\t2\t3\n",
+    "end\t9\t1\nend\t2\t3\n",
+    "end\t9\t1\ndrop\t3\nend\t2\t3\n",
+    "end\t9\t1\ndrop\t3\n",
 ];
 
-/// On plan A: the line before is refused and read on from, the one after is accepted.
-const ENDS_LINES: [&str; 2] = ["end\t9\t1", "end\t2\t3"];
-
-/// The plan's middle task line damaged in up to two fields, and its last one in
-/// up to three, with LF and without.
+/// Plans with a middle task line damaged, and with the last one, with LF and without.
 pub fn every_damaged_plan() -> Vec<Vec<u8>> {
-    let [first, one, two, three] = PLAN_LINES;
     let mut texts = Vec::new();
-    for damaged in every_damaged_line(two, 2) {
-        texts.push(format!("{first}\n{one}\n{damaged}\n{three}\n").into());
-    }
-    for damaged in every_damaged_line(three, 3) {
-        let text = format!("{first}\n{one}\n{two}\n{damaged}");
-        texts.push(format!("{text}\n").into());
-        texts.push(text.into());
+    put_damaged(&mut texts, PLAN_1, 2, 2);
+    put_damaged(&mut texts, PLAN_1, 3, 3);
+    put_damaged(&mut texts, PLAN_2, 2, 1);
+    put_damaged(&mut texts, PLAN_2, 3, 2);
+    put_damaged(&mut texts, READY_TOO_LATE, 3, 2);
+    texts
+}
+
+/// Ends with an `end` and a `drop` line damaged, before another line and as the
+/// last one, with LF and without.
+pub fn every_damaged_ends() -> Vec<Vec<u8>> {
+    let mut texts = Vec::new();
+    for text in ENDS {
+        put_damaged(&mut texts, text, 1, 3);
     }
     texts
 }
 
-/// An `end` and a `drop` line damaged, before another line and as the last one,
-/// with LF and without.
-pub fn every_damaged_ends() -> Vec<Vec<u8>> {
-    let [before, after] = ENDS_LINES;
-    let mut texts = Vec::new();
-    for line in ["end\t2\t3", "drop\t3"] {
-        for damaged in every_damaged_line(line, 3) {
-            let text = format!("{before}\n{damaged}");
-            texts.push(format!("{text}\n{after}\n").into());
-            texts.push(format!("{text}\n").into());
-            texts.push(text.into());
+/// The text with that line, counted from 0, damaged; the last line without its LF too.
+fn put_damaged(texts: &mut Vec<Vec<u8>>, text: &str, line: usize, most_faults: u32) {
+    let lines: Vec<&str> = text.lines().collect();
+    let before: String = lines[..line]
+        .iter()
+        .map(|line| format!("{line}\n"))
+        .collect();
+    let after: String = lines[line + 1..]
+        .iter()
+        .map(|line| format!("{line}\n"))
+        .collect();
+    for damaged in every_damaged_line(lines[line], most_faults) {
+        texts.push(format!("{before}{damaged}\n{after}").into());
+        if after.is_empty() {
+            texts.push(format!("{before}{damaged}").into());
         }
     }
-    texts
 }
 
-/// The line with some of its fields damaged, in every choice of fields and of damages.
+/// The line, and that line with some of its fields damaged, in every choice of
+/// fields and of damages.
 fn every_damaged_line(line: &str, most_faults: u32) -> Vec<String> {
     let mut beginnings = vec![(0, Vec::new())];
     for field in line.split('\t') {
@@ -57,8 +84,8 @@ fn every_damaged_line(line: &str, most_faults: u32) -> Vec<String> {
         }
         beginnings = longer;
     }
-    let damaged = beginnings.into_iter().filter(|(faults, _)| *faults > 0);
-    damaged.map(|(_, fields)| fields.join("\t")).collect()
+    let fields = beginnings.into_iter().map(|(_, fields)| fields);
+    fields.map(|fields| fields.join("\t")).collect()
 }
 
 /// What stands in a field's place: misspelt at its front and at its end, emptied,

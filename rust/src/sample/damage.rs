@@ -68,7 +68,7 @@ fn pass_task(book: &mut Book, i: usize, tick: u32) {
 
 fn mutate_plan_once(rng: &mut Rng, plan: &mut Plan) {
     let i = likely_index(rng, plan.task_count());
-    match rng.within(1, 10) {
+    match rng.within(1, 13) {
         1 => plan.boards = rng.pick(&LIKELY_BYTES),
         2 => plan.tasks = rng.pick(&LIKELY_BYTES),
         3 => plan.board[i] = rng.pick(&LIKELY_BYTES),
@@ -78,13 +78,16 @@ fn mutate_plan_once(rng: &mut Rng, plan: &mut Plan) {
         7 => plan.holds[32 * i + rng.index(32)] = rng.byte(),
         8 => plan.after[64 * i + rng.index(4)] = rng.pick(&LIKELY_BYTES),
         9 => *plan = late_plan(rng, plan),
+        10 => plan.edition = rng.pick(&[0, 1, 2, 2, 3, 255]),
+        11 => plan.ready[i] = nearby_tick(rng, plan.ready[i]),
+        12 => plan.ready[i] = nearby_tick(rng, plan.begin[i]),
         _ => plan.after[64 * i + rng.index(64)] = rng.byte(),
     }
 }
 
 fn mutate_book_once(rng: &mut Rng, book: &mut Book) {
     let i = likely_index(rng, book.tasks.min(64).into());
-    match rng.within(1, 12) {
+    match rng.within(1, 13) {
         1 => book.clock = nearby_tick(rng, book.clock),
         2 => book.start[i] = nearby_tick(rng, book.start[i]),
         3 => book.end[i] = nearby_tick(rng, book.end[i]),
@@ -100,6 +103,8 @@ fn mutate_book_once(rng: &mut Rng, book: &mut Book) {
         9 => pass_task(book, i, book.clock),
         10 => make_waiting(book, i),
         11 => *book = late_book(rng, book),
+        // As if it were ready, or as if nobody had to be waited for.
+        12 => book.start[i] = rng.pick(&[book.clock, book.ready[i]]),
         _ => mutate_plan_of(rng, book),
     }
 }

@@ -1,7 +1,7 @@
 //! Drops, and mornings of reports and drops together.
 
 use super::plans::random_plan;
-use super::reports::{accepted_report, any_report};
+use super::reports::{accepted_report, any_report, running_tasks};
 use super::Rng;
 use crate::book::{drop_task, open_book, report};
 use crate::fields::line_of;
@@ -56,6 +56,17 @@ pub fn random_book(rng: &mut Rng) -> Book {
         }
     }
     book
+}
+
+/// Whether task index i has started: its start is known and the clock has reached it.
+pub fn is_started(book: &Book, i: usize) -> bool {
+    book.mark[i] != WAITING && book.start[i] <= book.clock
+}
+
+/// The tasks whose start is known and lies past the clock, as indices.
+pub fn starts_past_the_clock(book: &Book) -> Vec<usize> {
+    let running = running_tasks(book).into_iter();
+    running.filter(|&i| !is_started(book, i)).collect()
 }
 
 /// The tasks that may be dropped, as numbers.

@@ -14,6 +14,16 @@ task\t4\t2\t1\t3\ts2\t-
 task\t5\t1\t3\t4\te2\t-
 ";
 
+/// Edition 2. Task 1 waits for nobody and is ready at 1; 3 may have to wait until it
+/// is ready or for 2; 4 passes before it is ready if it is dropped.
+pub const AWAITED: &[u8] = b"plan\t2\t3\t5
+task\t1\t3\t1\t1\t3\t-\t-
+task\t2\t1\t0\t0\t2\te1\t-
+task\t3\t2\t1\t2\t4\ts2\t-
+task\t4\t1\t3\t3\t4\te1\t-
+task\t5\t3\t2\t4\t6\t-\t4
+";
+
 /// What a book holds beside its plan and clock.
 pub type Morning = ([u32; 64], [u32; 64], [u8; 64], [u8; 64]);
 

@@ -7,6 +7,11 @@ const FILLINGS: [&[u8]; 14] = [
     b"\n", b"\t", b"1", b"0", b"9", b"-", b",", b"e1,", b",s2", b"1,2,", b"task\t", b"\0", b"\xff",
     b"e",
 ];
+/// Lines that make sense, and the beginning of another.
+const FIRST_LINES: [&[u8]; 2] = [
+    b"plan\t1\t2\t3\ntask\t1\t",
+    b"plan\t2\t2\t3\ntask\t1\t1\t0\t",
+];
 /// Bytes of which plan texts are made.
 const USUAL_BYTES: &[u8] = b"\t\t\t\n\n-,es0123456789plantask";
 
@@ -86,7 +91,7 @@ pub fn noise(rng: &mut Rng) -> Vec<u8> {
     let usual = rng.chance(50);
     let mut text = Vec::new();
     if rng.chance(50) {
-        text.extend_from_slice(b"plan\t1\t2\t3\ntask\t1\t");
+        text.extend_from_slice(rng.pick(&FIRST_LINES));
         text.truncate(rng.index(text.len() + 1));
     }
     for _ in 0..rng.within(0, 80) {

@@ -2,7 +2,7 @@
 
 use super::Rng;
 use crate::judge::{clash, overlap};
-use crate::values::{Plan, AFTER_PLACES, HOLD_PLACES, LAST_TICK};
+use crate::values::{Plan, AFTER_PLACES, EDITION_1, EDITION_2, HOLD_PLACES, LAST_TICK};
 
 /// How dense the lists are and how wide the times.
 struct Shape {
@@ -13,7 +13,8 @@ struct Shape {
     widest_gap: u32,
 }
 
-/// A random plan that keeps every rule: what is placed first begins at tick 0.
+/// A random plan of either edition that keeps every rule: what is placed first
+/// begins at tick 0.
 pub fn random_plan(rng: &mut Rng) -> Plan {
     let largest = rng.pick(&[1, 3, 6, 12, 24, 64, 64]);
     let tasks = if rng.chance(10) {
@@ -24,6 +25,7 @@ pub fn random_plan(rng: &mut Rng) -> Plan {
     let boards = rng.within(1, 8);
     let shape = random_shape(rng);
     let mut plan = Plan {
+        edition: EDITION_1,
         boards: boards as u8,
         tasks: tasks as u8,
         ..Plan::ZERO
@@ -40,13 +42,60 @@ pub fn random_plan(rng: &mut Rng) -> Plan {
     if rng.chance(12) {
         reach_the_last_tick(&mut plan);
     }
-    plan
+    in_either_edition(rng, &plan)
 }
 
-/// A busy plan of that many tasks: 8 boards in turn, 4 to 8 holds a task, most
+/// The plan as it is, or with ready ticks.
+pub fn in_either_edition(rng: &mut Rng, plan: &Plan) -> Plan {
+    if rng.chance(50) {
+        return *plan;
+    }
+    with_ready_ticks(rng, plan)
+}
+
+/// The plan in edition 2, with ready ticks for none, some or all of its tasks.
+pub fn with_ready_ticks(rng: &mut Rng, plan: &Plan) -> Plan {
+    let mut awaited = Plan {
+        edition: EDITION_2,
+        ready: [0; 64],
+        ..*plan
+    };
+    let percent = rng.pick(&[0, 50, 100, 100]);
+    let late_percent = rng.pick(&[0, 30, 90]);
+    for i in 0..plan.task_count() {
+        if rng.chance(percent) {
+            awaited.ready[i] = ready_tick(rng, plan.begin[i], late_percent);
+        }
+    }
+    awaited
+}
+
+/// The plan in edition 2, each task ready once three quarters of the time to its
+/// planned start are over.
+pub fn with_even_ready_ticks(plan: &Plan) -> Plan {
+    Plan {
+        edition: EDITION_2,
+        ready: plan.begin.map(|begin| begin - begin / 4),
+        ..*plan
+    }
+}
+
+/// So often at or just before the planned start; else anywhere before it, or early.
+fn ready_tick(rng: &mut Rng, begin: u32, late_percent: u32) -> u32 {
+    if rng.chance(late_percent) {
+        return begin.saturating_sub(rng.within(0, 2));
+    }
+    match rng.within(1, 3) {
+        1 => begin.min(rng.within(0, 3)),
+        _ => rng.within(0, begin),
+    }
+}
+
+/// A busy plan of edition 1, of that many tasks: 8 boards in turn, 4 to 8 holds a task, most
 /// of them shared so that boards work side by side, and up to 3 tasks under after.
 pub fn full_plan(rng: &mut Rng, tasks: u8) -> Plan {
     let mut plan = Plan {
+        edition: EDITION_1,
         boards: 8,
         tasks,
         ..Plan::ZERO
@@ -63,7 +112,7 @@ pub fn full_plan(rng: &mut Rng, tasks: u8) -> Plan {
     plan
 }
 
-/// The plan with all its tasks so many ticks later.
+/// The plan with all its tasks planned so many ticks later.
 pub fn moved_later(plan: &Plan, by: u32) -> Plan {
     let mut later = *plan;
     let count = plan.task_count();

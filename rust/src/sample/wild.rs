@@ -8,15 +8,18 @@ use crate::values::{items, Book, Plan, AFTER_PLACES, HOLD_PLACES};
 /// past the last task, so that the later checks are met too.
 pub fn wild_plan(rng: &mut Rng) -> Plan {
     let mut plan = Plan {
+        edition: rng.byte(),
         boards: rng.byte(),
         tasks: rng.byte(),
         board: [0; 64].map(|_| rng.byte()),
+        ready: [0; 64].map(|_| wild_tick(rng)),
         begin: [0; 64].map(|_| wild_tick(rng)),
         finish: [0; 64].map(|_| wild_tick(rng)),
         holds: [0; 2048].map(|_| rng.byte()),
         after: [0; 4096].map(|_| rng.byte()),
     };
     if rng.chance(70) {
+        plan.edition = rng.pick(&[1, 2]);
         plan.boards = rng.within(1, 8) as u8;
         plan.tasks = rng.pick(&[1, 1, 2, 3, 64]);
     }
@@ -39,7 +42,7 @@ pub fn wild_book(rng: &mut Rng, sound: &Book) -> Book {
 pub fn one_rule_broken(rng: &mut Rng, plan: &Plan) -> Plan {
     let mut broken = *plan;
     let i = rng.index(plan.task_count());
-    match rng.within(1, 11) {
+    match rng.within(1, 13) {
         1 => broken.boards = rng.pick(&[0, 9, 255]),
         2 => broken.tasks = rng.pick(&[0, 65, 255]),
         3 => broken.tasks = plan.tasks.wrapping_add(rng.pick(&[1, 255])),
@@ -50,6 +53,8 @@ pub fn one_rule_broken(rng: &mut Rng, plan: &Plan) -> Plan {
         8 => break_after(rng, &mut broken, i),
         9 => put_past_a_list(rng, &mut broken, i),
         10 => broken = late_plan(rng, plan),
+        11 => broken.edition = rng.pick(&[0, 1, 3, 255]),
+        12 => broken.ready[i] = rng.pick(&[1, plan.begin[i] + 1, 1_000_001, u32::MAX]),
         _ => put_past_the_last_task(rng, &mut broken),
     }
     broken
@@ -74,12 +79,18 @@ fn tame_places(rng: &mut Rng, plan: &mut Plan) {
             rng.within(0, 20)
         };
         plan.finish[i] = plan.begin[i] + rng.within(0, 4);
+        plan.ready[i] = if rng.chance(30) {
+            rng.within(0, plan.begin[i] + 1)
+        } else {
+            0
+        };
         let keep = rng.index(4);
         plan.holds[HOLD_PLACES * i + keep..HOLD_PLACES * (i + 1)].fill(0);
         plan.after[AFTER_PLACES * i + keep / 2..AFTER_PLACES * (i + 1)].fill(0);
         plan.after[AFTER_PLACES * i] %= 4;
     }
     plan.board[count..].fill(0);
+    plan.ready[count..].fill(0);
     plan.begin[count..].fill(0);
     plan.finish[count..].fill(0);
     plan.holds[HOLD_PLACES * count..].fill(0);
@@ -118,11 +129,12 @@ fn put_past_the_last_task(rng: &mut Rng, plan: &mut Plan) {
         return;
     }
     let i = rng.within(count as u32, 63) as usize;
-    match rng.within(1, 5) {
+    match rng.within(1, 6) {
         1 => plan.board[i] = 1,
-        2 => plan.begin[i] = 1,
-        3 => plan.finish[i] = 1,
-        4 => plan.holds[HOLD_PLACES * i + rng.index(HOLD_PLACES)] = 2,
+        2 => plan.ready[i] = 1,
+        3 => plan.begin[i] = 1,
+        4 => plan.finish[i] = 1,
+        5 => plan.holds[HOLD_PLACES * i + rng.index(HOLD_PLACES)] = 2,
         _ => plan.after[AFTER_PLACES * i + rng.index(AFTER_PLACES)] = 1,
     }
 }

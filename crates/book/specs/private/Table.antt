@@ -1,5 +1,5 @@
 -- For every task and every board, the last task waited for; and what the functions do by that table.
-use Prim.Native.Nat.{ℕ, zero, suc, _+_, _-_, _<_, _≤_}
+use Prim.Native.Nat.{ℕ, zero, suc, _+_, _-_, _<_, _≤_, max}
 use mathlib.Core.Bool.{Bool, true, cond, _&&_, _||_}
 use mathlib.Core.List.{List, []}
 use mathlib.Core.Logic.{_⊎_, _≢_}
@@ -45,26 +45,26 @@ abbrev pub skipsByRow : List ℕ → List ℕ → List (List ℕ) → ℕ → Bo
 skipsByRow mark dropped table i = isDropped (at dropped) i && goesByRow mark table i
 
 -- the values of a list, with v where one of the first n is picked
-abbrev pub putEach : ℕ → (ℕ → Bool) → ℕ → List ℕ → List ℕ
-putEach n pick v l = each n (λ i. cond (pick i) v (at l i)) l
+abbrev pub putEach : ℕ → (ℕ → Bool) → (ℕ → ℕ) → List ℕ → List ℕ
+putEach n pick v l = each n (λ i. cond (pick i) (v i) (at l i)) l
 
 -- one round of skipping among the first n tasks, and rounds one after the other
 unfoldable pub roundBy : List ℕ → List (List ℕ) → ℕ → ℕ → Moved → Moved
 roundBy dropped table clock n old = record {
-  mark = putEach n (skipsByRow (old .mark) dropped table) 2 (old .mark);
-  start = putEach n (skipsByRow (old .mark) dropped table) clock (old .start);
-  end = putEach n (skipsByRow (old .mark) dropped table) clock (old .end);
+  mark = putEach n (skipsByRow (old .mark) dropped table) (λ i. 2) (old .mark);
+  start = putEach n (skipsByRow (old .mark) dropped table) (λ i. clock) (old .start);
+  end = putEach n (skipsByRow (old .mark) dropped table) (λ i. clock) (old .end);
 }
 
 unfoldable pub roundsBy : ℕ → List ℕ → List (List ℕ) → ℕ → ℕ → Moved → Moved
 roundsBy zero dropped table clock n old = old
 roundsBy (suc k) dropped table clock n old = roundsBy k dropped table clock n (roundBy dropped table clock n old)
 
--- whoever of the first n may go starts
-unfoldable pub startsBy : List (List ℕ) → ℕ → ℕ → Moved → Moved
-startsBy table clock n old = record {
-  mark = putEach n (goesByRow (old .mark) table) 1 (old .mark);
-  start = putEach n (goesByRow (old .mark) table) clock (old .start);
+-- whoever of the first n may go starts at the later of its ready tick and the clock
+unfoldable pub startsBy : (ℕ → ℕ) → List (List ℕ) → ℕ → ℕ → Moved → Moved
+startsBy ready table clock n old = record {
+  mark = putEach n (goesByRow (old .mark) table) (λ i. 1) (old .mark);
+  start = putEach n (goesByRow (old .mark) table) (λ i. max (ready i) clock) (old .start);
   end = old .end;
 }
 

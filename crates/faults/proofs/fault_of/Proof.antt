@@ -1,6 +1,6 @@
 -- `faults::fault_of` meets its contract: each return by the tests that led there.
 use borrow.Author.Needs.{needs}
-use Rattle.faults.proofs.FaultLaws.{fault-three, fault-four, fault-none}
+use Rattle.faults.proofs.FaultLaws.{fault-three, fault-four, fault-eighteen, fault-none}
 use Rattle.faults.proofs.fault_of.Statement.{statement}
 use Rattle.faults.proofs.fault_of.Tie as tie
 
@@ -24,9 +24,21 @@ returns-2 c =
     fault-four _ _ (c .before .before .before .before .find .ensures) (c .before .before .before .if1 .left) (c .before .before .find2 .ensures)
     (c .before .if2 .taken) (c .column-of2 .ensures)
 
+find-requires-3 : tie.Need-find-requires-3
+find-requires-3 c κs = search needs
+
+column-of-requires-3 : tie.Need-column-of-requires-3
+column-of-requires-3 c κs = search needs
+
 returns-3 : tie.Need-returns-3
 returns-3 c =
-    fault-none _ _ (c .before .before .before .find .ensures) (c .before .before .if1 .left) (c .before .find2 .ensures) (c .if2 .left)
+    fault-eighteen _ _ (c .before .before .before .before .before .before .find .ensures) (c .before .before .before .before .before .if1 .left)
+    (c .before .before .before .before .find2 .ensures) (c .before .before .before .if2 .left) (c .before .before .find3 .ensures) (c .before .if3 .taken) (c .column-of3 .ensures)
+
+returns-4 : tie.Need-returns-4
+returns-4 c =
+    fault-none _ _ (c .before .before .before .before .before .find .ensures) (c .before .before .before .before .if1 .left)
+    (c .before .before .before .find2 .ensures) (c .before .before .if2 .left) (c .before .find3 .ensures) (c .if3 .left)
 
 pub fault-of-spec : {M : Type 1} → statement M
 fault-of-spec =
@@ -38,4 +50,7 @@ fault-of-spec =
     find-requires-2
     column-of-requires-2
     returns-2
-    returns-3)
+    find-requires-3
+    column-of-requires-3
+    returns-3
+    returns-4)

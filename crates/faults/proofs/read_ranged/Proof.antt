@@ -1,7 +1,7 @@
 -- `faults::read_ranged` meets its contract: each return by the tests that led there.
 use borrow.Author.Needs.{needs}
 use mathlib.Core.Path.{_∙_}
-use Rattle.faults.proofs.FaultLaws.{ranged-none, ranged-off, ranged-in}
+use Rattle.faults.proofs.RangedLaws.{ranged-none, ranged-off, ranged-in}
 use Rattle.faults.proofs.read_ranged.Statement.{statement}
 use Rattle.faults.proofs.read_ranged.Tie as tie
 

@@ -1,6 +1,6 @@
 -- `faults::unread` meets its contract: each return by the test that led there.
 use borrow.Author.Needs.{needs}
-use Rattle.faults.proofs.FaultLaws.{unread-is}
+use Rattle.faults.proofs.RangedLaws.{unread-is}
 use Rattle.faults.proofs.unread.Statement.{statement}
 use Rattle.faults.proofs.unread.Tie as tie
 

@@ -13,10 +13,10 @@ use Rattle.plan.specs.Pairs.{isListed}
 use Rattle.plan.specs.Value.{at, row, items, isTrimmed}
 use Rattle.judge.specs.declared.Sets.{Sets}
 
--- the tasks that arrays hold
+-- the tasks that arrays hold, whose ready ticks no pair looks at
 abbrev pub tasksIn : List ℕ → List ℕ → List ℕ → List ℕ → List ℕ → ℕ → Task
 tasksIn board begin finish holds after k =
-    taskOf (at board k) (at begin k) (at finish k) (items (row 32 holds k)) (items (row 64 after k))
+    taskOf (at board k) 0 (at begin k) (at finish k) (items (row 32 holds k)) (items (row 64 after k))
 
 abbrev pub overlapsIn : List ℕ → List ℕ → ℕ → ℕ → Bool
 overlapsIn begin finish a b = ltb (at begin a) (at finish b) && ltb (at begin b) (at finish a)
@@ -46,9 +46,11 @@ pub record PassedOver (begin finish : List ℕ) (ordered : Bool) (a b tasks r : 
   pub idle : (j : ℕ) → b ≤ j → j < r → (j < tasks) × (ordered ≡ true) × (overlapsIn begin finish a j ≡ false)
 
 -- the two halves of what is kept of a task
-abbrev pub numbersIn : ℕ → List ℕ → List ℕ → List ℕ → ℕ → Bool
-numbersIn boards board begin finish k =
-    between 1 boards (at board k) && (ltb (at begin k) (at finish k) && leb (at finish k) most)
+abbrev pub numbersIn : ℕ → ℕ → List ℕ → List ℕ → List ℕ → List ℕ → ℕ → Bool
+numbersIn edition boards board ready begin finish k =
+    (between 1 boards (at board k)
+    && (leb (at ready k) (at begin k) && (ltb (at begin k) (at finish k) && leb (at finish k) most)))
+    && (eqb edition 2 || eqb (at ready k) 0)
 
 abbrev pub listIn : Bool → ℕ → List ℕ → Bool
 listIn drives high l = risesFrom (keyOf drives) high 0 (items l) && isTrimmed l

@@ -7,26 +7,27 @@ use mathlib.Core.Path.{_≡_, refl, sym, ap, _∙_}
 use mathlib.Core.Logic.{_≢_, _⊎_, inl, inr, ⊎-elim, _↔_}
 use lib.Dec.{eqb, ltb}
 use lib.ListN.{length}
-use borrow.Author.Tests.{eq-eqb, ne-eqb}
-use Rattle.laws.proofs.Cases.{by-bool, by-eq}
+use borrow.Author.Tests.{eq-eqb, ne-eqb, not-false}
+use Rattle.laws.proofs.Cases.{by-bool, by-eq, and-r}
 use Rattle.laws.proofs.Scan.{Found, Nothing, scan-cases}
-use Rattle.text.specs.Line.{hasLine, skip, lineAt}
+use Rattle.text.specs.Line.{hasLine, skip, lineAt, field}
 use Rattle.faults.specs.Faults.{worst, columnOf, faultOf}
 use Rattle.plan.specs.Answer.{refuse, granted, isGranted, isRefused}
 use Rattle.plan.specs.Task.{Task}
 use Rattle.plan.specs.Pairs.{overlap, sameBoard, clashByDrive, breaksAfter, pairCode, firstFault}
 use Rattle.plan.specs.Judged.{beginsAtZero, leastStart, tasksAnswer}
-use Rattle.plan.specs.Value.{zeroPlan}
-use Rattle.plan.specs.Read.{sizesOk, boardsOf, tasksOf, lineAnswer, linesAnswer, textTask, formAnswer, textAnswer, readingOf}
+use Rattle.plan.specs.Value.{at, zeroPlan}
+use Rattle.plan.specs.Read.{sizesOk, editionOf, boardsOf, tasksOf, lineAnswer, linesAnswer, textTask, formAnswer, textAnswer, readingOf}
 use Rattle.plan.specs.declared.Answer.{Answer}
 use Rattle.plan.specs.declared.Reading.{Reading}
 use Rattle.plan.proofs.FirstFault.{FirstPair, refused-code, passed-code, fault-first, fault-granted}
 use Rattle.plan.proofs.Judged.{begins-none, none-begins, start-under, start-met, tasks-late, tasks-pairs}
 use Rattle.plan.proofs.PlanTasks.{planOf-sized}
+use Rattle.plan.proofs.TextLines.{number-range, sizes-test}
 use Rattle.plan.proofs.ReadOk.{form-ok, form-tasks, read-answer, read-accepted}
 use Rattle.book.specs.Sized.{SizedPlan}
-use Rattle.promises.specs.Says.{FirstFaulty, BeginsLate, codesOf, FirstFaultyLine, ReadingSays}
-use Rattle.promises.proofs.codes.Columns.{worst-kind, task-column, task-faultless}
+use Rattle.promises.specs.Says.{FirstFaulty, BeginsLate, codesOf, ReadyLate, FirstFaultyLine, ReadingSays}
+use Rattle.promises.proofs.codes.Columns.{LineCode, plain-not, worst-kind, task-column, task-faultless, first-plain, task-unready}
 
 line-says :
     (s : List ℕ) (k : ℕ)
@@ -69,9 +70,16 @@ module _ (s : List ℕ) where
   abbrev Says : Type 0
   Says = ReadingSays s (readingOf s)
 
-  lines-say : isRefused (linesAnswer s) ≡ true → textAnswer s ≡ linesAnswer s → Says
+  -- boards and tasks are few where the first line is as stated
+  few : sizesOk (lineAt s 0) ≡ true → (boardsOf s ≤ 8) × (tasksOf s ≤ 64)
+  few h = (
+    number-range 1 8 (field (lineAt s 0) 2) (sizes-test (lineAt s 0) h 3 (omega arith)) .2,
+    number-range 1 64 (field (lineAt s 0) 3) (sizes-test (lineAt s 0) h 4 (omega arith)) .2,
+  )
+
+  lines-say : sizesOk (lineAt s 0) ≡ true → isRefused (linesAnswer s) ≡ true → textAnswer s ≡ linesAnswer s → Says
   unfolding linesAnswer
-  lines-say r e = go (scan-cases isRefused granted (lineAnswer s) 1 (tasksOf s + 1))
+  lines-say sizes r e = go (scan-cases isRefused granted (lineAnswer s) 1 (tasksOf s + 1))
     where
       first-line-at :
           (f : Found isRefused granted (lineAnswer s) 1 (tasksOf s + 1)) → worst (codesOf s (f .place)) ≢ 0
@@ -80,9 +88,13 @@ module _ (s : List ℕ) where
         from = f .from;
         to = omega (arith, f .below);
         earlier = λ j m p h l.
-            task-faultless (lineAt s j) (hasLine (skip j s)) (boardsOf s) (tasksOf s) j
+            task-faultless (lineAt s j) (hasLine (skip j s)) (editionOf s) (boardsOf s) (tasksOf s) j
+            (omega (arith, few sizes .0)) (omega (arith, few sizes .1, f .below, h))
             (ap (λ (x : Answer). x .code) (sym (line-says s j)) ∙ passed-code (lineAnswer s j) (f .first j p h)) m l;
-        says = task-column (lineAt s (f .place)) (hasLine (skip (f .place) s)) (boardsOf s) (tasksOf s) (f .place) n;
+        unready = λ z.
+            let u = task-unready (lineAt s (f .place)) (hasLine (skip (f .place) s)) (editionOf s) (boardsOf s) (tasksOf s) (f .place) z in
+            record { edition = u .0; late = u .1; ready-field = u .2 };
+        says = task-column (lineAt s (f .place)) (hasLine (skip (f .place) s)) (editionOf s) (boardsOf s) (tasksOf s) (f .place) n;
       }
 
       go : Found isRefused granted (lineAnswer s) 1 (tasksOf s + 1) ⊎ Nothing isRefused granted (lineAnswer s) 1 (tasksOf s + 1) → Says
@@ -165,22 +177,34 @@ module _ (s : List ℕ) where
       by-bool (not (hasLine s && sizesOk (lineAt s 0)))
       (λ b. ReadingSays.first-line (refused-reading (refuse 2 1 0) (form-refused _ (rw (a, b)) refl) (λ z. omega arith)))
       (λ b.
-      by-bool (isRefused (linesAnswer s)) (λ c. lines-say c (form-refused _ (rw (a, b, c)) c))
+      by-bool (isRefused (linesAnswer s))
+      (λ c. lines-say (and-r (hasLine s) (sizesOk (lineAt s 0)) (not-false (hasLine s && sizesOk (lineAt s 0)) b)) c (form-refused _ (rw (a, b, c)) c))
       (λ c.
       by-bool (ltb 0 (length (skip (tasksOf s + 1) s)))
       (λ d. ReadingSays.more-bytes (refused-reading (refuse 5 (tasksOf s + 2) 0) (form-refused _ (rw (a, b, c, d)) refl) (λ z. omega arith)))
       (λ d. tasks-say (rw (a, b, c, d))))))
 
-pub reading-code : (s : List ℕ) → (readingOf s .answer .code ≤ 8) ⊎ (readingOf s .answer .code ≡ 17)
+-- 1 to 8, 17 or 18
+abbrev pub ReadingCode : ℕ → Type 0
+ReadingCode code = (code ≤ 8) ⊎ ((code ≡ 17) ⊎ (code ≡ 18))
+
+line-code : {code : ℕ} → LineCode code → ReadingCode code
+line-code c = ⊎-elim (λ q. inl (omega arith)) (⊎-elim (λ q. inl (omega arith)) (λ q. inr (inr q))) c
+
+-- not 6 to 8 or 17
+line-or : {A : Type 0} {code : ℕ} → LineCode code → (code < 6 → A) → (code ≡ 18 → A) → A
+line-or c f g = ⊎-elim (λ q. f (omega arith)) (⊎-elim (λ q. f (omega arith)) g) c
+
+pub reading-code : (s : List ℕ) → ReadingCode (readingOf s .answer .code)
 reading-code s = go (readingOf s) (reading-says s)
   where
-    go : (r : Reading) → ReadingSays s r → (r .answer .code ≤ 8) ⊎ (r .answer .code ≡ 17)
+    go : (r : Reading) → ReadingSays s r → ReadingCode (r .answer .code)
     go r (ReadingSays.read e a) = rw e (inl (omega arith))
     go r (ReadingSays.too-long e) = rw e (inl (omega arith))
     go r (ReadingSays.first-line e) = rw e (inl (omega arith))
-    go r (ReadingSays.task-line code k column c l e) = rw e (inl (⊎-elim (λ q. omega arith) (λ q. omega arith) c))
+    go r (ReadingSays.task-line code k column c l e) = rw e (line-code c)
     go r (ReadingSays.more-bytes e) = rw e (inl (omega arith))
-    go r (ReadingSays.late start l e) = rw e (inr refl)
+    go r (ReadingSays.late start l e) = rw e (inr (inl refl))
     go r (ReadingSays.faulty-pair code a b f e) = rw e (inl (f .number .1))
 
 -- a reading refused with 6, 7 or 8 names the first faulty pair
@@ -196,24 +220,28 @@ reading-pair s h below = go (readingOf s) (reading-says s) h below
     go r (ReadingSays.too-long e) h b = let z : 6 ≤ 1 = rw e at h in absurd (omega arith)
     go r (ReadingSays.first-line e) h b = let z : 6 ≤ 2 = rw e at h in absurd (omega arith)
     go r (ReadingSays.task-line code k column c l e) h b =
-        let z : 6 ≤ code = rw e at h in ⊎-elim (λ q. absurd (omega arith)) (λ q. absurd (omega arith)) c
+        let z : 6 ≤ code = rw e at h in
+        let y : code ≤ 8 = rw e at b in
+        line-or c (λ q. absurd (omega arith)) (λ q. absurd (omega arith))
     go r (ReadingSays.more-bytes e) h b = let z : 6 ≤ 5 = rw e at h in absurd (omega arith)
     go r (ReadingSays.late start l e) h b = let z : 17 ≤ 8 = rw e at b in absurd (omega arith)
     go r (ReadingSays.faulty-pair code a b f e) h m = rw e f
 
 -- one refused with 17 has no task planned at 0, and names the least planned start
 pub reading-start : (s : List ℕ) → readingOf s .answer .code ≡ 17 → BeginsLate s (readingOf s .answer .first)
-reading-start s h = go (readingOf s) (reading-says s) (omega (arith, h))
+reading-start s h = go (readingOf s) (reading-says s) (omega (arith, h)) (omega (arith, h))
   where
-    go : (r : Reading) → ReadingSays s r → 17 ≤ r .answer .code → BeginsLate s (r .answer .first)
-    go r (ReadingSays.read e a) h = let z : 17 ≤ 0 = rw e at h in absurd (omega arith)
-    go r (ReadingSays.too-long e) h = let z : 17 ≤ 1 = rw e at h in absurd (omega arith)
-    go r (ReadingSays.first-line e) h = let z : 17 ≤ 2 = rw e at h in absurd (omega arith)
-    go r (ReadingSays.task-line code k column c l e) h =
-        let z : 17 ≤ code = rw e at h in ⊎-elim (λ q. absurd (omega arith)) (λ q. absurd (omega arith)) c
-    go r (ReadingSays.more-bytes e) h = let z : 17 ≤ 5 = rw e at h in absurd (omega arith)
-    go r (ReadingSays.late start l e) h = rw e l
-    go r (ReadingSays.faulty-pair code a b f e) h =
+    go : (r : Reading) → ReadingSays s r → 17 ≤ r .answer .code → r .answer .code ≤ 17 → BeginsLate s (r .answer .first)
+    go r (ReadingSays.read e a) h m = let z : 17 ≤ 0 = rw e at h in absurd (omega arith)
+    go r (ReadingSays.too-long e) h m = let z : 17 ≤ 1 = rw e at h in absurd (omega arith)
+    go r (ReadingSays.first-line e) h m = let z : 17 ≤ 2 = rw e at h in absurd (omega arith)
+    go r (ReadingSays.task-line code k column c l e) h m =
+        let z : 17 ≤ code = rw e at h in
+        let y : code ≤ 17 = rw e at m in
+        line-or c (λ q. absurd (omega arith)) (λ q. absurd (omega arith))
+    go r (ReadingSays.more-bytes e) h m = let z : 17 ≤ 5 = rw e at h in absurd (omega arith)
+    go r (ReadingSays.late start l e) h m = rw e l
+    go r (ReadingSays.faulty-pair code a b f e) h m =
         let z : 17 ≤ code = rw e at h in absurd (omega (arith, f .number .1))
 
 pub reading-late :
@@ -227,28 +255,48 @@ reading-late s = (
 )
 
 pub zero-sized : SizedPlan zeroPlan
-zero-sized = planOf-sized 0 0 _
+zero-sized = planOf-sized 0 0 0 _
 
 pub reading-sized : (s : List ℕ) → SizedPlan (readingOf s .plan)
 unfolding readingOf
 reading-sized s =
     by-bool (isGranted (textAnswer s))
-    (λ e. rw e (planOf-sized (boardsOf s) (tasksOf s) (textTask s)))
+    (λ e. rw e (planOf-sized (editionOf s) (boardsOf s) (tasksOf s) (textTask s)))
     (λ e. rw e zero-sized)
 
--- one refused with 3 or 4 names its first faulty line, and the column of that line's fault
+-- one refused with 3, 4 or 18 names its first faulty line, and the column of that line's fault
 pub reading-column :
-    (s : List ℕ) → 3 ≤ readingOf s .answer .code → readingOf s .answer .code ≤ 4
+    (s : List ℕ) → LineCode (readingOf s .answer .code)
     → (k : ℕ) × (readingOf s .answer .first ≡ k + 1) × FirstFaultyLine s (readingOf s .answer .code) k (readingOf s .answer .second)
-reading-column s h below = go (readingOf s) (reading-says s) h below
+reading-column s = go (readingOf s) (reading-says s)
   where
+    -- no other refusal has such a code
+    none : {A : Type 0} (code : ℕ) → LineCode code → code ≢ 3 → code ≢ 4 → code ≢ 18 → A
+    none code c p q r = ⊎-elim (λ e. absurd (p e)) (⊎-elim (λ e. absurd (q e)) (λ e. absurd (r e))) c
+
     go :
-        (r : Reading) → ReadingSays s r → 3 ≤ r .answer .code → r .answer .code ≤ 4
+        (r : Reading) → ReadingSays s r → LineCode (r .answer .code)
         → (k : ℕ) × (r .answer .first ≡ k + 1) × FirstFaultyLine s (r .answer .code) k (r .answer .second)
-    go r (ReadingSays.read e a) h b = let z : 3 ≤ 0 = rw e at h in absurd (omega arith)
-    go r (ReadingSays.too-long e) h b = let z : 3 ≤ 1 = rw e at h in absurd (omega arith)
-    go r (ReadingSays.first-line e) h b = let z : 3 ≤ 2 = rw e at h in absurd (omega arith)
-    go r (ReadingSays.task-line code k column c l e) h b = rw e (k, refl, l)
-    go r (ReadingSays.more-bytes e) h b = let z : 5 ≤ 4 = rw e at b in absurd (omega arith)
-    go r (ReadingSays.late start l e) h b = let z : 17 ≤ 4 = rw e at b in absurd (omega arith)
-    go r (ReadingSays.faulty-pair code x y f e) h b = let z : code ≤ 4 = rw e at b in absurd (omega (arith, f .number .0))
+    go r (ReadingSays.read e a) h = none 0 (rw e at h) (λ z. omega arith) (λ z. omega arith) (λ z. omega arith)
+    go r (ReadingSays.too-long e) h = none 1 (rw e at h) (λ z. omega arith) (λ z. omega arith) (λ z. omega arith)
+    go r (ReadingSays.first-line e) h = none 2 (rw e at h) (λ z. omega arith) (λ z. omega arith) (λ z. omega arith)
+    go r (ReadingSays.task-line code k column c l e) h = rw e (k, refl, l)
+    go r (ReadingSays.more-bytes e) h = none 5 (rw e at h) (λ z. omega arith) (λ z. omega arith) (λ z. omega arith)
+    go r (ReadingSays.late start l e) h = none 17 (rw e at h) (λ z. omega arith) (λ z. omega arith) (λ z. omega arith)
+    go r (ReadingSays.faulty-pair code x y f e) h =
+        none code (rw e at h) (λ z. omega (arith, f .number .0)) (λ z. omega (arith, f .number .0)) (λ z. omega (arith, f .number .1))
+
+-- one refused with 18 names a line of edition 2 whose ready tick is after its planned start, and the column of its ready field
+pub reading-unready :
+    (s : List ℕ) → readingOf s .answer .code ≡ 18
+    → (k : ℕ) × (readingOf s .answer .first ≡ k + 1) × ReadyLate s k (readingOf s .answer .second)
+reading-unready s h = let f = reading-column s (inr (inr h)) in (f .0, f .1, f .2 .unready h)
+
+-- which edition 1 has not
+module _ (s : List ℕ) (one : editionOf s ≡ 1) where
+  pub no-field-18 : (k n : ℕ) → at (codesOf s k) n ≢ 18
+  no-field-18 k n =
+      plain-not (first-plain (lineAt s k) (hasLine (skip k s)) (editionOf s) (boardsOf s) (tasksOf s) k (λ z. omega arith) n)
+
+  pub no-text-18 : readingOf s .answer .code ≢ 18
+  no-text-18 h = let u = reading-unready s h .2 .edition in omega arith

@@ -9,11 +9,11 @@ use Rattle.laws.specs.Picked.{latest, least}
 use Rattle.laws.specs.Split.{indexOf, skipOn, splitOn, consFirst, joinOn}
 use Rattle.text.specs.Number.{isNumber, numberStop, numberOf}
 use Rattle.text.specs.Items.{isList, listOf, isHold, holdOf, holdsOk, afterOk}
-use Rattle.faults.specs.Faults.{wordCode, endCode, worst, faultOf}
+use Rattle.faults.specs.Faults.{rangedRead, wordCode, endCode, worst, faultOf}
 use Rattle.plan.specs.Pairs.{clashByDrive, isListed, pairCode, rowFault, firstFault}
 use Rattle.plan.specs.Judged.{tasksAnswer}
 use Rattle.plan.specs.Value.{planOf, blankFrom, keptOk, rangesOk, isAccepted}
-use Rattle.plan.specs.Read.{sizesOk, lineTask, taskCodes, lineAnswer, linesAnswer, formAnswer, textAnswer, readingOf}
+use Rattle.plan.specs.Read.{sizesOk, taskFrom, lineTask, codesFrom, readyCode, taskCodes, lineAnswer, linesAnswer, formAnswer, textAnswer, readingOf}
 use Rattle.theory.specs.Book.{allEnded, taskTest, soundTest}
 use Rattle.theory.specs.Report.{nonePast, reportCode, dropCode, goes, skipTimes, next, opened}
 use Rattle.theory.specs.Figure.{minimumEarly}
@@ -32,18 +32,19 @@ use Rattle.promises.specs.Runs.{bookAfter}
 use Rattle.promises.specs.tables.PlanA.{planA}
 use Rattle.promises.specs.tables.Impostors.{onlyEnds, firstOnly, startOn, ownBoard, planFour, startFree, shortcut}
 use Rattle.promises.specs.tables.Weaker.{planTwo}
+use Rattle.promises.specs.tables.Ready.{planB}
 
 -- by crate: laws, text, plan, theory, book with those below it, log with those below it, promises
 unfoldable pub computing : Bool
 unfolding
     valueAfter digitsFrom digitsOf allOf anyOf firstNot rising same scan each rows every any latest least indexOf skipOn splitOn consFirst
     joinOn
-    isNumber numberStop numberOf isList listOf isHold holdOf holdsOk afterOk wordCode endCode worst faultOf
+    isNumber numberStop numberOf isList listOf isHold holdOf holdsOk afterOk rangedRead wordCode endCode worst faultOf
     clashByDrive isListed pairCode rowFault firstFault tasksAnswer planOf blankFrom keptOk rangesOk isAccepted
-    sizesOk lineTask taskCodes lineAnswer linesAnswer formAnswer textAnswer readingOf
+    sizesOk taskFrom lineTask codesFrom readyCode taskCodes lineAnswer linesAnswer formAnswer textAnswer readingOf
     allEnded taskTest soundTest nonePast reportCode dropCode goes skipTimes next opened minimumEarly
     laid soundOn layOut openedOn openingOf codeOf reportAnswer nextBook reportedOf
     dropCodeOf dropAnswer droppedIn droppedOf figureOf
     endCodes dropCodes entryOf nextEntry numbersLine startLines openLog toldOf toldLog endsLog logOf
-    bookAfter planA onlyEnds firstOnly startOn ownBoard planFour startFree shortcut planTwo
+    bookAfter planA onlyEnds firstOnly startOn ownBoard planFour startFree shortcut planTwo planB
 computing = true

@@ -1,17 +1,18 @@
--- Sentences near to the promises are false: on plan A, and on two tasks of which the second is planned first.
+-- Sentences near to the promises are false: on plan A, on two tasks of which the second is planned first, and on plan B.
 use native.Mathlib.Omega.{arith}
 use mathlib.Core.Path.{_≡_, refl}
 use mathlib.Core.Bool.{true}
 use mathlib.Core.Logic.{⊎-elim}
-use mathlib.Core.List.{[]}
+use mathlib.Core.List.{[], _∷_}
 use Rattle.plan.specs.Pairs.{clash}
 use Rattle.plan.specs.Value.{at, taskAt, isAccepted}
 use Rattle.book.specs.Sized.{SizedPlan}
 use Rattle.book.specs.Report.{reportedOf}
 use Rattle.book.specs.Early.{figureOf}
-use Rattle.promises.specs.tables.PlanA.{textA, planA, end, bookA}
+use Rattle.promises.specs.tables.PlanA.{textA, planA, end, drop, bookA}
 use Rattle.promises.specs.tables.Impostors.{toSix}
-use Rattle.promises.specs.tables.Weaker.{ByNumber, StrictOrder, KeptByEnded, StartsLater, textTwo, planTwo}
+use Rattle.promises.specs.tables.Weaker.{ByNumber, StrictOrder, KeptByEnded, StartsLater, StartsAtOnce, DroppedReady, textTwo, planTwo}
+use Rattle.promises.specs.tables.Ready.{textB, planB, bookB, toEight}
 use Rattle.promises.proofs.SoundBook.{on-run}
 use Rattle.promises.proofs.codes.Reading.{reading-sized}
 use Rattle.promises.proofs.tables.Computing.{computing}
@@ -64,3 +65,28 @@ not-later every =
     let late =
     every (bookA []) (good .sized) (good .sound) 2 3 (third .0) 2 (omega (arith, third .1)) (third .2) (λ z. omega (arith, z, third .3)) in
     omega (arith, late, third .4)
+
+sized-b : SizedPlan planB
+unfolding planB
+sized-b = reading-sized textB
+
+-- end 2 at 3 lets task 3 go, at its ready tick 5; task 4, dropped, starts at 8 and was to await 18
+fourth : (isAccepted planB ≡ true) × (planB .tasks ≡ 5) × (reportedOf (bookB (end 1 1 ∷ [])) 2 3 .answer .code ≡ 0) × (bookB (end 1 1 ∷ []) .tasks ≡ 5) × (at (bookB (end 1 1 ∷ []) .mark) 2 ≡ 0) × (at (reportedOf (bookB (end 1 1 ∷ [])) 2 3 .book .mark) 2 ≡ 1) × (at (reportedOf (bookB (end 1 1 ∷ [])) 2 3 .book .start) 2 ≡ 5)
+unfolding computing
+fourth = (refl, refl, refl, refl, refl, refl, refl)
+
+pub not-at-once : StartsAtOnce → ⊥
+not-at-once every =
+    let good = on-run planB sized-b (fourth .0) (end 1 1 ∷ []) .good in
+    let soon =
+    every (bookB (end 1 1 ∷ [])) (good .sized) (good .sound) 2 3 (fourth .2) 2 (omega (arith, fourth .3)) (fourth .4) (λ z. omega (arith, z, fourth .5)) in
+    omega (arith, soon, fourth .6)
+
+passed : (at (bookB (drop 4 ∷ toEight) .mark) 3 ≡ 2) × (at (bookB (drop 4 ∷ toEight) .start) 3 ≡ 8) × (at (planB .ready) 3 ≡ 18)
+unfolding computing
+passed = (refl, refl, refl)
+
+pub not-dropped-ready : DroppedReady → ⊥
+not-dropped-ready every =
+    let late = every planB sized-b (fourth .0) (drop 4 ∷ toEight) 3 (omega (arith, fourth .1)) (λ z. omega (arith, z, passed .0)) in
+    omega (arith, late, passed .1, passed .2)

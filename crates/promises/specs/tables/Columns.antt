@@ -69,7 +69,7 @@ abbrev pub threeFaults : List ℕ
 threeFaults = bytes "task\t1\t1\t1000001\t5\tq1\tz"
 
 abbrev pub threeCodes : List ℕ
-threeCodes = taskCodes (hasLine (threeFaults ++ (LF ∷ []))) 1 1 threeFaults 1
+threeCodes = taskCodes (hasLine (threeFaults ++ (LF ∷ []))) 1 1 1 threeFaults 1
 
 -- the last place of a code
 unfoldable pub lastOf : ℕ → List ℕ → ℕ → ℕ → ℕ

@@ -74,10 +74,12 @@ textOne = bytes "plan\t1\t1\t1\ntask\t1\t1\t0\t1\t-\t-\n"
 -- the book with this clock, these starts, ends and marks
 abbrev pub withState : Book → ℕ → List ℕ → List ℕ → List ℕ → Book
 withState book clock start end mark = record {
+  edition = book .edition;
   boards = book .boards;
   tasks = book .tasks;
   clock = clock;
   board = book .board;
+  ready = book .ready;
   begin = book .begin;
   finish = book .finish;
   start = start;
@@ -154,6 +156,7 @@ shortcut book (Event.drops task ∷ later) = shortcut book later
 abbrev pub strictly : Plan → theory-plan.Plan
 strictly plan = record {
   tasks = plan .tasks;
+  ready = at (plan .ready);
   begin = at (plan .begin);
   finish = at (plan .finish);
   waits = λ i j. ltb (at (plan .finish) j) (at (plan .begin) i);

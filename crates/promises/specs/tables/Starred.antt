@@ -1,21 +1,33 @@
 -- The starred items of "Both sides of each line" on plan A: one table; `starred` is its one theorem.
-use Prim.Native.Nat.{ℕ}
-use mathlib.Core.Bool.{Bool}
+use Prim.Native.Nat.{ℕ, _-_}
+use mathlib.Core.Bool.{Bool, not, _&&_}
 use mathlib.Core.List.{List, [], _∷_}
 use lib.Dec.{eqb}
 use Rattle.theory.specs.Events.{Event}
 use Rattle.book.specs.Event.{answerTo}
 use Rattle.book.specs.Early.{figureOf}
-use Rattle.promises.specs.tables.PlanA.{end, drop, bookA}
+use Rattle.plan.specs.Value.{at}
+use Rattle.plan.specs.declared.Plan.{Plan}
+use Rattle.promises.specs.Runs.{runOf}
+use Rattle.promises.specs.tables.PlanA.{end, drop, planA}
 
--- after these reports, an end gives a code, 0 for accepted; or the figure shows a number
+-- after these reports, an end gives a code, 0 for accepted; or the figure shows a number; or a task starts or ends at a tick
 pub data Item : Type 0 where
   gives : List Event → Event → ℕ → Item
   shows : List Event → ℕ → Item
+  starts : List Event → ℕ → ℕ → Item
+  ends : List Event → ℕ → ℕ → Item
+
+abbrev pub holdsOn : Plan → Item → Bool
+holdsOn plan (gives events event code) = eqb (answerTo (runOf plan events) event .code) code
+holdsOn plan (shows events early) = eqb (figureOf (runOf plan events) .early) early
+holdsOn plan (starts events task tick) =
+    let book = runOf plan events in not (eqb (at (book .mark) (task - 1)) 0) && eqb (at (book .start) (task - 1)) tick
+holdsOn plan (ends events task tick) =
+    let book = runOf plan events in eqb (at (book .mark) (task - 1)) 2 && eqb (at (book .end) (task - 1)) tick
 
 abbrev pub holds : Item → Bool
-holds (gives events event code) = eqb (answerTo (bookA events) event .code) code
-holds (shows events early) = eqb (figureOf (bookA events) .early) early
+holds item = holdsOn planA item
 
 abbrev pub starredItems : List Item
 starredItems =

@@ -1,5 +1,5 @@
 -- Sentences that are near to the promises and false: each is refuted on a small plan.
-use Prim.Native.Nat.{ℕ, _+_, _<_}
+use Prim.Native.Nat.{ℕ, _+_, _≤_, _<_}
 use mathlib.Core.Path.{_≡_}
 use mathlib.Core.Logic.{_≢_, _⊎_}
 use mathlib.Core.Bool.{true}
@@ -42,6 +42,19 @@ StartsLater =
     (book : Book) → Sized book → isSound book ≡ true → (task tick : ℕ) → reportedOf book task tick .answer .code ≡ 0
     → (i : ℕ) → i < book .tasks → Waiting book i → Started (reportedOf book task tick .book) i
     → startOf (reportedOf book task tick .book) i ≡ tick + 1
+
+-- whoever is let go starts at the tick of the report, ready or not
+abbrev pub StartsAtOnce : Type 0
+StartsAtOnce =
+    (book : Book) → Sized book → isSound book ≡ true → (task tick : ℕ) → reportedOf book task tick .answer .code ≡ 0
+    → (i : ℕ) → i < book .tasks → Waiting book i → Started (reportedOf book task tick .book) i
+    → startOf (reportedOf book task tick .book) i ≡ tick
+
+-- nobody starts before its ready tick, dropped or not
+abbrev pub DroppedReady : Type 0
+DroppedReady =
+    (plan : Plan) → SizedPlan plan → isAccepted plan ≡ true → (events : List Event) (i : ℕ) → i < plan .tasks
+    → Started (runOf plan events) i → at (plan .ready) i ≤ startOf (runOf plan events) i
 
 -- two tasks of one board, the second planned first
 abbrev pub textTwo : List ℕ

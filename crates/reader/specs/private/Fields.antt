@@ -1,57 +1,98 @@
 -- What the readers of single fields and lines say.
 use Prim.Native.Nat.{ℕ, _+_, _≤_}
 use mathlib.Core.Path.{_≡_}
-use mathlib.Core.Bool.{Bool, true, false, cond}
+use mathlib.Core.Bool.{Bool, true, false, cond, _&&_}
 use mathlib.Core.List.{List}
-use lib.Dec.{eqb}
+use lib.Dec.{ltb, eqb}
 use lib.ListN.{length}
+use Rattle.laws.specs.Lists.{allOf}
 use Rattle.laws.specs.Split.{before}
-use Rattle.text.specs.Number.{valueOf}
+use Rattle.text.specs.Number.{valueOf, most}
 use Rattle.text.specs.Line.{LF, hasLine, lineAt, field}
 use Rattle.text.specs.Items.{noItems, holdsRead, afterRead}
-use Rattle.faults.specs.Faults.{faultOf}
 use Rattle.text.specs.declared.Items.{Items}
+use Rattle.faults.specs.Faults.{rangedRead, faultOf}
+use Rattle.faults.specs.declared.Ranged.{Ranged}
 use Rattle.faults.specs.declared.Fault.{Fault}
-use Rattle.plan.specs.Read.{sizesOk, boardsOf, tasksOf, taskCodes}
+use Rattle.plan.specs.Read.{sizesOk, editionOf, boardsOf, tasksOf, startAt, taskCodes}
 use Rattle.reader.specs.declared.Sizes.{Sizes}
+use Rattle.reader.specs.declared.Tail.{Tail}
 use Rattle.reader.specs.declared.Line.{Line}
 
 abbrev pub noSizes : Sizes
-noSizes = record { ok = false; boards = 0; tasks = 0 }
+noSizes = record { ok = false; edition = 0; boards = 0; tasks = 0 }
 
 unfoldable pub sizesRead : List ℕ → Sizes
 sizesRead line =
-    cond (sizesOk line) (record { ok = true; boards = valueOf (field line 2); tasks = valueOf (field line 3) }) noSizes
+    cond (sizesOk line)
+    (record {
+      ok = true;
+      edition = valueOf (field line 1);
+      boards = valueOf (field line 2);
+      tasks = valueOf (field line 3);
+    })
+    noSizes
 
 abbrev pub noLine : Fault → Line
-noLine fault =
-    record { fault = fault; board = 0; begin = 0; finish = 0; holds = noItems 0 0; after = noItems 0 0 }
+noLine fault = record {
+  fault = fault;
+  board = 0;
+  ready = 0;
+  begin = 0;
+  finish = 0;
+  holds = noItems 0 0;
+  after = noItems 0 0;
+}
 
--- what a task line says, or its fault
-unfoldable pub lineRead : Bool → ℕ → ℕ → List ℕ → ℕ → Line
-lineRead ended boards tasks line k =
-    let fault = faultOf line (taskCodes ended boards tasks line k) in
-    cond (eqb (fault .code) 0)
+-- the fields from the planned start on, which is field n
+unfoldable pub tailRead : ℕ → List ℕ → ℕ → Tail
+tailRead tasks line n = record {
+  begin = rangedRead 0 most (field line n);
+  finish = rangedRead (startAt line n + 1) most (field line (n + 1));
+  holds = holdsRead (field line (n + 2));
+  after = afterRead (field line (n + 3)) tasks;
+}
+
+-- the ready tick of edition 2, and its code by the planned start
+abbrev pub readyAt : List ℕ → ℕ
+readyAt line = rangedRead 0 most (field line 3) .value
+
+unfoldable pub readyIn : Ranged → ℕ → ℕ
+readyIn ready begin = cond (eqb (ready .code) 0 && ltb begin (ready .value)) 18 (ready .code)
+
+-- what a line says by the codes of its fields, or its fault
+unfoldable pub lineBy : List ℕ → List ℕ → ℕ → ℕ → Tail → Line
+lineBy line codes board ready tail =
+    cond (allOf (eqb 0) codes)
     (record {
       fault = record { code = 0; column = 0 };
-      board = valueOf (field line 2);
-      begin = valueOf (field line 3);
-      finish = valueOf (field line 4);
-      holds = holdsRead (field line 5);
-      after = afterRead (field line 6) tasks;
+      board = board;
+      ready = ready;
+      begin = tail .begin .value;
+      finish = tail .finish .value;
+      holds = tail .holds;
+      after = tail .after;
     })
-    (noLine fault)
+    (noLine (faultOf line codes))
+
+unfoldable pub lineRead : Bool → ℕ → ℕ → ℕ → List ℕ → ℕ → Line
+lineRead ended edition boards tasks line k =
+    let board = rangedRead 1 boards (field line 2) .value in
+    let codes = taskCodes ended edition boards tasks line k in
+    cond (eqb edition 2) (lineBy line codes board (readyAt line) (tailRead tasks line 4)) (lineBy line codes board 0 (tailRead tasks line 3))
 
 -- the line that begins the text
-unfoldable pub nextLine : ℕ → ℕ → List ℕ → ℕ → Line
-nextLine boards tasks s k = lineRead (hasLine s) boards tasks (before LF s) k
+unfoldable pub nextLine : ℕ → ℕ → ℕ → List ℕ → ℕ → Line
+nextLine edition boards tasks s k = lineRead (hasLine s) edition boards tasks (before LF s) k
 
--- the first line is read: B and T are what it says
-pub record FirstRead (s : List ℕ) (boards tasks : ℕ) : Type 0 where
+-- the first line is read: the edition, B and T are what it says
+pub record FirstRead (s : List ℕ) (edition boards tasks : ℕ) : Type 0 where
   pub has-line : hasLine s ≡ true
   pub sizes : sizesOk (lineAt s 0) ≡ true
+  pub edition-is : edition ≡ editionOf s
   pub boards-are : boards ≡ boardsOf s
   pub tasks-are : tasks ≡ tasksOf s
+  pub two : edition ≤ 2
   pub few-boards : boards ≤ 8
   pub few-tasks : tasks ≤ 64
   pub short : length s ≤ 32768

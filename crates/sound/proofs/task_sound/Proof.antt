@@ -1,4 +1,6 @@
 use Rattle.sound.proofs.SoundLaws.{test-waiting, test-skipped, test-running, test-ended}
+use Prim.Native.Nat.{max}
+use mathlib.Core.Path.{ap, _∙_}
 use borrow.Author.Needs.{needs}
 use Rattle.sound.proofs.task_sound.Statement.{statement}
 use Rattle.sound.proofs.task_sound.Tie as tie
@@ -8,6 +10,12 @@ element-copy-out-state c = search needs
 
 element-copy-out-gone : tie.Need-element-copy-out-gone
 element-copy-out-gone c = search needs
+
+mul-awaited : tie.Need-mul-awaited
+mul-awaited c = search needs
+
+element-copy-out-awaited : tie.Need-element-copy-out-awaited
+element-copy-out-awaited c = search needs
 
 mul-started : tie.Need-mul-started
 mul-started c = search needs
@@ -25,16 +33,25 @@ all-ended-requires : tie.Need-all-ended-requires
 all-ended-requires c κs = search needs
 
 returns : tie.Need-returns
-returns c = test-waiting _ _ _ (c .before .all-ended .ensures) (c .if1 .taken)
+returns c =
+    let a = c .before .before .before .before .before .before .before .args in
+    test-waiting (a .tasks) (a .ready .now) (a .begin .now) (a .finish .now) (a .mark .now) (a .start .now) (a .end .now) (a .dropped .now) (a .clock) (a .i)
+    (c .before .all-ended .ensures) (c .if1 .taken)
 
 due-at-requires : tie.Need-due-at-requires
 due-at-requires c κs = search needs
+
+start-of-requires : tie.Need-start-of-requires
+start-of-requires c κs = search needs
 
 waits-at-all-requires : tie.Need-waits-at-all-requires
 waits-at-all-requires c κs = search needs
 
 returns-2 : tie.Need-returns-2
-returns-2 c = test-skipped _ _ _ (c .before .before .before .before .all-ended .ensures) (c .before .before .due-at .ensures) (c .before .before .before .if1 .left) (c .before .if2 .taken) (c .waits-at-all .ensures)
+returns-2 c =
+    let a = c .before .before .before .before .before .before .before .before .before .before .before .args in
+    test-skipped (a .tasks) (a .ready .now) (a .begin .now) (a .finish .now) (a .mark .now) (a .start .now) (a .end .now) (a .dropped .now) (a .clock) (a .i)
+    (c .before .before .before .before .before .all-ended .ensures) (c .before .before .before .before .if1 .left) (c .before .before .before .due-at .ensures) (c .before .if2 .taken) (c .waits-at-all .ensures)
 
 mul-limit-of : tie.Need-mul-limit-of
 mul-limit-of c = search needs
@@ -55,13 +72,21 @@ wide-requires : tie.Need-wide-requires
 wide-requires c κs = search needs
 
 returns-3 : tie.Need-returns-3
-returns-3 c = test-running _ _ _ (c .before .before .before .before .before .before .before .before .all-ended .ensures) (c .before .before .before .before .before .before .due-at .ensures) (c .before .before .before .before .before .before .before .if1 .left) (c .before .before .limit-of .ensures) (c .before .before .before .before .before .if2 .left) (c .before .if3 .taken) (c .wide .ensures)
+returns-3 c =
+    let a = c .before .before .before .before .before .before .before .before .before .before .before .before .before .before .before .args in
+    test-running (a .tasks) (a .ready .now) (a .begin .now) (a .finish .now) (a .mark .now) (a .start .now) (a .end .now) (a .dropped .now) (a .clock) (a .i)
+    (c .before .before .before .before .before .before .before .before .before .all-ended .ensures) (c .before .before .before .before .before .before .before .before .if1 .left) (c .before .before .before .before .before .before .start-of .ensures ∙ ap (max _) (c .before .before .before .before .before .before .before .due-at .ensures)) (c .before .before .limit-of .ensures)
+    (c .before .before .before .before .before .if2 .left) (c .before .if3 .taken) (c .wide .ensures)
 
 wide-requires-2 : tie.Need-wide-requires-2
 wide-requires-2 c κs = search needs
 
 returns-4 : tie.Need-returns-4
-returns-4 c = test-ended _ _ _ (c .before .before .before .before .before .before .before .before .all-ended .ensures) (c .before .before .before .before .before .before .due-at .ensures) (c .before .before .before .before .before .before .before .if1 .left) (c .before .before .limit-of .ensures) (c .before .before .before .before .before .if2 .left) (c .before .if3 .left) (c .wide2 .ensures)
+returns-4 c =
+    let a = c .before .before .before .before .before .before .before .before .before .before .before .before .before .before .before .args in
+    test-ended (a .tasks) (a .ready .now) (a .begin .now) (a .finish .now) (a .mark .now) (a .start .now) (a .end .now) (a .dropped .now) (a .clock) (a .i)
+    (c .before .before .before .before .before .before .before .before .before .all-ended .ensures) (c .before .before .before .before .before .before .before .before .if1 .left) (c .before .before .before .before .before .before .start-of .ensures ∙ ap (max _) (c .before .before .before .before .before .before .before .due-at .ensures)) (c .before .before .limit-of .ensures)
+    (c .before .before .before .before .before .if2 .left) (c .before .if3 .left) (c .wide2 .ensures)
 
 pub task-sound-spec : {M : Type 1} → statement M
 task-sound-spec =
@@ -69,6 +94,8 @@ task-sound-spec =
     (tie.spec
     element-copy-out-state
     element-copy-out-gone
+    mul-awaited
+    element-copy-out-awaited
     mul-started
     element-copy-out-started
     mul-over
@@ -76,6 +103,7 @@ task-sound-spec =
     all-ended-requires
     returns
     due-at-requires
+    start-of-requires
     waits-at-all-requires
     returns-2
     mul-limit-of

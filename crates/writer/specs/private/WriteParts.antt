@@ -3,13 +3,22 @@ use Prim.Native.Nat.{ℕ, _+_, _≤_}
 use mathlib.Core.Path.{_≡_}
 use mathlib.Core.Bool.{Bool, cond}
 use mathlib.Core.List.{List, [], _∷_, _++_}
+use lib.Dec.{eqb}
 use lib.ListN.{length}
 use lib.Seq.{sets}
 use Rattle.laws.specs.Digits.{digitsOf}
 use Rattle.text.specs.Items.{holdText, listText}
 use Rattle.text.specs.Line.{TAB}
 use Rattle.plan.specs.Answer.{refuse}
+use Rattle.plan.specs.Task.{Task}
+use Rattle.plan.specs.Value.{taskAt, planWith}
+use Rattle.plan.specs.Write.{writtenOf, bufferAfter}
+use Rattle.plan.specs.declared.Plan.{Plan}
 use Rattle.plan.specs.declared.Written.{Written}
+
+-- the tasks that arrays hold
+abbrev pub tasksIn : List ℕ → List ℕ → List ℕ → List ℕ → List ℕ → List ℕ → ℕ → Task
+tasksIn board ready begin finish holds after k = taskAt (planWith 0 0 0 board ready begin finish holds after) k
 
 -- an item of the holds, which are lettered, or of the after
 abbrev pub itemText : Bool → ℕ → List ℕ
@@ -22,10 +31,15 @@ numberField n end = digitsOf n ++ (end ∷ [])
 abbrev pub listField : Bool → List ℕ → ℕ → List ℕ
 listField lettered items end = listText (itemText lettered) items ++ (end ∷ [])
 
--- the four numbers of a task line
-unfoldable pub numbersText : ℕ → ℕ → ℕ → ℕ → List ℕ
-numbersText number board begin finish =
-    numberField number TAB ++ (numberField board TAB ++ (numberField begin TAB ++ numberField finish TAB))
+-- the ready tick is written in edition 2 alone
+unfoldable pub readyField : ℕ → ℕ → List ℕ
+readyField edition ready = cond (eqb edition 2) (numberField ready TAB) []
+
+-- the numbers of a task line
+unfoldable pub numbersText : ℕ → ℕ → ℕ → ℕ → ℕ → ℕ → List ℕ
+numbersText edition number board ready begin finish =
+    numberField number TAB
+    ++ (numberField board TAB ++ (readyField edition ready ++ (numberField begin TAB ++ numberField finish TAB)))
 
 -- r is the length of the text, and small enough to be added up
 pub record Measured (text : List ℕ) (most r : ℕ) : Type 0 where
@@ -44,3 +58,7 @@ pub record Wrote (out : List ℕ) (at : ℕ) (text written : List ℕ) (r : ℕ)
 -- the writer's answer, and the length of what it wrote
 abbrev pub answered : ℕ → ℕ → ℕ → Written
 answered code first length = record { answer = refuse code first 0; length = length }
+
+-- the writer's answer on a plan and a buffer, and the bytes after it
+abbrev pub Answered : Plan → List ℕ → Written → List ℕ → Type 0
+Answered plan out r written = (r ≡ writtenOf plan (length out)) × (written ≡ bufferAfter plan out)

@@ -6,28 +6,28 @@ use Rattle.book.proofs.Book.minimum_early.Tie as tie
 is-sound-requires : tie.Need-is-sound-requires
 is-sound-requires c κs = search needs
 
-refused-requires : tie.Need-refused-requires
-refused-requires c κs = search needs
+answer-of-requires : tie.Need-answer-of-requires
+answer-of-requires c κs = search needs
 
 returns : tie.Need-returns
-returns c = figure-refused _ (c .before .before .is-sound .ensures) (c .before .if1 .taken) (c .refused .ensures)
+returns c = figure-refused _ (c .before .before .is-sound .ensures) (c .before .if1 .taken) (c .answer-of .ensures)
 
-refused-requires-2 : tie.Need-refused-requires-2
-refused-requires-2 c κs = search needs
+answer-of-requires-2 : tie.Need-answer-of-requires-2
+answer-of-requires-2 c κs = search needs
 
 least-early-requires : tie.Need-least-early-requires
 least-early-requires c κs = search needs
 
 returns-2 : tie.Need-returns-2
-returns-2 c = figure-granted _ (c .before .before .before .before .before .before .before .is-sound .ensures) (c .before .before .before .before .before .before .if1 .left) (c .before .before .before .before .before .refused2 .ensures) (c .least-early .ensures)
+returns-2 c = figure-granted _ (c .before .before .before .before .before .before .before .before .before .is-sound .ensures) (c .before .before .before .before .before .before .before .before .if1 .left) (c .before .before .before .before .before .before .before .answer-of2 .ensures) (c .least-early .ensures)
 
 pub minimum-early-spec : {M : Type 1} → statement M
 minimum-early-spec =
     tie.close
     (tie.spec
     is-sound-requires
-    refused-requires
+    answer-of-requires
     returns
-    refused-requires-2
+    answer-of-requires-2
     least-early-requires
     returns-2)

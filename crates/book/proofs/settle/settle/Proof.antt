@@ -1,4 +1,4 @@
-use Rattle.book.proofs.SettleLaws.{Ready, ready-small, skipped-ready, settled-is}
+use Rattle.book.proofs.SettleLaws.{seen-rows, ready-small, skipped-ready, settled-is}
 use borrow.Author.Needs.{needs}
 use Rattle.book.proofs.settle.settle.Statement.{statement}
 use Rattle.book.proofs.settle.settle.Tie as tie
@@ -8,11 +8,12 @@ last-tasks-requires c κs = search needs
 
 skip-free-requires : tie.Need-skip-free-requires
 skip-free-requires c κs =
-    let moved = c .before .before .before .args .t5 in
+    let a = c .before .before .before .args in
+    let moved = a .t6 in
     ready-small _ _ (c .before .before .before .args .dropped .now) (c .before .before .before .args .clock) _ moved
     (record {
       fit = c .before .before .before .pre;
-      rows = c .last-tasks .ensures;
+      rows = seen-rows (a .tasks) (a .ready .now) (a .begin .now) (a .finish .now) _ _ _ _ (c .last-tasks .ensures);
       size-mark = search needs;
       size-start = search needs;
       size-end = search needs;
@@ -20,12 +21,13 @@ skip-free-requires c κs =
 
 start-free-requires : tie.Need-start-free-requires
 start-free-requires c κs =
-    let moved = c .before .before .before .before .args .t5 in
+    let a = c .before .before .before .before .args in
+    let moved = a .t6 in
     ready-small _ _ _ _ _ _
     (skipped-ready _ _ _ _ _ moved
     (record {
       fit = c .before .before .before .before .pre;
-      rows = c .before .last-tasks .ensures;
+      rows = seen-rows (a .tasks) (a .ready .now) (a .begin .now) (a .finish .now) _ _ _ _ (c .before .last-tasks .ensures);
       size-mark = search needs;
       size-start = search needs;
       size-end = search needs;
@@ -34,14 +36,16 @@ start-free-requires c κs =
 
 returns : tie.Need-returns
 returns c =
-    let moved = c .before .before .before .before .before .args .t5 in
+    let a = c .before .before .before .before .before .args in
+    let moved = a .t6 in
+    let good = c .before .before .before .before .before .good .1 .1 .1 .1 .1 .0 in
     settled-is _ _ _ _ _ moved
     (record {
       fit = c .before .before .before .before .before .pre;
-      rows = c .before .before .last-tasks .ensures;
-      size-mark = search needs;
-      size-start = search needs;
-      size-end = search needs;
+      rows = seen-rows (a .tasks) (a .ready .now) (a .begin .now) (a .finish .now) _ _ _ _ (c .before .before .last-tasks .ensures);
+      size-mark = search (needs, good);
+      size-start = search (needs, good);
+      size-end = search (needs, good);
     })
     (c .before .skip-free .ensures)
     (c .start-free .ensures)

@@ -1,3 +1,4 @@
+use mathlib.Core.List.{[]}
 use Rattle.book.proofs.TableLaws.{table-none, table-row, table-skip}
 use Rattle.book.specs.private.Table.{TableTo}
 use Rattle.plan.specs.Value.{at}
@@ -12,7 +13,7 @@ use Rattle.book.proofs.table.last_tasks.Statement.{statement}
 use Rattle.book.proofs.table.last_tasks.Tie as tie
 
 abbrev Inv-loop : tie.InvT-loop
-Inv-loop board begin finish mark tasks last₀ i₀ last i = (i ≤ tasks) × (length last ≡ 64) × (TableTo (planSeen tasks begin finish) (at board) (at mark) i last)
+Inv-loop board begin finish mark tasks last₀ i₀ last i = (i ≤ tasks) × (length last ≡ 64) × (TableTo (planSeen tasks [] begin finish) (at board) (at mark) i last)
 
 abbrev μ-loop : tie.MeasureT-loop
 μ-loop board begin finish mark tasks last₀ i₀ last i = tasks - i

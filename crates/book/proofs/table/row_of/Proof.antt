@@ -1,3 +1,4 @@
+use mathlib.Core.List.{[]}
 use Rattle.book.proofs.TableLaws.{row-none, row-passed, row-taken, row-small}
 use borrow.Author.Tests.{le-leb, lt-leb}
 use Rattle.book.specs.private.Table.{RowTo}
@@ -13,7 +14,7 @@ use Rattle.book.proofs.table.row_of.Statement.{statement}
 use Rattle.book.proofs.table.row_of.Tie as tie
 
 abbrev Inv-loop : tie.InvT-loop
-Inv-loop board begin finish tasks i by row₀ k₀ row k = (k ≤ tasks) × (length row ≡ 8) × (RowTo (planSeen tasks begin finish) (at board) i k row)
+Inv-loop board begin finish tasks i by row₀ k₀ row k = (k ≤ tasks) × (length row ≡ 8) × (RowTo (planSeen tasks [] begin finish) (at board) i k row)
 
 abbrev μ-loop : tie.MeasureT-loop
 μ-loop board begin finish tasks i by row₀ k₀ row k = tasks - k

@@ -11,11 +11,11 @@ use Rattle.judge.proofs.ranges.all_kept.Statement.{statement}
 use Rattle.judge.proofs.ranges.all_kept.Tie as tie
 
 abbrev Inv-loop : tie.InvT-loop
-Inv-loop boards tasks board begin finish holds after n k₀ k =
-    every k (keptOk (planWith boards tasks board begin finish holds after)) ≡ true
+Inv-loop edition boards tasks board ready begin finish holds after n k₀ k =
+    every k (keptOk (planWith edition boards tasks board ready begin finish holds after)) ≡ true
 
 abbrev μ-loop : tie.MeasureT-loop
-μ-loop boards tasks board begin finish holds after n k₀ k = n - k
+μ-loop edition boards tasks board ready begin finish holds after n k₀ k = n - k
 
 loop-holds : tie.Need-loop-holds Inv-loop μ-loop
 unfolding every

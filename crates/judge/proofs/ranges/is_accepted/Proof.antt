@@ -11,10 +11,10 @@ returns : tie.Need-returns
 returns c = refused-sizes _ (c .if1 .taken)
 
 all-kept-requires : tie.Need-all-kept-requires
-all-kept-requires c κs = few-tasks (c .before .args .boards) (c .before .args .tasks) (c .if1 .left)
+all-kept-requires c κs = few-tasks (c .before .args .edition) (c .before .args .boards) (c .before .args .tasks) (c .if1 .left)
 
 past-blank-requires : tie.Need-past-blank-requires
-past-blank-requires c κs = few-tasks (c .before .before .args .boards) (c .before .before .args .tasks) (c .before .if1 .left)
+past-blank-requires c κs = few-tasks (c .before .before .args .edition) (c .before .before .args .boards) (c .before .before .args .tasks) (c .before .if1 .left)
 
 returns-2 : tie.Need-returns-2
 returns-2 c =
@@ -23,9 +23,9 @@ returns-2 c =
 
 judge-tasks-requires : tie.Need-judge-tasks-requires
 judge-tasks-requires c κs = (
-  some-tasks (c .before .before .before .before .args .boards) (c .before .before .before .before .args .tasks) (c .before .before .before .if1 .left),
-  kept-in-range (planWith (c .before .before .before .before .args .boards) (c .before .before .before .before .args .tasks) (now (c .before .before .before .before .args .board)) (now (c .before .before .before .before .args .begin)) (now (c .before .before .before .before .args .finish)) (now (c .before .before .before .before .args .holds)) (now (c .before .before .before .before .args .after))) (c .before .before .before .if1 .left) (c .before .before .all-kept .ensures) (c .before .past-blank .ensures) (c .if2 .left)
-      (few-tasks (c .before .before .before .before .args .boards) (c .before .before .before .before .args .tasks) (c .before .before .before .if1 .left)),
+  some-tasks (c .before .before .before .before .args .edition) (c .before .before .before .before .args .boards) (c .before .before .before .before .args .tasks) (c .before .before .before .if1 .left),
+  kept-in-range (planWith (c .before .before .before .before .args .edition) (c .before .before .before .before .args .boards) (c .before .before .before .before .args .tasks) (now (c .before .before .before .before .args .board)) (now (c .before .before .before .before .args .ready)) (now (c .before .before .before .before .args .begin)) (now (c .before .before .before .before .args .finish)) (now (c .before .before .before .before .args .holds)) (now (c .before .before .before .before .args .after))) (c .before .before .before .if1 .left) (c .before .before .all-kept .ensures) (c .before .past-blank .ensures) (c .if2 .left)
+      (few-tasks (c .before .before .before .before .args .edition) (c .before .before .before .before .args .boards) (c .before .before .before .before .args .tasks) (c .before .before .before .if1 .left)),
 )
 
 returns-3 : tie.Need-returns-3

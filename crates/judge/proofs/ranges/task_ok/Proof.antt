@@ -15,7 +15,7 @@ after-ok-requires c κs = search needs
 
 returns : tie.Need-returns
 returns c =
-    rw (c .before .before .numbers-ok .ensures, c .before .holds-ok .ensures, c .after-ok .ensures) (sym (kept-is _ _ _ _ _ _ _ _))
+    rw (c .before .before .numbers-ok .ensures, c .before .holds-ok .ensures, c .after-ok .ensures) (sym (kept-is _ _ _ _ _ _ _ _ _ _))
 
 pub task-ok-spec : {M : Type 1} → statement M
 task-ok-spec = tie.close (tie.spec numbers-ok-requires holds-ok-requires after-ok-requires returns)

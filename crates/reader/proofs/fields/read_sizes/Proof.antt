@@ -1,6 +1,7 @@
-use mathlib.Core.Path.{sym, _∙_}
-use Rattle.reader.proofs.LineLaws.{sizes-count, sizes-words, sizes-off, sizes-in}
+-- `reader::fields::read_sizes` meets its contract: each return by the tests that led there.
 use borrow.Author.Needs.{needs}
+use mathlib.Core.Path.{sym, _∙_}
+use Rattle.reader.proofs.LineLaws.{sizes-count, sizes-word, sizes-off, sizes-in}
 use Rattle.reader.proofs.fields.read_sizes.Statement.{statement}
 use Rattle.reader.proofs.fields.read_sizes.Tie as tie
 
@@ -11,8 +12,7 @@ no-sizes-requires : tie.Need-no-sizes-requires
 no-sizes-requires c κs = search needs
 
 returns : tie.Need-returns
-returns c =
-    c .no-sizes .ensures ∙ sizes-count _ (λ e. c .before .if1 .taken (c .before .before .count-fields .ensures ∙ e))
+returns c = (c .no-sizes .ensures) ∙ sizes-count _ (λ e. (c .before .if1 .taken) ((c .before .before .count-fields .ensures) ∙ e))
 
 field-requires : tie.Need-field-requires
 field-requires c κs = search needs
@@ -23,56 +23,38 @@ slice-aggregate-same c = search needs
 same-requires : tie.Need-same-requires
 same-requires c κs = search needs
 
-field-requires-2 : tie.Need-field-requires-2
-field-requires-2 c κs = search needs
-
-slice-aggregate-same-2 : tie.Need-slice-aggregate-same-2
-slice-aggregate-same-2 c = search needs
-
-same-requires-2 : tie.Need-same-requires-2
-same-requires-2 c κs = search needs
-
 no-sizes-requires-2 : tie.Need-no-sizes-requires-2
 no-sizes-requires-2 c κs = search needs
 
 returns-2 : tie.Need-returns-2
-returns-2 c =
-    c .no-sizes2 .ensures
-    ∙ sizes-words _ (sym (c .before .before .before .before .before .before .before .before .before .count-fields .ensures) ∙ c .before .before .before .before .before .before .before .before .if1 .left)
-    (rw (c .before .before .before .before .before .before .before .field .ensures) at (c .before .before .before .before .before .same .ensures))
-    (rw (c .before .before .before .before .field2 .ensures) at (c .before .before .same2 .ensures)) (c .before .if2 .taken)
+returns-2 c = (c .no-sizes2 .ensures) ∙ sizes-word _ (sym (c .before .before .before .before .before .before .count-fields .ensures) ∙ (c .before .before .before .before .before .if1 .left)) (rw (c .before .before .before .before .field .ensures) at (c .before .before .same .ensures)) (c .before .if2 .taken)
 
-field-requires-3 : tie.Need-field-requires-3
-field-requires-3 c κs = search needs
+field-requires-2 : tie.Need-field-requires-2
+field-requires-2 c κs = search needs
 
 read-ranged-requires : tie.Need-read-ranged-requires
 read-ranged-requires c κs = search needs
 
-field-requires-4 : tie.Need-field-requires-4
-field-requires-4 c κs = search needs
+field-requires-3 : tie.Need-field-requires-3
+field-requires-3 c κs = search needs
 
 read-ranged-requires-2 : tie.Need-read-ranged-requires-2
 read-ranged-requires-2 c κs = search needs
+
+field-requires-4 : tie.Need-field-requires-4
+field-requires-4 c κs = search needs
+
+read-ranged-requires-3 : tie.Need-read-ranged-requires-3
+read-ranged-requires-3 c κs = search needs
 
 no-sizes-requires-3 : tie.Need-no-sizes-requires-3
 no-sizes-requires-3 c κs = search needs
 
 returns-3 : tie.Need-returns-3
-returns-3 c =
-    c .no-sizes3 .ensures
-    ∙ sizes-off _ (sym (c .before .before .before .before .before .before .before .before .before .before .before .before .before .before .before .before .count-fields .ensures) ∙ c .before .before .before .before .before .before .before .before .before .before .before .before .before .before .before .if1 .left)
-    (rw (c .before .before .before .before .before .before .before .before .before .before .before .before .before .before .field .ensures) at (c .before .before .before .before .before .before .before .before .before .before .before .before .same .ensures))
-    (rw (c .before .before .before .before .before .before .before .before .before .before .before .field2 .ensures) at (c .before .before .before .before .before .before .before .before .before .same2 .ensures)) (c .before .before .before .before .before .before .before .before .if2 .left)
-    (rw (c .before .before .before .before .before .before .before .field3 .ensures) at (c .before .before .before .before .before .before .read-ranged .ensures))
-    (rw (c .before .before .before .before .before .field4 .ensures) at (c .before .before .before .before .read-ranged2 .ensures)) (c .before .if3 .taken)
+returns-3 c = (c .no-sizes3 .ensures) ∙ sizes-off _ (sym (c .before .before .before .before .before .before .before .before .before .before .before .before .before .before .before .before .count-fields .ensures) ∙ (c .before .before .before .before .before .before .before .before .before .before .before .before .before .before .before .if1 .left)) (rw (c .before .before .before .before .before .before .before .before .before .before .before .before .before .before .field .ensures) at (c .before .before .before .before .before .before .before .before .before .before .before .before .same .ensures)) (c .before .before .before .before .before .before .before .before .before .before .before .if2 .left) (rw (c .before .before .before .before .before .before .before .before .before .before .field2 .ensures) at (c .before .before .before .before .before .before .before .before .before .read-ranged .ensures)) (rw (c .before .before .before .before .before .before .before .before .field3 .ensures) at (c .before .before .before .before .before .before .before .read-ranged2 .ensures)) (rw (c .before .before .before .before .before .before .field4 .ensures) at (c .before .before .before .before .before .read-ranged3 .ensures)) (c .before .if3 .taken)
 
 returns-4 : tie.Need-returns-4
-returns-4 c =
-    sizes-in _ (sym (c .before .before .before .before .before .before .before .before .before .before .before .before .before .before .before .count-fields .ensures) ∙ c .before .before .before .before .before .before .before .before .before .before .before .before .before .before .if1 .left)
-    (rw (c .before .before .before .before .before .before .before .before .before .before .before .before .before .field .ensures) at (c .before .before .before .before .before .before .before .before .before .before .before .same .ensures))
-    (rw (c .before .before .before .before .before .before .before .before .before .before .field2 .ensures) at (c .before .before .before .before .before .before .before .before .same2 .ensures)) (c .before .before .before .before .before .before .before .if2 .left)
-    (rw (c .before .before .before .before .before .before .field3 .ensures) at (c .before .before .before .before .before .read-ranged .ensures))
-    (rw (c .before .before .before .before .field4 .ensures) at (c .before .before .before .read-ranged2 .ensures)) (c .if3 .left)
+returns-4 c = sizes-in _ (sym (c .before .before .before .before .before .before .before .before .before .before .before .before .before .before .before .count-fields .ensures) ∙ (c .before .before .before .before .before .before .before .before .before .before .before .before .before .before .if1 .left)) (rw (c .before .before .before .before .before .before .before .before .before .before .before .before .before .field .ensures) at (c .before .before .before .before .before .before .before .before .before .before .before .same .ensures)) (c .before .before .before .before .before .before .before .before .before .before .if2 .left) (rw (c .before .before .before .before .before .before .before .before .before .field2 .ensures) at (c .before .before .before .before .before .before .before .before .read-ranged .ensures)) (rw (c .before .before .before .before .before .before .before .field3 .ensures) at (c .before .before .before .before .before .before .read-ranged2 .ensures)) (rw (c .before .before .before .before .before .field4 .ensures) at (c .before .before .before .before .read-ranged3 .ensures)) (c .if3 .left)
 
 pub read-sizes-spec : {M : Type 1} → statement M
 read-sizes-spec =
@@ -84,15 +66,14 @@ read-sizes-spec =
     field-requires
     slice-aggregate-same
     same-requires
-    field-requires-2
-    slice-aggregate-same-2
-    same-requires-2
     no-sizes-requires-2
     returns-2
-    field-requires-3
+    field-requires-2
     read-ranged-requires
-    field-requires-4
+    field-requires-3
     read-ranged-requires-2
+    field-requires-4
+    read-ranged-requires-3
     no-sizes-requires-3
     returns-3
     returns-4)

@@ -15,34 +15,52 @@ wide-requires c κs = search needs
 
 put-number-field-requires : tie.Need-put-number-field-requires
 put-number-field-requires c κs =
-    let words = c .before .before .before .before in
-    rw (c .wide .ensures)
-    (next-room (put (all-left _ (sizes-text _ _) (words .before .before .before .before .pre)) (words .put-text .ensures)))
+    let word = c .before .before .before .before in
+    rw (c .wide .ensures) (next-room (put (all-left _ (sizes-text _ _ _) (word .before .before .before .before .pre)) (word .put-text .ensures)))
 
 wide-requires-2 : tie.Need-wide-requires-2
 wide-requires-2 c κs = search needs
 
 put-number-field-requires-2 : tie.Need-put-number-field-requires-2
 put-number-field-requires-2 c κs =
-    let boards = c .before .before .before .before in
-    let words = boards .before .before .before .before .before in
+    let edition = c .before .before .before .before in
+    let word = edition .before .before .before .before .before in
     rw (c .wide2 .ensures)
     (next-room
     (turn
-    (put (all-left _ (sizes-text _ _) (words .before .before .before .before .pre)) (words .put-text .ensures))
-    (rw (boards .before .wide .ensures) at (boards .put-number-field .ensures))))
+    (put (all-left _ (sizes-text _ _ _) (word .before .before .before .before .pre)) (word .put-text .ensures))
+    (rw (edition .before .wide .ensures) at (edition .put-number-field .ensures))))
+
+wide-requires-3 : tie.Need-wide-requires-3
+wide-requires-3 c κs = search needs
+
+put-number-field-requires-3 : tie.Need-put-number-field-requires-3
+put-number-field-requires-3 c κs =
+    let boards = c .before .before .before .before in
+    let edition = boards .before .before .before .before .before in
+    let word = edition .before .before .before .before .before in
+    rw (c .wide3 .ensures)
+    (next-room
+    (turn
+    (turn
+    (put (all-left _ (sizes-text _ _ _) (word .before .before .before .before .pre)) (word .put-text .ensures))
+    (rw (edition .before .wide .ensures) at (edition .put-number-field .ensures)))
+    (rw (boards .before .wide2 .ensures) at (boards .put-number-field2 .ensures))))
 
 returns : tie.Need-returns
 returns c =
     let tasks = c .before .before in
     let boards = tasks .before .before .before .before .before in
-    let words = boards .before .before .before .before .before in
+    let edition = boards .before .before .before .before .before in
+    let word = edition .before .before .before .before .before in
     done
     (turn
     (turn
-    (put (all-left _ (sizes-text _ _) (words .before .before .before .before .pre)) (words .put-text .ensures))
-    (rw (boards .before .wide .ensures) at (boards .put-number-field .ensures)))
-    (rw (tasks .before .wide2 .ensures) at (tasks .put-number-field2 .ensures)))
+    (turn
+    (put (all-left _ (sizes-text _ _ _) (word .before .before .before .before .pre)) (word .put-text .ensures))
+    (rw (edition .before .wide .ensures) at (edition .put-number-field .ensures)))
+    (rw (boards .before .wide2 .ensures) at (boards .put-number-field2 .ensures)))
+    (rw (tasks .before .wide3 .ensures) at (tasks .put-number-field3 .ensures)))
 
 same-length : tie.Need-same-length
 same-length c = wrote-length (returns c)
@@ -57,5 +75,7 @@ put-sizes-spec =
     put-number-field-requires
     wide-requires-2
     put-number-field-requires-2
+    wide-requires-3
+    put-number-field-requires-3
     same-length
     returns)

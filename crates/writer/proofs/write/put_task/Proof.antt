@@ -34,11 +34,17 @@ mul-put-numbers-2 c = search needs
 element-copy-out-put-numbers-2 : tie.Need-element-copy-out-put-numbers-2
 element-copy-out-put-numbers-2 c = search needs
 
+mul-put-numbers-3 : tie.Need-mul-put-numbers-3
+mul-put-numbers-3 c = search needs
+
+element-copy-out-put-numbers-3 : tie.Need-element-copy-out-put-numbers-3
+element-copy-out-put-numbers-3 c = search needs
+
 put-numbers-requires : tie.Need-put-numbers-requires
 put-numbers-requires c κs =
-    let word = c .before .before .before .before .before .before .before in
-    rw (c .before .before .wide .ensures)
-    (next-room (put (all-left _ (task-text _ _) (word .before .before .before .before .pre .1)) (word .put-text .ensures)))
+    let word = c .before .before .before .before .before .before .before .before in
+    rw (c .before .before .before .wide .ensures)
+    (next-room (put (all-left _ (task-text _ _ _) (word .before .before .before .before .pre .1)) (word .put-text .ensures)))
 
 mul-items-at : tie.Need-mul-items-at
 mul-items-at c = search needs
@@ -49,12 +55,12 @@ items-at-requires c κs = search needs
 put-list-field-requires : tie.Need-put-list-field-requires
 put-list-field-requires c κs =
     let numbers = c .before .before .before .before .before in
-    let word = numbers .before .before .before .before .before .before .before .before in
+    let word = numbers .before .before .before .before .before .before .before .before .before in
     rw (c .items-at .ensures)
     (next-room
     (turn
-    (put (all-left _ (task-text _ _) (word .before .before .before .before .pre .1)) (word .put-text .ensures))
-    (rw (numbers .before .before .before .wide .ensures) at (numbers .put-numbers .ensures))))
+    (put (all-left _ (task-text _ _ _) (word .before .before .before .before .pre .1)) (word .put-text .ensures))
+    (rw (numbers .before .before .before .before .wide .ensures) at (numbers .put-numbers .ensures))))
 
 mul-items-at-2 : tie.Need-mul-items-at-2
 mul-items-at-2 c = search needs
@@ -66,13 +72,13 @@ put-list-field-requires-2 : tie.Need-put-list-field-requires-2
 put-list-field-requires-2 c κs =
     let held = c .before .before .before .before .before in
     let numbers = held .before .before .before .before .before .before in
-    let word = numbers .before .before .before .before .before .before .before .before in
+    let word = numbers .before .before .before .before .before .before .before .before .before in
     rw (c .items-at2 .ensures)
     (next-room
     (turn
     (turn
-    (put (all-left _ (task-text _ _) (word .before .before .before .before .pre .1)) (word .put-text .ensures))
-    (rw (numbers .before .before .before .wide .ensures) at (numbers .put-numbers .ensures)))
+    (put (all-left _ (task-text _ _ _) (word .before .before .before .before .pre .1)) (word .put-text .ensures))
+    (rw (numbers .before .before .before .before .wide .ensures) at (numbers .put-numbers .ensures)))
     (rw (held .before .items-at .ensures) at (held .put-list-field .ensures))))
 
 returns : tie.Need-returns
@@ -80,13 +86,13 @@ returns c =
     let listed = c .before .before in
     let held = listed .before .before .before .before .before .before in
     let numbers = held .before .before .before .before .before .before in
-    let word = numbers .before .before .before .before .before .before .before .before in
+    let word = numbers .before .before .before .before .before .before .before .before .before in
     done
     (turn
     (turn
     (turn
-    (put (all-left _ (task-text _ _) (word .before .before .before .before .pre .1)) (word .put-text .ensures))
-    (rw (numbers .before .before .before .wide .ensures) at (numbers .put-numbers .ensures)))
+    (put (all-left _ (task-text _ _ _) (word .before .before .before .before .pre .1)) (word .put-text .ensures))
+    (rw (numbers .before .before .before .before .wide .ensures) at (numbers .put-numbers .ensures)))
     (rw (held .before .items-at .ensures) at (held .put-list-field .ensures)))
     (rw (listed .before .items-at2 .ensures) at (listed .put-list-field2 .ensures)))
 
@@ -107,6 +113,8 @@ put-task-spec =
     element-copy-out-put-numbers
     mul-put-numbers-2
     element-copy-out-put-numbers-2
+    mul-put-numbers-3
+    element-copy-out-put-numbers-3
     put-numbers-requires
     mul-items-at
     items-at-requires

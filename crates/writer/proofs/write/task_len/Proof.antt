@@ -1,16 +1,16 @@
 use Prim.Native.Nat.{_+_}
 use native.Mathlib.Omega.{arith}
-use Rattle.judge.specs.private.Arrays.{tasksIn}
+use Rattle.writer.specs.private.WriteParts.{tasksIn}
 use Rattle.writer.proofs.WriteLaws.{few-items, task-length}
 use borrow.Author.Needs.{needs}
 use Rattle.writer.proofs.write.task_len.Statement.{statement}
 use Rattle.writer.proofs.write.task_len.Tie as tie
 
-add-numbers-len : tie.Need-add-numbers-len
-add-numbers-len c = search needs
+add-number : tie.Need-add-number
+add-number c = search needs
 
-cast-numbers-len : tie.Need-cast-numbers-len
-cast-numbers-len c = search needs
+cast-number : tie.Need-cast-number
+cast-number c = search needs
 
 element-copy-out-wide : tie.Need-element-copy-out-wide
 element-copy-out-wide c = search needs
@@ -30,6 +30,12 @@ mul-numbers-len-2 c = search needs
 element-copy-out-numbers-len-2 : tie.Need-element-copy-out-numbers-len-2
 element-copy-out-numbers-len-2 c = search needs
 
+mul-numbers-len-3 : tie.Need-mul-numbers-len-3
+mul-numbers-len-3 c = search needs
+
+element-copy-out-numbers-len-3 : tie.Need-element-copy-out-numbers-len-3
+element-copy-out-numbers-len-3 c = search needs
+
 numbers-len-requires : tie.Need-numbers-len-requires
 numbers-len-requires c κs = search needs
 
@@ -40,7 +46,8 @@ items-at-requires : tie.Need-items-at-requires
 items-at-requires c κs = search needs
 
 list-len-requires : tie.Need-list-len-requires
-list-len-requires c κs = rw (c .items-at .ensures) (few-items 32 (c .before .before .before .before .before .before .before .args .k) (c .before .before .before .before .before .before .before .args .holds .now) (omega arith))
+list-len-requires c κs =
+    let s = c .before .before .before .before .before .before .before .before .args in rw (c .items-at .ensures) (few-items 32 (s .k) (s .holds .now) (omega arith))
 
 mul-items-at-2 : tie.Need-mul-items-at-2
 mul-items-at-2 c = search needs
@@ -49,7 +56,8 @@ items-at-requires-2 : tie.Need-items-at-requires-2
 items-at-requires-2 c κs = search needs
 
 list-len-requires-2 : tie.Need-list-len-requires-2
-list-len-requires-2 c κs = rw (c .items-at2 .ensures) (few-items 64 (c .before .before .before .before .before .before .before .before .before .before .args .k) (c .before .before .before .before .before .before .before .before .before .before .args .after .now) (omega arith))
+list-len-requires-2 c κs =
+    let s = c .before .before .before .before .before .before .before .before .before .before .before .args in rw (c .items-at2 .ensures) (few-items 64 (s .k) (s .after .now) (omega arith))
 
 add-result : tie.Need-add-result
 add-result c = search needs
@@ -67,27 +75,29 @@ returns : tie.Need-returns
 returns c =
     let held = c .before .before .before in
     let numbers = held .before .before .before in
-    let s = numbers .before .before .before .before .before in
+    let s = numbers .before .before .before .before .before .before .args in
     omega (
       arith,
-      rw (numbers .before .before .before .wide .ensures) at (numbers .numbers-len .ensures .is),
+      rw (numbers .before .before .before .before .wide .ensures) at (numbers .numbers-len .ensures .is),
       rw (held .before .items-at .ensures) at (held .list-len .ensures .is),
       rw (c .before .items-at2 .ensures) at (c .list-len2 .ensures .is),
-      task-length (s .args .k + 1) (tasksIn (s .args .board .now) (s .args .begin .now) (s .args .finish .now) (s .args .holds .now) (s .args .after .now) (s .args .k)),
+      task-length (s .edition) (s .k + 1) (tasksIn (s .board .now) (s .ready .now) (s .begin .now) (s .finish .now) (s .holds .now) (s .after .now) (s .k)),
     )
 
 pub task-len-spec : {M : Type 1} → statement M
 task-len-spec =
     tie.close
     (tie.spec
-    add-numbers-len
-    cast-numbers-len
+    add-number
+    cast-number
     element-copy-out-wide
     wide-requires
     mul-numbers-len
     element-copy-out-numbers-len
     mul-numbers-len-2
     element-copy-out-numbers-len-2
+    mul-numbers-len-3
+    element-copy-out-numbers-len-3
     numbers-len-requires
     mul-items-at
     items-at-requires

@@ -2,19 +2,19 @@ use Prim.Native.Nat.{_-_, _*_, _≤_}
 use mathlib.Core.Path.{_≡_, refl}
 use native.Mathlib.Omega.{arith}
 use lib.ListN.{length}
-use Rattle.judge.specs.private.Arrays.{tasksIn}
 use Rattle.plan.specs.Write.{taskTexts}
+use Rattle.writer.specs.private.WriteParts.{tasksIn}
 use Rattle.writer.proofs.WriteLaws.{texts-length, all-length}
 use borrow.Author.Needs.{needs}
 use Rattle.writer.proofs.write.tasks_len.Statement.{statement}
 use Rattle.writer.proofs.write.tasks_len.Tie as tie
 
 abbrev Inv-loop : tie.InvT-loop
-Inv-loop tasks board begin finish holds after n₀ k₀ n k =
-    (k ≤ tasks) × (n ≤ 2000 * k) × (n ≡ length (taskTexts (tasksIn board begin finish holds after) k))
+Inv-loop edition tasks board ready begin finish holds after n₀ k₀ n k =
+    (k ≤ tasks) × (n ≤ 2000 * k) × (n ≡ length (taskTexts edition (tasksIn board ready begin finish holds after) k))
 
 abbrev μ-loop : tie.MeasureT-loop
-μ-loop tasks board begin finish holds after n₀ k₀ n k = tasks - k
+μ-loop edition tasks board ready begin finish holds after n₀ k₀ n k = tasks - k
 
 loop-holds : tie.Need-loop-holds Inv-loop μ-loop
 unfolding taskTexts
@@ -38,11 +38,11 @@ loop-again c =
       omega arith,
       omega arith,
       omega
-          (arith, texts-length (tasksIn (s .args .board .now) (s .args .begin .now) (s .args .finish .now) (s .args .holds .now) (s .args .after .now)) (c .before .before .loop .k)),
+          (arith, texts-length (s .args .edition) (tasksIn (s .args .board .now) (s .args .ready .now) (s .args .begin .now) (s .args .finish .now) (s .args .holds .now) (s .args .after .now)) (c .before .before .loop .k)),
     )
 
 returns : tie.Need-returns Inv-loop μ-loop
-returns c = record { is = all-length _ (c .before .loop .inv .0) (c .loop-test .left) (c .before .loop .inv .2); small = omega arith }
+returns c = record { is = all-length _ _ (c .before .loop .inv .0) (c .loop-test .left) (c .before .loop .inv .2); small = omega arith }
 
 pub tasks-len-spec : {M : Type 1} → statement M
 tasks-len-spec =

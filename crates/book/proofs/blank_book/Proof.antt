@@ -1,0 +1,9 @@
+use Rattle.book.proofs.Handed.{blank-laid}
+use Rattle.book.proofs.blank_book.Statement.{statement}
+use Rattle.book.proofs.blank_book.Tie as tie
+
+returns : tie.Need-returns
+returns c = blank-laid (c .before .before .before .before .before .before .args .plan)
+
+pub blank-book-spec : {M : Type 1} → statement M
+blank-book-spec = tie.close (tie.spec returns)

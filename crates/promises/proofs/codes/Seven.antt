@@ -1,0 +1,228 @@
+-- A text whose first line does not say edition 2 reads, and is refused, as the reader of seven fields has it.
+use Prim.Native.Nat.{ℕ, _+_, _<_}
+use native.Mathlib.Omega.{arith}
+use mathlib.Core.Bool.{Bool, true, false, not, cond, _&&_}
+use mathlib.Core.List.{List, _∷_}
+use mathlib.Core.Path.{_≡_, refl, sym, ap, fun-ext, _∙_}
+use mathlib.Core.Logic.{⊎-elim}
+use lib.Dec.{eqb, ltb}
+use lib.ListN.{length}
+use borrow.Author.Tests.{lt-ltb, le-ltb}
+use Rattle.laws.proofs.Cases.{by-bool, by-eq, by-le, and-no, same-test, true-false}
+use Rattle.laws.specs.Digits.{valueAfter, digitsOf}
+use Rattle.laws.specs.Lists.{anyOf, same}
+use Rattle.laws.proofs.Lists.{same-eq, same-refl}
+use Rattle.laws.specs.Scan.{scanTo}
+use Rattle.laws.specs.Split.{indexOf, beginOf}
+use Rattle.laws.proofs.Split.{index-found, index-first}
+use Rattle.text.specs.Bytes.{bytes}
+use Rattle.text.specs.Number.{isNumber, valueOf, most, numberOf}
+use Rattle.text.specs.Line.{TAB, hasLine, skip, lineAt, field}
+use Rattle.text.specs.Items.{between}
+use Rattle.text.specs.declared.Number.{Number}
+use Rattle.text.specs.declared.Number.the-variants.{Value, Over, Misspelt}
+use Rattle.faults.specs.Faults.{numberCode, fieldCode, worst, faultOf}
+use Rattle.faults.specs.declared.Fault.{Fault}
+use Rattle.faults.proofs.RangedLaws.{ranged-code, ranged-value}
+use Rattle.faults.proofs.FaultLaws.{any-found}
+use Rattle.plan.specs.Answer.{refuse, granted, isGranted, isRefused}
+use Rattle.plan.specs.Judged.{tasksAnswer}
+use Rattle.plan.specs.Value.{at, planOf}
+use Rattle.plan.specs.Read.{ranged, sizesOk, editionOf, boardsOf, tasksOf, startAt, codesFrom, taskCodes, taskFrom, lineTask}
+use Rattle.plan.specs.Read.{lineAnswer, linesAnswer, textTask, formAnswer, textAnswer, textPlan, readAs, readingOf}
+use Rattle.plan.specs.declared.Answer.{Answer}
+use Rattle.plan.specs.declared.Plan.{Plan}
+use Rattle.plan.proofs.TextLines.{number-range, sizes-test}
+use Rattle.promises.specs.Edition1.{sevenSizes, sevenCodes, sevenTask, sevenWorst, sevenFault, sevenLine, sevenLines, sevenForm, sevenAnswer, sevenReading}
+use Rattle.promises.proofs.codes.Columns.{Plain, plain-not, field-plain, first-plain}
+
+-- ---- a line's fault by where 3 and 4 stand
+
+-- nothing is 18
+no-eighteen : (codes : List ℕ) → ((n : ℕ) → Plain (at codes n)) → anyOf (eqb 18) codes ≡ false
+no-eighteen codes plain =
+    any-found 18 codes
+    ∙ le-ltb (indexOf 18 codes) (length codes)
+    (by-le (length codes) (indexOf 18 codes) (λ l. l) (λ l. absurd (plain-not (plain (indexOf 18 codes)) (index-found 18 codes 0 l))))
+
+fault-seven : (line codes : List ℕ) → ((n : ℕ) → Plain (at codes n)) → faultOf line codes ≡ sevenFault line codes
+unfolding faultOf worst sevenWorst
+fault-seven line codes plain = rw (no-eighteen codes plain)
+
+-- by the number of codes and the places of 3 and 4
+abbrev faultBy : List ℕ → ℕ → ℕ → ℕ → Fault
+faultBy line count three four =
+    cond (ltb three count) (record { code = 3; column = beginOf TAB line three + 1 })
+    (cond (ltb four count) (record { code = 4; column = beginOf TAB line four + 1 }) (record { code = 0; column = 0 }))
+
+fault-by : (line codes : List ℕ) → sevenFault line codes ≡ faultBy line (length codes) (indexOf 3 codes) (indexOf 4 codes)
+unfolding sevenWorst
+fault-by line codes =
+    by-bool (anyOf (eqb 3) codes) (λ e. rw (e, sym (any-found 3 codes) ∙ e))
+    (λ e.
+    by-bool (anyOf (eqb 4) codes)
+    (λ f. rw (e, f, sym (any-found 3 codes) ∙ e, sym (any-found 4 codes) ∙ f))
+    (λ f. rw (e, f, sym (any-found 3 codes) ∙ e, sym (any-found 4 codes) ∙ f)))
+
+-- two lines of codes that differ after a faulty one, and in no 3
+module _ (line : List ℕ) (a b c d x y : ℕ) (rest : List ℕ) (plain : Plain d) (alike : eqb x 3 ≡ eqb y 3) where
+  abbrev these : List ℕ
+  these = a ∷ b ∷ c ∷ d ∷ x ∷ rest
+
+  abbrev those : List ℕ
+  those = a ∷ b ∷ c ∷ d ∷ y ∷ rest
+
+  by-three : d ≡ 3 → sevenFault line these ≡ sevenFault line those
+  unfolding indexOf
+  by-three e =
+      let here : indexOf 3 these ≡ indexOf 3 those = rw e in
+      let found : indexOf 3 these < length these =
+      by-le (length these) (indexOf 3 these) (λ l. absurd (index-first 3 these 0 3 (omega arith) e)) (λ l. l) in
+      let found′ : indexOf 3 those < length those = omega arith in
+      fault-by line these
+      ∙ rw (lt-ltb (indexOf 3 these) (length these) found, here)
+      (sym (fault-by line those ∙ rw (lt-ltb (indexOf 3 those) (length those) found′)))
+
+  by-four : d ≡ 4 → sevenFault line these ≡ sevenFault line those
+  unfolding indexOf
+  by-four e =
+      let three : indexOf 3 these ≡ indexOf 3 those = rw (e, alike) in
+      let four : indexOf 4 these ≡ indexOf 4 those = rw e in
+      fault-by line these ∙ (λ i. faultBy line (length these) (three i) (four i)) ∙ sym (fault-by line those)
+
+  pub same-fault : (d ≡ 0 → x ≡ y) → sevenFault line these ≡ sevenFault line those
+  same-fault f =
+      ⊎-elim (λ z. ap (λ (v : ℕ). sevenFault line (a ∷ b ∷ c ∷ d ∷ v ∷ rest)) (f z)) (⊎-elim by-three by-four) plain
+
+-- a number is misspelt in whatever range
+misspelt-same : (low other high : ℕ) (s : List ℕ) → eqb (fieldCode low high s) 3 ≡ eqb (fieldCode other high s) 3
+misspelt-same low other high s = go (numberOf s)
+  where
+    go : (r : Number) → eqb (numberCode low high r) 3 ≡ eqb (numberCode other high r) 3
+    go (Value v stop) =
+        by-bool (between low high v)
+        (λ e. by-bool (between other high v) (λ f. rw (e, f)) (λ f. rw (e, f)))
+        (λ e. by-bool (between other high v) (λ f. rw (e, f)) (λ f. rw (e, f)))
+    go (Over stop) = refl
+    go (Misspelt stop) = refl
+
+line-fault :
+    (ended : Bool) (boards tasks : ℕ) (line : List ℕ) (k : ℕ)
+    → faultOf line (taskCodes ended 1 boards tasks line k) ≡ sevenFault line (sevenCodes ended boards tasks line k)
+unfolding taskCodes codesFrom sevenCodes
+line-fault ended boards tasks line k =
+    fault-seven line (taskCodes ended 1 boards tasks line k) (first-plain line ended 1 boards tasks k (λ z. omega arith))
+    ∙ same-fault line _ _ _ (fieldCode 0 most (field line 3)) _ _ _ (field-plain 0 most (field line 3))
+    (misspelt-same (startAt line 3 + 1) (valueOf (field line 3) + 1) most (field line 4))
+    (λ z.
+    ap (λ (v : ℕ). fieldCode (v + 1) most (field line 4))
+    (ranged-value 0 most (field line 3) (ranged-code 0 most (field line 3) ∙ z)))
+
+-- ---- the first line
+
+one-is : (f : List ℕ) → same f (bytes "1") ≡ true → (ranged 1 2 f ≡ true) × (valueOf f ≡ 1)
+unfolding isNumber valueAfter
+one-is f h = let e = same-eq f (bytes "1") h in (rw e, rw e)
+
+-- a number has one spelling
+spelt : (f g : List ℕ) → ranged 1 2 f ≡ true → ranged 1 2 g ≡ true → valueOf f ≡ valueOf g → f ≡ g
+spelt f g h l e = sym (number-range 1 2 f h .0) ∙ ap digitsOf e ∙ number-range 1 2 g l .0
+
+edition-one : (f : List ℕ) → same f (bytes "2") ≡ false → ranged 1 2 f ≡ same f (bytes "1")
+unfolding isNumber valueAfter
+edition-one f other =
+    same-test (ranged 1 2 f) (same f (bytes "1"))
+    (λ h.
+    let r = number-range 1 2 f h in
+    by-eq (valueOf f) 1
+    (λ e. let q = spelt f (bytes "1") h refl e in rw q (same-refl (bytes "1")))
+    (λ n.
+    let e : valueOf f ≡ 2 = omega (arith, r .1, r .2) in
+    let q = spelt f (bytes "2") h refl e in
+    true-false (rw q (same-refl (bytes "2"))) other))
+    (λ h. one-is f h .0)
+
+-- ---- the whole text
+
+-- what is said of a refused text does not look at its lines
+read-refused : (x : Answer) (p q : Plan) → isGranted x ≡ false → readAs x p ≡ readAs x q
+read-refused x p q h = rw h
+
+module _ (s : List ℕ) (other : same (field (lineAt s 0) 1) (bytes "2") ≡ false) where
+  sizes-seven : sizesOk (lineAt s 0) ≡ sevenSizes (lineAt s 0)
+  unfolding sizesOk sevenSizes
+  sizes-seven = rw (edition-one (field (lineAt s 0) 1) other)
+
+  -- the checks of 1, 2, the lines' and 5
+  abbrev formWith : Bool → Answer → Answer
+  formWith first lines =
+      cond (ltb 32768 (length s)) (refuse 1 0 0)
+      (cond (not first) (refuse 2 1 0)
+      (cond (isRefused lines) lines (cond (ltb 0 (length (skip (tasksOf s + 1) s))) (refuse 5 (tasksOf s + 2) 0) granted)))
+
+  form-is : formAnswer s ≡ formWith (hasLine s && sizesOk (lineAt s 0)) (linesAnswer s)
+  unfolding formAnswer
+  form-is = refl
+
+  seven-is : sevenForm s ≡ formWith (hasLine s && sevenSizes (lineAt s 0)) (sevenLines s)
+  unfolding sevenForm
+  seven-is = refl
+
+  -- the first line is as stated
+  module _ (h : sizesOk (lineAt s 0) ≡ true) where
+    one : editionOf s ≡ 1
+    one = one-is (field (lineAt s 0) 1) (sym (edition-one (field (lineAt s 0) 1) other) ∙ sizes-test (lineAt s 0) h 2 (omega arith)) .1
+
+    line-seven : (k : ℕ) → lineAnswer s k ≡ sevenLine s k
+    unfolding lineAnswer
+    line-seven k =
+        ap (λ (f : Fault). refuse (f .code) (k + 1) (f .column))
+        (ap (λ (e : ℕ). faultOf (lineAt s k) (taskCodes (hasLine (skip k s)) e (boardsOf s) (tasksOf s) (lineAt s k) k)) one
+        ∙ line-fault (hasLine (skip k s)) (boardsOf s) (tasksOf s) (lineAt s k) k)
+
+    lines-seven : linesAnswer s ≡ sevenLines s
+    unfolding linesAnswer
+    lines-seven = ap (λ (f : ℕ → Answer). scanTo isRefused granted f 1 (tasksOf s + 1)) (fun-ext line-seven)
+
+    tasks-seven : textTask s ≡ sevenTask s
+    unfolding lineTask taskFrom
+    tasks-seven = fun-ext (λ k. rw one)
+
+    form-seven : formAnswer s ≡ sevenForm s
+    form-seven = form-is ∙ (λ i. formWith (hasLine s && sizes-seven i) (lines-seven i)) ∙ sym seven-is
+
+    stated : readingOf s ≡ sevenReading s
+    unfolding readingOf textAnswer
+    stated =
+        λ i.
+        readAs (cond (isRefused (form-seven i)) (form-seven i) (tasksAnswer (tasksOf s) (tasks-seven i)))
+        (planOf (one i) (boardsOf s) (tasksOf s) (tasks-seven i))
+
+  -- or not: 1 or 2
+  module _ (h : sizesOk (lineAt s 0) ≡ false) where
+    abbrev short : Answer
+    short = cond (ltb 32768 (length s)) (refuse 1 0 0) (refuse 2 1 0)
+
+    short-form : formAnswer s ≡ short
+    short-form = form-is ∙ rw (h, and-no (hasLine s))
+
+    short-seven : sevenForm s ≡ short
+    short-seven = seven-is ∙ rw (sym sizes-seven ∙ h, and-no (hasLine s))
+
+    short-refused : (isGranted short ≡ false) × (isRefused short ≡ true)
+    short-refused = by-bool (ltb 32768 (length s)) (λ e. rw e (refl, refl)) (λ e. rw e (refl, refl))
+
+    short-answer : (x : Answer) → cond (isRefused short) short x ≡ short
+    short-answer x = rw (short-refused .1)
+
+    unstated : readingOf s ≡ sevenReading s
+    unfolding readingOf textAnswer
+    unstated =
+        let new : textAnswer s ≡ short = rw short-form (short-answer _) in
+        let old : sevenAnswer s ≡ short = rw short-seven (short-answer _) in
+        ap (λ (x : Answer). readAs x (textPlan s)) new
+        ∙ read-refused short (textPlan s) _ (short-refused .0)
+        ∙ ap (λ (x : Answer). readAs x (planOf 1 (boardsOf s) (tasksOf s) (sevenTask s))) (sym old)
+
+  pub reading-seven : readingOf s ≡ sevenReading s
+  reading-seven = by-bool (sizesOk (lineAt s 0)) stated unstated
