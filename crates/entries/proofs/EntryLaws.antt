@@ -34,11 +34,7 @@ module _ (line codes : List ℕ) (kinds : allOf isCode codes ≡ true) {t : Bool
   says n q = rw (← clean, not-false t n) q
 
 value-at : (s : List ℕ) {x : Ranged} → x ≡ rangedRead 0 most s → eqb 0 (x .code) ≡ true → x .value ≡ valueOf s
-value-at s {x} p q =
-    ap (λ (y : Ranged). y .value) p ∙ ranged-value 0 most s (ap (λ (y : Ranged). y .code) (sym p) ∙ sym (eqb-true 0 (x .code) q))
-
-code-of : (s : List ℕ) {x : Ranged} → x ≡ rangedRead 0 most s → x .code ≡ fieldCode 0 most s
-code-of s p = ap (λ (y : Ranged). y .code) p ∙ ranged-code 0 most s
+value-at s {x} p q = ranged-value 0 most s p (sym (eqb-true 0 (x .code) q ∙ ranged-code 0 most s p))
 
 pub end-kinds : (ended : Bool) (line : List ℕ) → allOf isCode (endCodes ended line) ≡ true
 unfolding endCodes allOf
@@ -61,8 +57,8 @@ module _ (ended : Bool) (line : List ℕ) (other : same (field line 0) (bytes "d
   codes-are : codes ≡ endCodes ended line
   unfolding endCodes
   codes-are =
-      let p1 : task .code ≡ fieldCode 0 most (field line 1) = code-of (field line 1) (rw g at p) in
-      let p2 : tick .code ≡ fieldCode 0 most (field line 2) = code-of (field line 2) (rw h at q) in
+      let p1 : task .code ≡ fieldCode 0 most (field line 1) = ranged-code 0 most (field line 1) (rw g at p) in
+      let p2 : tick .code ≡ fieldCode 0 most (field line 2) = ranged-code 0 most (field line 2) (rw h at q) in
       let w′ : word ≡ wordCode (bytes "end") (field line 0) = rw f at w in
       λ i. w′ i ∷ p1 i ∷ p2 i ∷ e i ∷ []
 
@@ -92,7 +88,7 @@ module _ (ended : Bool) (line : List ℕ) (this : same (field line 0) (bytes "dr
   drop-codes-are : drop-codes ≡ dropCodes ended line
   unfolding dropCodes
   drop-codes-are =
-      let p1 : task .code ≡ fieldCode 0 most (field line 1) = code-of (field line 1) (rw g at p) in
+      let p1 : task .code ≡ fieldCode 0 most (field line 1) = ranged-code 0 most (field line 1) (rw g at p) in
       let w′ : word ≡ wordCode (bytes "drop") (field line 0) = rw f at w in
       λ i. w′ i ∷ p1 i ∷ e i ∷ []
 

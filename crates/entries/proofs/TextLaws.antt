@@ -1,23 +1,23 @@
 -- The line that begins a text: what it says, and how many bytes it uses up.
 use Prim.Native.Nat.{ℕ, suc, _+_, _≤_, _<_}
-use mathlib.Core.Path.{_≡_, refl, sym, ap, _∙_}
-use mathlib.Core.Bool.{Bool, true, _&&_}
+use mathlib.Core.Path.{_≡_, refl, ap, _∙_}
+use mathlib.Core.Bool.{Bool, true}
 use mathlib.Core.List.{List, [], _∷_}
 use native.Mathlib.Omega.{arith}
-use lib.Dec.{ltb, leb, eqb}
+use lib.Dec.{ltb, eqb}
 use lib.ListN.{length, getD, take, length-append, length-take, length-drop, List·getD-eq-default}
-use borrow.Author.Tests.{eqb-true, eqb-false, ltb-true}
-use Rattle.laws.proofs.Cases.{by-bool, by-le, true-false, and-l}
+use borrow.Author.Tests.{eqb-false, ltb-true}
+use Rattle.laws.proofs.Cases.{by-bool, by-le, true-false}
 use Rattle.laws.specs.Lists.{allOf, same}
-use Rattle.laws.proofs.Lists.{same-eq, all-at}
+use Rattle.laws.proofs.Lists.{same-eq}
 use Rattle.laws.specs.Split.{indexOf, before, after, joinOn}
 use Rattle.laws.proofs.Split.{join-split}
 use Rattle.text.specs.Bytes.{bytes}
 use Rattle.text.specs.Line.{LF, hasLine, fields, field}
 use Rattle.text.specs.Number.{isNumber, most}
-use Rattle.faults.specs.Faults.{fieldCode, wordCode, endCode, worst, faultOf}
-use Rattle.faults.proofs.RangedLaws.{field-code}
-use Rattle.faults.proofs.FaultLaws.{isCode, faultless-is}
+use Rattle.faults.specs.Faults.{worst, faultOf}
+use Rattle.faults.proofs.RangedLaws.{field-zero}
+use Rattle.faults.proofs.FaultLaws.{isCode, faultless-is, word-zero, end-zero, zero-at}
 use Rattle.entries.specs.Entries.{endCodes, dropCodes, unlessFault, entryOf, nextEntry, entryCode}
 use Rattle.entries.specs.declared.Entry.{Entry}
 use Rattle.entries.proofs.EntryLaws.{end-kinds, drop-kinds}
@@ -59,15 +59,6 @@ there line n h =
     (λ few. true-false (rw (List·getD-eq-default (fields line) [] few) at h) refl)
     (λ few. few)
 
-spelt : (s : List ℕ) → fieldCode 0 most s ≡ 0 → isNumber s ≡ true
-spelt s z =
-    by-bool (isNumber s) (λ e. e)
-    (λ e. let q : _≡_ {A = ℕ} 3 0 = rw (field-code 0 most s (omega arith), e) at z in absurd (omega arith))
-
-right-word : (word s : List ℕ) → wordCode word s ≡ 0 → same s word ≡ true
-unfolding wordCode
-right-word word s z = by-bool (same s word) (λ e. e) (λ e. let q : _≡_ {A = ℕ} 3 0 = rw e at z in absurd (omega arith))
-
 -- a line that is not refused has no fault
 no-fault : (line codes : List ℕ) (entry : Entry) → entryCode (unlessFault (faultOf line codes) entry) ≡ 0 → allOf isCode codes ≡ true → allOf (eqb 0) codes ≡ true
 unfolding faultOf
@@ -75,16 +66,6 @@ no-fault line codes entry z kinds =
     by-bool (eqb (worst codes) 0)
     (λ e. faultless-is codes kinds ∙ e)
     (λ e. absurd (eqb-false (worst codes) 0 e (rw e at z)))
-
-is-ended : (ended : Bool) (n : ℕ) (line : List ℕ) → endCode ended n line ≡ 0 → ended ≡ true
-unfolding endCode
-is-ended ended n line z =
-    by-bool (ended && leb (length (fields line)) n)
-    (λ e. and-l ended (leb (length (fields line)) n) e)
-    (λ e. let q : _≡_ {A = ℕ} 3 0 = rw e at z in absurd (omega arith))
-
-zero-at : (codes : List ℕ) → allOf (eqb 0) codes ≡ true → (i : ℕ) → i < length codes → getD codes i 0 ≡ 0
-zero-at codes all i l = sym (eqb-true 0 (getD codes i 0) (all-at (eqb 0) codes all i 0 l))
 
 module _ (ended : Bool) (line : List ℕ) where
   abbrev Whole : Type 0
@@ -94,19 +75,19 @@ module _ (ended : Bool) (line : List ℕ) where
   unfolding endCodes
   end-whole all =
       let at = zero-at (endCodes ended line) all in
-      let task = spelt (field line 1) (at 1 (omega arith)) in
-      let tick = spelt (field line 2) (at 2 (omega arith)) in (
-        is-ended ended 3 line (at 3 (omega arith)),
-        names-bytes (bytes "end") 3 line (omega arith) (there line 2 tick) (right-word (bytes "end") (field line 0) (at 0 (omega arith))) task,
+      let task = field-zero 0 most (field line 1) (omega arith) (at 1 (omega arith)) .spelt in
+      let tick = field-zero 0 most (field line 2) (omega arith) (at 2 (omega arith)) .spelt in (
+        end-zero ended 3 line (at 3 (omega arith)) .0,
+        names-bytes (bytes "end") 3 line (omega arith) (there line 2 tick) (word-zero (bytes "end") (field line 0) (at 0 (omega arith))) task,
       )
 
   drop-whole : allOf (eqb 0) (dropCodes ended line) ≡ true → Whole
   unfolding dropCodes
   drop-whole all =
       let at = zero-at (dropCodes ended line) all in
-      let task = spelt (field line 1) (at 1 (omega arith)) in (
-        is-ended ended 2 line (at 2 (omega arith)),
-        names-bytes (bytes "drop") 2 line (omega arith) (there line 1 task) (right-word (bytes "drop") (field line 0) (at 0 (omega arith))) task,
+      let task = field-zero 0 most (field line 1) (omega arith) (at 1 (omega arith)) .spelt in (
+        end-zero ended 2 line (at 2 (omega arith)) .0,
+        names-bytes (bytes "drop") 2 line (omega arith) (there line 1 task) (word-zero (bytes "drop") (field line 0) (at 0 (omega arith))) task,
       )
 
   whole : entryCode (entryOf ended line) ≡ 0 → Whole

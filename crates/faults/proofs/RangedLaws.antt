@@ -1,6 +1,6 @@
 -- A number in a range: its code, its value, and what a code of 0 says.
 use Prim.Native.Nat.{ℕ, _-_, _≤_}
-use mathlib.Core.Path.{_≡_, refl, sym, ap, _∙_}
+use mathlib.Core.Path.{_≡_, sym, ap, _∙_}
 use mathlib.Core.Bool.{Bool, true, false, not, cond, _&&_}
 use mathlib.Core.List.{List}
 use native.Mathlib.Omega.{arith}
@@ -84,16 +84,17 @@ pub zero-field : (low high : ℕ) (s : List ℕ) → high ≤ most → InRange l
 zero-field low high s h r =
     field-code low high s h ∙ rw (r .spelt, le-leb low (valueOf s) (r .from), le-leb (valueOf s) high (r .to))
 
--- the value of a number that is in its range, and of any other
+-- what was read of a number: its code, and its value where it is in its range and where not
+module _ (low high : ℕ) (s : List ℕ) {x : Ranged} (p : x ≡ rangedRead low high s) where
+  pub ranged-code : x .code ≡ fieldCode low high s
+  unfolding rangedRead
+  ranged-code = ap (λ (y : Ranged). y .code) p
+
+  pub ranged-value : fieldCode low high s ≡ 0 → x .value ≡ valueOf s
+  unfolding rangedRead
+  ranged-value z = rw (p, eq-eqb (fieldCode low high s) 0 z)
+
 module _ (low high : ℕ) (s : List ℕ) where
-  pub ranged-code : rangedRead low high s .code ≡ fieldCode low high s
-  unfolding rangedRead
-  ranged-code = refl
-
-  pub ranged-value : rangedRead low high s .code ≡ 0 → rangedRead low high s .value ≡ valueOf s
-  unfolding rangedRead
-  ranged-value z = rw (eq-eqb (fieldCode low high s) 0 z)
-
   ranged-most : rangedRead low high s .value ≤ most
   unfolding rangedRead numberOf
   ranged-most =

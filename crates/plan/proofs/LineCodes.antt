@@ -1,6 +1,6 @@
 -- A task line whose codes are all 0, and what it then says.
 use Prim.Native.Nat.{ℕ, _+_, _≤_, _<_}
-use mathlib.Core.Path.{_≡_, refl, _∙_}
+use mathlib.Core.Path.{_≡_, refl}
 use mathlib.Core.Bool.{Bool, true, cond, _&&_}
 use mathlib.Core.List.{List, [], _∷_}
 use native.Mathlib.Omega.{arith}
@@ -16,7 +16,7 @@ use Rattle.text.specs.Line.{fields, field}
 use Rattle.text.specs.Items.{isList, holdsOk, afterOk}
 use Rattle.text.proofs.ListFields.{isHolds, holdsOf, isAfter, afterOf}
 use Rattle.faults.specs.Faults.{fieldCode, wordCode}
-use Rattle.faults.proofs.RangedLaws.{InRange, field-zero, zero-field, ranged-code, ranged-value}
+use Rattle.faults.proofs.RangedLaws.{InRange, field-zero, zero-field, ranged-value}
 use Rattle.faults.proofs.FaultLaws.{isCode, for-code, field-is-code, word-is-code, end-is-code, eighteen-is-code, for-zero, word-zero, zero-word, end-zero, zero-end, zero-at, no-codes, zeros}
 use Rattle.plan.specs.Task.{taskOk, editionOk}
 use Rattle.plan.specs.Read.{startAt, codesFrom, readyCode, taskCodes, taskFrom, lineTask}
@@ -44,7 +44,7 @@ listed line m h =
     (λ some. some)
 
 start-value : (line : List ℕ) (n : ℕ) → fieldCode 0 most (field line n) ≡ 0 → startAt line n ≡ valueOf (field line n)
-start-value line n z = ranged-value 0 most (field line n) (ranged-code 0 most (field line n) ∙ z)
+start-value line n z = ranged-value 0 most (field line n) refl z
 
 module _ (ended : Bool) (tasks : ℕ) (line : List ℕ) (n : ℕ) where
   times-ok : allOf (eqb 0) (codesFrom ended tasks line n) ≡ true → (ended ≡ true) × TimesOk tasks line n

@@ -182,7 +182,7 @@ module _ (book : Book) (size : Sized book) (sound : isSound book ≡ true) where
       → (i : ℕ) × (i < book .tasks) × Term book i (figureOf book .early)
   figure-met = figures.one-term book (record { sized = size; sound = sound })
 
-  -- and 0 only where there is none
+  -- and 0 where there is none
   pub figure-none : ((i : ℕ) → i < book .tasks → (early : ℕ) → Term book i early → ⊥) → figureOf book .early ≡ 0
   figure-none = figures.no-term book (record { sized = size; sound = sound })
 

@@ -36,11 +36,10 @@ code-test true true = refl
 
 ranged-test : (low high : ℕ) (s : List ℕ) {x : Ranged} → high ≤ most → x ≡ rangedRead low high s → eqb (x .code) 0 ≡ ranged low high s
 ranged-test low high s h p =
-    rw (p, ranged-code low high s, field-code low high s h) (code-test (isNumber s) (between low high (valueOf s)))
+    rw (ranged-code low high s p, field-code low high s h) (code-test (isNumber s) (between low high (valueOf s)))
 
 ranged-is : (low high : ℕ) (s : List ℕ) {x : Ranged} → x ≡ rangedRead low high s → eqb (x .code) 0 ≡ true → x .value ≡ valueOf s
-ranged-is low high s {x} p q =
-    ap (λ (y : Ranged). y .value) p ∙ ranged-value low high s (ap (λ (y : Ranged). y .code) (sym p) ∙ eqb-true (x .code) 0 q)
+ranged-is low high s {x} p q = ranged-value low high s p (sym (ranged-code low high s p) ∙ eqb-true (x .code) 0 q)
 
 some-fails : (a b c : Bool) → (not a || (not b || not c)) ≡ true → (a && (b && c)) ≡ false
 some-fails false b c h = refl
@@ -198,8 +197,8 @@ pub tail-codes :
     → (tail .begin .code ∷ tail .finish .code ∷ tail .holds .code ∷ tail .after .code ∷ end ∷ []) ≡ codesFrom ended tasks line n
 unfolding tailRead codesFrom
 tail-codes ended tasks line n few t e =
-    let p0 = ap (λ (x : Tail). x .begin .code) t ∙ ranged-code 0 most (field line n) in
-    let p1 = ap (λ (x : Tail). x .finish .code) t ∙ ranged-code (startAt line n + 1) most (field line (n + 1)) in
+    let p0 = ranged-code 0 most (field line n) (ap (λ (x : Tail). x .begin) t) in
+    let p1 = ranged-code (startAt line n + 1) most (field line (n + 1)) (ap (λ (x : Tail). x .finish) t) in
     let p2 = ap (λ (x : Tail). x .holds .code) t ∙ holds-code (field line (n + 2)) in
     let p3 = ap (λ (x : Tail). x .after .code) t ∙ after-code (field line (n + 3)) tasks few in
     λ i. p0 i ∷ p1 i ∷ p2 i ∷ p3 i ∷ e i ∷ []
@@ -217,9 +216,9 @@ ready-other ready begin e = rw e
 ready-is : (line : List ℕ) {ready : Ranged} {begin : ℕ} → ready ≡ rangedRead 0 most (field line 3) → begin ≡ startAt line 4 → readyIn ready begin ≡ readyCode line
 unfolding readyIn readyCode
 ready-is line r b =
-    rw (r, b, ranged-code 0 most (field line 3))
+    rw (r, b, ranged-code 0 most (field line 3) refl)
     (by-eq (fieldCode 0 most (field line 3)) 0
-    (λ z. rw (ranged-value 0 most (field line 3) (ranged-code 0 most (field line 3) ∙ z)))
+    (λ z. rw (ranged-value 0 most (field line 3) refl z))
     (λ n. rw (ne-eqb (fieldCode 0 most (field line 3)) 0 n)))
 
 -- ---- a line by its codes
@@ -259,10 +258,10 @@ module _ (ended : Bool) (tasks : ℕ) (line : List ℕ) (few : tasks ≤ 64) (wo
 module _ (ended : Bool) (edition boards tasks : ℕ) (line : List ℕ) (k : ℕ) {word : ℕ} {number board : Ranged}
     (w : word ≡ wordCode (bytes "task") (field line 0)) (n : number ≡ rangedRead k k (field line 1)) (b : board ≡ rangedRead 1 boards (field line 2)) where
   n-code : number .code ≡ fieldCode k k (field line 1)
-  n-code = ap (λ (x : Ranged). x .code) n ∙ ranged-code k k (field line 1)
+  n-code = ranged-code k k (field line 1) n
 
   b-code : board .code ≡ fieldCode 1 boards (field line 2)
-  b-code = ap (λ (x : Ranged). x .code) b ∙ ranged-code 1 boards (field line 2)
+  b-code = ranged-code 1 boards (field line 2) b
 
   b-value : board .value ≡ rangedRead 1 boards (field line 2) .value
   b-value = ap (λ (x : Ranged). x .value) b

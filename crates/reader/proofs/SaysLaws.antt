@@ -1,6 +1,6 @@
 -- What a task line says: its fault, or the text's task.
 use Prim.Native.Nat.{ℕ, _+_, _≤_, min}
-use mathlib.Core.Path.{_≡_, refl, _∙_}
+use mathlib.Core.Path.{_≡_, refl}
 use mathlib.Core.Bool.{Bool, true, false, _&&_}
 use mathlib.Core.List.{List}
 use native.Mathlib.Omega.{arith}
@@ -15,7 +15,7 @@ use Rattle.text.specs.Line.{LF, hasLine, field}
 use Rattle.text.specs.Items.{holdsOk, afterOk, someItems, itemsOf, holdsRead, afterRead}
 use Rattle.text.proofs.ListFields.{isHolds, holdsOf, isAfter, afterOf}
 use Rattle.faults.specs.Faults.{rangedRead, worst, faultOf}
-use Rattle.faults.proofs.RangedLaws.{InRange, zero-field, ranged-code, ranged-value}
+use Rattle.faults.proofs.RangedLaws.{InRange, zero-field, ranged-value}
 use Rattle.faults.proofs.FaultLaws.{faultless-is}
 use Rattle.plan.specs.Task.{Task}
 use Rattle.plan.specs.Read.{startAt, taskCodes, taskFrom, lineTask}
@@ -81,7 +81,7 @@ unfolding afterRead
 after-say s tasks h = rw items-stop (items-say (isAfter s) (afterOk (min tasks 64) (afterOf s)) _ (afterOf s) h)
 
 value-of : (low high : ℕ) (s : List ℕ) → high ≤ most → InRange low high s → rangedRead low high s .value ≡ valueOf s
-value-of low high s h r = ranged-value low high s (ranged-code low high s ∙ zero-field low high s h r)
+value-of low high s h r = ranged-value low high s refl (zero-field low high s h r)
 
 -- a line by codes that are all 0
 module _ (boards tasks : ℕ) (line codes : List ℕ) (few-boards : boards ≤ most) (few : tasks ≤ 64) (all : allOf (eqb 0) codes ≡ true) (board-in : InRange 1 boards (field line 2)) where

@@ -2,7 +2,6 @@
 use mathlib.Core.Path.{_≡_, refl, sym, ap, _∙_, fun-ext}
 use mathlib.Core.Logic.{_≢_}
 use mathlib.Core.Bool.{Bool, false, cond, _&&_}
-use mathlib.Core.List.{List, [], _∷_}
 use Prim.Native.Nat.{ℕ, _-_, _≤_, _<_, max}
 use native.Mathlib.Omega.{arith}
 use lib.Dec.{eqb}
@@ -13,24 +12,13 @@ use Rattle.laws.proofs.Every.{every-same, any-at, any-not}
 use Rattle.laws.proofs.Least.{has-least, least-none, least-or-is}
 use Rattle.theory.specs.Plan.{Plan, Lawful}
 use Rattle.theory.specs.Book.{Book, running, due, readyDue, lastEnd, taskFrom, taskTest, soundTest}
-use Rattle.theory.specs.Report.{goes, skipTimes, endIt, letGo, next, blank, opened, nonePast, reportCode, dropCode}
-use Rattle.theory.specs.Events.{Event}
+use Rattle.theory.specs.Report.{goes, skipTimes, endIt, letGo, next, blank, opened}
 use Rattle.theory.specs.Figure.{minimumEarly}
-use Rattle.theory.specs.Unready.{plainLetGo, plainOpened, plainNext, plainAfter, plainRun, plainSound, plainEarly}
-use Rattle.theory.proofs.Facts.{Sound, eventCode, bookAfter, run}
+use Rattle.theory.specs.Unready.{plainLetGo, plainOpened, plainNext, plainSound, plainEarly}
+use Rattle.theory.proofs.Facts.{Sound}
 use Rattle.theory.proofs.Figure.{Term, figure-least, figure-met, figure-none}
 use Rattle.theory.proofs.Order.{ready-ahead}
 use Rattle.theory.proofs.Progress.{some-runs}
-
--- the codes look at no ready tick: 10 to 15 and 19 are the same over any
-pub code-plain :
-    (plan : Plan) (ready : ℕ → ℕ) (book : Book) (event : Event)
-    → eventCode
-    (record { tasks = plan .tasks; ready = ready; begin = plan .begin; finish = plan .finish; waits = plan .waits }) book event
-    ≡ eventCode plan book event
-unfolding reportCode nonePast dropCode
-code-plain plan ready book (Event.ends k tick) = refl
-code-plain plan ready book (Event.drops k) = refl
 
 -- every ready tick is 0
 abbrev pub Unready : Plan → Type 0
@@ -68,19 +56,6 @@ module _ (plan : Plan) (none : Unready plan) where
   pub next-plain : (book : Book) (k tick : ℕ) → next plan book k tick ≡ plainNext plan book k tick
   unfolding next plainNext
   next-plain book k tick = let-go-plain (skipTimes (plan .tasks) plan (endIt book k tick))
-
-  -- the book after a report or drop, accepted or refused, and after any number of them
-  pub after-plain : (book : Book) (event : Event) → bookAfter plan book event ≡ plainAfter plan book event
-  unfolding bookAfter plainAfter
-  after-plain book (Event.ends k tick) =
-      ap (λ (b : Book). cond (eqb (reportCode plan book k tick) 0) b book) (next-plain book k tick)
-  after-plain book (Event.drops k) = refl
-
-  pub run-plain : (book : Book) (events : List Event) → run plan book events ≡ plainRun plan book events
-  unfolding run plainRun
-  run-plain book [] = refl
-  run-plain book (event ∷ later) =
-      run-plain (bookAfter plan book event) later ∙ ap (λ (b : Book). plainRun plan b later) (after-plain book event)
 
   -- the test of a sound book
   pub sound-plain : (book : Book) → soundTest plan book ≡ plainSound plan book

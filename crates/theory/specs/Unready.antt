@@ -1,6 +1,5 @@
 -- The rule without ready ticks, of edition 1: a start is the latest end alone, and M is of those that run alone.
-use mathlib.Core.Bool.{Bool, cond, _&&_}
-use mathlib.Core.List.{List, [], _∷_}
+use mathlib.Core.Bool.{Bool, _&&_}
 use mathlib.Core.Option.{Option·getD}
 use Prim.Native.Nat.{ℕ, _-_}
 use lib.Dec.{eqb}
@@ -8,8 +7,7 @@ use Rattle.laws.specs.Every.{every}
 use Rattle.laws.specs.Picked.{least}
 use Rattle.theory.specs.Plan.{Plan}
 use Rattle.theory.specs.Book.{Book, bookOf, running, due, lastEnd, taskFrom}
-use Rattle.theory.specs.Report.{reportCode, dropCode, put, goes, endIt, skipTimes, dropIt, blank}
-use Rattle.theory.specs.Events.{Event, ends, drops}
+use Rattle.theory.specs.Report.{put, goes, endIt, skipTimes, blank}
 
 -- whoever may go starts at the clock
 abbrev pub plainLetGo : Plan → Book → Book
@@ -23,15 +21,6 @@ plainOpened plan = plainLetGo plan blank
 
 unfoldable pub plainNext : Plan → Book → ℕ → ℕ → Book
 plainNext plan book k tick = plainLetGo plan (skipTimes (plan .tasks) plan (endIt book k tick))
-
--- a refused report or drop gives the book it was given
-unfoldable pub plainAfter : Plan → Book → Event → Book
-plainAfter plan book (ends k tick) = cond (eqb (reportCode plan book k tick) 0) (plainNext plan book k tick) book
-plainAfter plan book (drops k) = cond (eqb (dropCode plan book k) 0) (dropIt book k) book
-
-unfoldable pub plainRun : Plan → Book → List Event → Book
-plainRun plan book [] = book
-plainRun plan book (event ∷ later) = plainRun plan (plainAfter plan book event) later
 
 -- a sound book: its start is the latest of the ends of those it waits for
 unfoldable pub plainSound : Plan → Book → Bool

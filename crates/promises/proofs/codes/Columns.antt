@@ -19,7 +19,7 @@ use Rattle.text.specs.Items.{between, isList, listOf, isHold, holdOf, holdsOk, 
 use Rattle.text.specs.declared.Number.{Number}
 use Rattle.text.specs.declared.Number.the-variants.{Value, Over, Misspelt}
 use Rattle.faults.specs.Faults.{codeFor, numberCode, fieldCode, wordCode, endCode, worst, columnOf, faultOf}
-use Rattle.faults.proofs.RangedLaws.{ranged-code, ranged-value}
+use Rattle.faults.proofs.RangedLaws.{ranged-value}
 use Rattle.faults.proofs.FaultLaws.{any-found, faultless-is, zero-at}
 use Rattle.plan.specs.Value.{at}
 use Rattle.plan.specs.Read.{startAt, codesFrom, readyCode, taskCodes}
@@ -253,7 +253,7 @@ module _ (line : List ℕ) where
     start-said : at codes 4 ≢ 3 → at codes 4 ≢ 4 → edition ≡ 2 → startAt line 4 ≡ valueOf (field line 4)
     start-said m q o =
         let p = places o .1 in
-        ⊎-elim (λ z. ranged-value 0 most (field line 4) (ranged-code 0 most (field line 4) ∙ z))
+        ⊎-elim (λ z. ranged-value 0 most (field line 4) refl z)
         (⊎-elim (λ z. absurd (m (p ∙ z))) (λ z. absurd (q (p ∙ z)))) (field-plain 0 most (field line 4))
 
     -- the line is one of edition 2, its ready tick is after its planned start, and its ready field is the one named

@@ -23,7 +23,7 @@ use Rattle.text.specs.declared.Number.{Number}
 use Rattle.text.specs.declared.Number.the-variants.{Value, Over, Misspelt}
 use Rattle.faults.specs.Faults.{numberCode, fieldCode, worst, faultOf}
 use Rattle.faults.specs.declared.Fault.{Fault}
-use Rattle.faults.proofs.RangedLaws.{ranged-code, ranged-value}
+use Rattle.faults.proofs.RangedLaws.{ranged-value}
 use Rattle.faults.proofs.FaultLaws.{any-found}
 use Rattle.plan.specs.Answer.{refuse, granted, isGranted, isRefused}
 use Rattle.plan.specs.Judged.{tasksAnswer}
@@ -116,7 +116,7 @@ line-fault ended boards tasks line k =
     (misspelt-same (startAt line 3 + 1) (valueOf (field line 3) + 1) most (field line 4))
     (λ z.
     ap (λ (v : ℕ). fieldCode (v + 1) most (field line 4))
-    (ranged-value 0 most (field line 3) (ranged-code 0 most (field line 3) ∙ z)))
+    (ranged-value 0 most (field line 3) refl z))
 
 -- ---- the first line
 
