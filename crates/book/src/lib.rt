@@ -4,7 +4,7 @@ mod skip;
 mod start;
 mod table;
 
-use judge::ranges::is_accepted;
+use judge::value::is_accepted;
 use plan::Answer;
 use plan::Plan;
 use settle::settle;

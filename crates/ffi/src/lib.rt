@@ -42,7 +42,7 @@ fn number(yes: bool) -> u32
 pub extern "C" fn dispatch_is_accepted(plan: Plan) -> u32
     ensures { λ r. ⌜ r ≡ cond (isAccepted plan) 1 0 ⌝ }
 {
-    number(judge::ranges::is_accepted(
+    number(judge::value::is_accepted(
         plan.edition,
         plan.boards,
         plan.tasks,

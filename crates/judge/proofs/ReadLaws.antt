@@ -14,7 +14,7 @@ use Rattle.plan.specs.declared.Reading.{Reading}
 use Rattle.plan.proofs.Judged.{tasks-granted}
 use Rattle.plan.proofs.ReadOk.{FormOk, form-ok, ok-form, form-tasks, form-ranges, form-task, form-judged}
 use Rattle.judge.specs.private.Arrays.{RowsInRange}
-use Rattle.judge.proofs.RangeLaws.{task-in-range, judgedIn, judged-is}
+use Rattle.judge.proofs.ValueLaws.{task-in-range, judgedIn, judged-is}
 
 lines-answer : (s : List ℕ) → linesOf s .answer ≡ formAnswer s
 unfolding linesOf

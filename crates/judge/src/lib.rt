@@ -2,9 +2,9 @@
 mod drives;
 mod order;
 mod pairs;
-pub mod ranges;
 pub mod read;
 mod tasks;
+pub mod value;
 
 // The sets of the drives that a list holds exclusively, and of all that it holds.
 pub(crate) struct Sets {

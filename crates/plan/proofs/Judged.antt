@@ -1,20 +1,22 @@
--- What the judging of tasks says: whether some task is planned at 0, the least planned start, the first faulty pair.
+-- What the judging of tasks says: whether some task is planned at 0, the least planned start, the first faulty pair; when a plan is accepted.
 use Prim.Native.Nat.{ℕ, _<_, _≤_}
 use mathlib.Core.Path.{_≡_, refl, sym, ap, _∙_}
 use mathlib.Core.Logic.{_≢_, _↔_}
-use mathlib.Core.Bool.{Bool, true, false}
+use mathlib.Core.Bool.{Bool, true, false, cond, _&&_}
 use mathlib.Core.Option.{Option, Option·getD}
 use native.Mathlib.Omega.{arith}
 use lib.Dec.{eqb}
 use borrow.Author.Tests.{eqb-true, eqb-false, eq-eqb}
-use Rattle.laws.proofs.Cases.{by-bool}
+use Rattle.laws.proofs.Cases.{by-bool, and-l, and-r}
 use Rattle.laws.proofs.Every.{any-of, any-at, any-not, any-same}
 use Rattle.laws.proofs.Least.{least-under, least-met, least-or-under, least-same}
-use Rattle.plan.specs.Answer.{refuse, granted}
+use Rattle.plan.specs.Answer.{refuse, granted, isGranted}
 use Rattle.plan.specs.Task.{Task}
 use Rattle.plan.specs.Pairs.{firstFault}
 use Rattle.plan.specs.Judged.{beginsAtZero, leastStart, tasksAnswer}
+use Rattle.plan.specs.Value.{taskAt, rangesOk, judgedAnswer, isAccepted}
 use Rattle.plan.specs.declared.Answer.{Answer}
+use Rattle.plan.specs.declared.Plan.{Plan}
 use Rattle.plan.proofs.FirstFault.{NoPair, fault-none, fault-granted, fault-same}
 
 module _ (tasks : ℕ) (task : ℕ → Task) where
@@ -93,3 +95,26 @@ tasks-same tasks task other e =
       least-same tasks (λ k. true) (λ k. task k .begin) (λ k. other k .begin) (λ k l. ap (λ (t : Task). t .begin) (e k l)),
       fault-same tasks task other e,
     )
+
+-- ---- a plan handed in as a value
+
+module _ (plan : Plan) where
+  abbrev judged : Answer
+  judged = tasksAnswer (plan .tasks) (taskAt plan)
+
+  pub accepted-split : isAccepted plan ≡ (rangesOk plan && isGranted (tasksAnswer (plan .tasks) (taskAt plan)))
+  unfolding isAccepted judgedAnswer
+  accepted-split = go (rangesOk plan) judged
+    where
+      go : (kept : Bool) (answer : Answer) → isGranted (cond kept answer (refuse 9 0 0)) ≡ (kept && isGranted answer)
+      go true answer = refl
+      go false answer = refl
+
+  pub accepted-ranges : isAccepted plan ≡ true → rangesOk plan ≡ true
+  accepted-ranges ok = and-l (rangesOk plan) (isGranted judged) (sym accepted-split ∙ ok)
+
+  pub accepted-tasks : isAccepted plan ≡ true → tasksAnswer (plan .tasks) (taskAt plan) .code ≡ 0
+  accepted-tasks ok = eqb-true (judged .code) 0 (and-r (rangesOk plan) (isGranted judged) (sym accepted-split ∙ ok))
+
+  pub accepted-of : rangesOk plan ≡ true → tasksAnswer (plan .tasks) (taskAt plan) .code ≡ 0 → isAccepted plan ≡ true
+  accepted-of kept z = accepted-split ∙ rw kept (eq-eqb (judged .code) 0 z)

@@ -1,9 +1,9 @@
 -- The lists of a plan's tasks in its arrays: items first, nothing past the last item, nothing past the last task.
-use Prim.Native.Nat.{ℕ, _+_, _*_, _<_, _≤_}
+use Prim.Native.Nat.{ℕ, _+_, _-_, _*_, _<_, _≤_}
 use mathlib.Core.List.{List, _++_}
 use mathlib.Core.Path.{_≡_, sym, ap, _∙_}
 use mathlib.Core.Bool.{true}
-use lib.ListN.{length, drop, getD, replicate, length-take, length-drop, take-append-drop}
+use lib.ListN.{length, take, drop, getD, replicate, length-take, length-drop, take-append-drop}
 use lib.Seq.{length-take-le}
 use native.Mathlib.Omega.{arith}
 use native.Mathlib.Nat.{mul-le-mul-left, mul-suc}
@@ -13,6 +13,10 @@ use Rattle.laws.proofs.Blank.{blank, blank-same, blank-zeros, length-zeros, bla
 use Rattle.laws.specs.Split.{indexOf}
 use Rattle.laws.proofs.Split.{free, index-le}
 use Rattle.plan.specs.Value.{row, items, blankFrom, isTrimmed}
+
+-- the places of task k, cut out
+pub part-row : (width k : ℕ) (l : List ℕ) → take (width * k + width - width * k) (drop (width * k) l) ≡ row width l k
+part-row width k l = let e : width * k + width - width * k ≡ width = omega arith in rw e
 
 -- ---- stored in an array of zeros
 

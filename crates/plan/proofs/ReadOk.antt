@@ -9,12 +9,12 @@ use lib.ListN.{length}
 use lib.Dec.{ltb, eqb}
 use borrow.Author.Tests.{ltb-false, le-ltb, eqb-true, eq-eqb, not-false}
 use Rattle.laws.specs.Lists.{allOf}
-use Rattle.laws.proofs.Cases.{and-l, and-r, and-of}
+use Rattle.laws.proofs.Cases.{and-l, and-r}
 use Rattle.laws.proofs.Scan.{scan-clean, scan-none}
 use Rattle.faults.specs.Faults.{worst, faultOf}
 use Rattle.faults.proofs.FaultLaws.{faultless-is}
 use Rattle.text.specs.Line.{hasLine, skip, lineAt, field}
-use Rattle.plan.specs.Answer.{refuse, granted, isGranted, isRefused}
+use Rattle.plan.specs.Answer.{refuse, granted, isRefused}
 use Rattle.plan.specs.Task.{taskOk, editionOk}
 use Rattle.plan.specs.Judged.{tasksAnswer}
 use Rattle.plan.specs.Value.{taskAt, planOf, rangesOk, isAccepted}
@@ -22,7 +22,7 @@ use Rattle.plan.specs.Read.{sizesOk, editionOf, boardsOf, tasksOf, taskC
 use Rattle.plan.specs.Read.{lineAnswer, linesAnswer, textTask, formAnswer, textAnswer, textPlan, readingOf}
 use Rattle.plan.specs.declared.Answer.{Answer}
 use Rattle.plan.proofs.FirstFault.{refused-code, passed-code}
-use Rattle.plan.proofs.Judged.{tasks-granted, tasks-same}
+use Rattle.plan.proofs.Judged.{tasks-granted, tasks-same, accepted-of}
 use Rattle.plan.proofs.PlanTasks.{SizedPlan, planOf-sized, made-task, made-ranges}
 use Rattle.plan.proofs.LineCodes.{LineFine, line-fine, fine-line, task-kinds, fine-task, fine-edition}
 use Rattle.plan.proofs.TextLines.{number-range, sizes-test}
@@ -188,7 +188,7 @@ module _ (s : List ℕ) (z : textAnswer s .code ≡ 0) where
 
   -- a read plan is accepted
   pub read-accepted : isAccepted (readingOf s .plan) ≡ true
-  unfolding isAccepted planOf
+  unfolding planOf
   read-accepted =
       let f = text-ok s z .form in
-      rw read-plan (and-of (form-kept s f) (ap isGranted (form-judged s f ∙ text-ok s z .judged)))
+      rw read-plan (accepted-of (textPlan s) (form-kept s f) (ap (λ (x : Answer). x .code) (form-judged s f ∙ text-ok s z .judged)))

@@ -1,6 +1,6 @@
 -- A plan as a value: its tasks, and when it is accepted, whatever its arrays hold.
 use Prim.Native.Nat.{ℕ, _*_}
-use mathlib.Core.Bool.{Bool, _&&_}
+use mathlib.Core.Bool.{Bool, cond, _&&_}
 use mathlib.Core.List.{List, []}
 use lib.Dec.{eqb}
 use lib.ListN.{getD, take, drop, replicate}
@@ -9,9 +9,10 @@ use Rattle.laws.specs.Every.{every}
 use Rattle.laws.specs.Lists.{allOf}
 use Rattle.laws.specs.Split.{indexOf, before}
 use Rattle.text.specs.Items.{between}
-use Rattle.plan.specs.Answer.{isGranted}
+use Rattle.plan.specs.Answer.{refuse, isGranted}
 use Rattle.plan.specs.Task.{Task, taskOf, taskOk, editionOk}
 use Rattle.plan.specs.Judged.{tasksAnswer}
+use Rattle.plan.specs.declared.Answer.{Answer}
 use Rattle.plan.specs.declared.Plan.{Plan}
 
 abbrev pub at : List ℕ → ℕ → ℕ
@@ -82,6 +83,9 @@ rangesOk plan =
     between 1 2 (plan .edition)
     && (between 1 8 (plan .boards) && (between 1 64 (plan .tasks) && (every (plan .tasks) (keptOk plan) && pastBlank plan)))
 
--- and its tasks are judged faultless: one is planned at tick 0, no pair is faulty
+-- what a plan handed in as a value is judged by: 9 where its ranges are broken, else by its tasks: one is planned at tick 0, no pair is faulty
+unfoldable pub judgedAnswer : Plan → Answer
+judgedAnswer plan = cond (rangesOk plan) (tasksAnswer (plan .tasks) (taskAt plan)) (refuse 9 0 0)
+
 unfoldable pub isAccepted : Plan → Bool
-isAccepted plan = rangesOk plan && isGranted (tasksAnswer (plan .tasks) (taskAt plan))
+isAccepted plan = isGranted (judgedAnswer plan)

@@ -4,12 +4,11 @@ use native.Mathlib.Omega.{arith}
 use mathlib.Core.Bool.{true}
 use mathlib.Core.Path.{_≡_, sym}
 use mathlib.Core.Logic.{_↔_, ⊎-elim}
-use borrow.Author.Tests.{eq-eqb, eqb-true, leb-true}
-use Rattle.laws.proofs.Cases.{and-l, and-r, and-of}
+use borrow.Author.Tests.{leb-true}
 use Rattle.plan.specs.Pairs.{pairCode}
 use Rattle.plan.specs.Value.{at, taskAt, rangesOk, isAccepted}
 use Rattle.plan.specs.declared.Plan.{Plan}
-use Rattle.plan.proofs.Judged.{tasks-fine}
+use Rattle.plan.proofs.Judged.{tasks-fine, accepted-ranges, accepted-tasks, accepted-of}
 use Rattle.view.proofs.Accepted.{plan-facts}
 use Rattle.book.proofs.Fits.{plan-turns}
 
@@ -19,11 +18,10 @@ pub plan-accepted :
     ↔ ((rangesOk plan ≡ true)
     × ((k : ℕ) × (k < plan .tasks) × (at (plan .begin) k ≡ 0))
     × ((a b : ℕ) → a ≤ b → b < plan .tasks → pairCode (taskAt plan) a b ≡ 0))
-unfolding isAccepted
 plan-accepted plan =
     let fine = tasks-fine (plan .tasks) (taskAt plan) in (
-      λ ok. let f = fine .0 (eqb-true _ 0 (and-r (rangesOk plan) _ ok)) in (and-l _ _ ok, f .0, f .1),
-      λ r. and-of (r .0) (eq-eqb _ 0 (fine .1 (r .1, r .2))),
+      λ ok. let f = fine .0 (accepted-tasks plan ok) in (accepted-ranges plan ok, f .0, f .1),
+      λ r. accepted-of plan (r .0) (fine .1 (r .1, r .2)),
     )
 
 pub first-run :

@@ -7,17 +7,18 @@ use mathlib.Core.Path.{_≡_, refl, sym, ap, subst, _∙_}
 use mathlib.Core.Logic.{⊎-elim}
 use lib.Dec.{eqb}
 use borrow.Author.Tests.{eqb-true, ne-eqb}
-use Rattle.laws.proofs.Cases.{by-bool, and-l, or-at, true-false}
+use Rattle.laws.proofs.Cases.{by-bool, or-at, true-false}
 use Rattle.theory.specs.Report.{nonePast, reportCode, dropCode}
 use Rattle.theory.specs.Events.{Event}
 use Rattle.theory.specs.Figure.{minimumEarly}
 use Rattle.theory.specs.Unready.{plainEarly}
 use Rattle.theory.proofs.Unready.{opened-plain, next-plain, sound-plain, figure-plain, begun-by}
 use Rattle.plan.specs.Answer.{refuse, granted, isGranted}
-use Rattle.plan.specs.Value.{at, zeroPlan, planOf, rangesOk, isAccepted}
+use Rattle.plan.specs.Value.{at, zeroPlan, planOf, isAccepted}
 use Rattle.plan.specs.Read.{editionOf, readingOf}
 use Rattle.plan.specs.declared.Answer.{Answer}
 use Rattle.plan.specs.declared.Plan.{Plan}
+use Rattle.plan.proofs.Judged.{accepted-ranges}
 use Rattle.plan.proofs.PlanTasks.{ranges-kept, task-kept}
 use Rattle.plan.proofs.ReadOk.{read-answer, read-plan, read-accepted}
 use Rattle.view.specs.View.{planFor}
@@ -43,9 +44,8 @@ use Rattle.promises.proofs.RunView.{Good, good-event, opened-good, open
 
 -- an accepted plan of edition 1 has no ready tick
 pub edition-unready : (plan : Plan) → isAccepted plan ≡ true → plan .edition ≡ 1 → NoReady plan
-unfolding isAccepted
 edition-unready plan ok one i l =
-    let r = ranges-kept plan (and-l (rangesOk plan) _ ok) in
+    let r = ranges-kept plan (accepted-ranges plan ok) in
     let k = task-kept plan i (r .kept i l) .edition in
     ⊎-elim (λ e. true-false e (ne-eqb (plan .edition) 2 (omega arith))) (λ e. eqb-true (at (plan .ready) i) 0 e)
     (or-at (eqb (plan .edition) 2) _ k)

@@ -6,38 +6,24 @@ use mathlib.Core.Path.{_≡_, sym, ap, _∙_}
 use native.Mathlib.Omega.{arith}
 use native.Mathlib.Numerals.{add-one}
 use lib.ListN.{length, length-append}
-use borrow.Author.Tests.{eqb-true}
-use Rattle.laws.proofs.Cases.{and-l, and-r}
 use Rattle.laws.proofs.Digits.{value-digits}
 use Rattle.laws.specs.Split.{before, joinOn, skipOn}
 use Rattle.text.specs.Line.{TAB, LF, hasLine, skip, lineAt, fields}
-use Rattle.plan.specs.Answer.{granted, isGranted}
+use Rattle.plan.specs.Answer.{granted}
 use Rattle.plan.specs.Task.{taskOk}
 use Rattle.plan.specs.Judged.{tasksAnswer}
-use Rattle.plan.specs.Value.{taskAt, planOf, rangesOk, isAccepted}
+use Rattle.plan.specs.Value.{taskAt, planOf, isAccepted}
 use Rattle.plan.specs.Read.{sizesOk, editionOf, boardsOf, tasksOf, lineTask, textTask, readingOf}
 use Rattle.plan.specs.Write.{sizesText, taskText, taskTexts, textOf}
 use Rattle.plan.specs.declared.Answer.{Answer}
 use Rattle.plan.specs.declared.Plan.{Plan}
 use Rattle.plan.proofs.LineCodes.{LineFine}
-use Rattle.plan.proofs.Judged.{tasks-granted, tasks-same}
+use Rattle.plan.proofs.Judged.{tasks-granted, tasks-same, accepted-ranges, accepted-tasks}
 use Rattle.plan.proofs.PlanTasks.{SizedPlan, RangesKept, ranges-kept, task-kept, task-fits, planOf-same, planOf-own}
 use Rattle.rounds.proofs.RoundBack.{sizesFields, taskFields, made-line, made-rest, made-has, sizes-whole, sizes-fields}
 use Rattle.rounds.proofs.RoundBack.{sizes-read, task-whole, task-fields, task-fine, task-back, skip-texts, texts-from}
 use Rattle.rounds.proofs.RoundLength.{task-length, texts-length, sizes-length}
 use Rattle.plan.proofs.ReadOk.{LineOk, TextOk, ok-text, read-answer, read-plan}
-
-module _ (plan : Plan) where
-  accepted-ranges : isAccepted plan ≡ true → rangesOk plan ≡ true
-  unfolding isAccepted
-  accepted-ranges h = and-l (rangesOk plan) (isGranted (tasksAnswer (plan .tasks) (taskAt plan))) h
-
-  accepted-tasks : isAccepted plan ≡ true → tasksAnswer (plan .tasks) (taskAt plan) ≡ granted
-  unfolding isAccepted
-  accepted-tasks h =
-      tasks-granted (plan .tasks) (taskAt plan)
-      (eqb-true (tasksAnswer (plan .tasks) (taskAt plan) .code) 0
-      (and-r (rangesOk plan) (isGranted (tasksAnswer (plan .tasks) (taskAt plan))) h))
 
 fine-at :
     {d e b c m n : ℕ} {line : List ℕ} {k : ℕ} → d ≡ e → b ≡ c → m ≡ n → LineFine e c n line k → LineFine d b m line k
@@ -132,7 +118,7 @@ module _ (plan : Plan) (ok : isAccepted plan ≡ true) where
     };
     judged = ap (λ (n : ℕ). tasksAnswer n (textTask (textOf plan))) text-tasks
         ∙ tasks-same (plan .tasks) (textTask (textOf plan)) (taskAt plan) text-task
-        ∙ accepted-tasks plan ok;
+        ∙ tasks-granted (plan .tasks) (taskAt plan) (accepted-tasks plan ok);
   }
     where
       none : skip (plan .tasks) lines ≡ []

@@ -7,16 +7,16 @@ use mathlib.Core.Path.{_≡_, refl, sym, ap, _∙_}
 use mathlib.Core.Logic.{_≢_, _⊎_, inl, inr, ⊎-elim}
 use lib.Dec.{eqb, ltb, leb, lit<}
 use borrow.Author.Tests.{eqb-true, eq-eqb, ne-eqb, leb-true, ltb-false, le-leb, lt-ltb}
-use Rattle.laws.proofs.Cases.{by-le, true-false, same-test, and-l, and-r, or-at, guard-passed}
+use Rattle.laws.proofs.Cases.{by-le, true-false, same-test, or-at, guard-passed}
 use Rattle.laws.specs.Lists.{anyOf}
 use Rattle.text.specs.Items.{driveOf, isShared}
 use Rattle.theory.specs.Plan as theory-plan
 use Rattle.plan.specs.Task.{Task}
 use Rattle.plan.specs.Pairs.{overlap, sameBoard, holdsClash, clashByDrive, isListed, clash, breaksAfter, pairCode}
-use Rattle.plan.specs.Value.{at, taskAt, rangesOk, isAccepted}
+use Rattle.plan.specs.Value.{at, taskAt, isAccepted}
 use Rattle.plan.specs.declared.Plan.{Plan}
 use Rattle.plan.proofs.FirstFault.{NoPair}
-use Rattle.plan.proofs.Judged.{Begins, tasks-fine}
+use Rattle.plan.proofs.Judged.{Begins, tasks-fine, accepted-ranges, accepted-tasks}
 use Rattle.plan.proofs.PlanTasks.{RangesKept, ranges-kept, task-kept, task-fits}
 use Rattle.view.specs.View.{planFor}
 
@@ -38,12 +38,10 @@ pub record PlanFacts (plan : Plan) : Type 0 where
 
 module _ (plan : Plan) (ok : isAccepted plan ≡ true) where
   ranges : RangesKept plan
-  unfolding isAccepted
-  ranges = ranges-kept plan (and-l _ _ ok)
+  ranges = ranges-kept plan (accepted-ranges plan ok)
 
   fine : Begins (plan .tasks) (taskAt plan) × NoPair (plan .tasks) (taskAt plan)
-  unfolding isAccepted
-  fine = tasks-fine (plan .tasks) (taskAt plan) .0 (eqb-true _ 0 (and-r (rangesOk plan) _ ok))
+  fine = tasks-fine (plan .tasks) (taskAt plan) .0 (accepted-tasks plan ok)
 
   task-facts : (k : ℕ) → k < plan .tasks → TaskFacts plan k
   task-facts k l =

@@ -9,17 +9,16 @@ use lib.ListN.{length, getD, take, drop, drop-of-length-le, length-append, lengt
 use lib.Seq.{length-sets, drop-cons}
 use lib.Dec.{eqb}
 use borrow.Author.Tests.{eq-eqb, ne-eqb, le-ltb, lt-ltb, not-true, not-false}
-use Rattle.laws.proofs.Cases.{by-eq, and-l}
+use Rattle.laws.proofs.Cases.{by-eq}
 use Rattle.laws.specs.Digits.{digitsOf}
 use Rattle.laws.specs.Split.{indexOf, joinOn}
 use Rattle.text.specs.Items.{COMMA, NONE, isShared, listText}
 use Rattle.text.proofs.ListFields.{holdsText, afterText}
 use Rattle.text.specs.Bytes.{bytes}
 use Rattle.text.specs.Line.{TAB, LF, lineText}
-use Rattle.plan.specs.Answer.{isGranted}
 use Rattle.plan.specs.Task.{Task}
-use Rattle.plan.specs.Judged.{tasksAnswer}
-use Rattle.plan.specs.Value.{row, items, taskAt, rangesOk, isAccepted}
+use Rattle.plan.specs.Value.{row, items, taskAt, isAccepted}
+use Rattle.plan.proofs.Judged.{accepted-ranges}
 use Rattle.plan.proofs.PlanTasks.{ranges-kept}
 use Rattle.plan.specs.Write.{sizesText, fieldsFrom, taskText, taskTexts, textOf, writeAnswer, writtenOf, bufferAfter}
 use Rattle.writer.specs.private.WriteParts.{itemText, numberField, listField, readyField, numbersText, Measured, Room, Wrote, answered, Answered}
@@ -254,8 +253,7 @@ module _ (plan : Plan) where
   yes-accepted {accepted} e h = sym e ∙ not-false accepted h
 
   pub few-tasks : isAccepted plan ≡ true → plan .tasks ≤ 64
-  unfolding isAccepted
-  few-tasks ok = ranges-kept plan (and-l (rangesOk plan) (isGranted (tasksAnswer (plan .tasks) (taskAt plan))) ok) .tasks .1
+  few-tasks ok = ranges-kept plan (accepted-ranges plan ok) .tasks .1
 
   module _ (out : List ℕ) where
     pub nine :

@@ -1,5 +1,5 @@
 // Writing a plan text. Its length comes first, so that a buffer that is too short is left as it is.
-use judge::ranges::is_accepted;
+use judge::value::is_accepted;
 use plan::Answer;
 use plan::Plan;
 use plan::Written;

@@ -3,14 +3,12 @@ use Prim.Native.Nat.{ℕ, _+_, _-_, _/_, _%_, _^_, _≤_, _<_}
 use mathlib.Core.Path.{_≡_}
 use mathlib.Core.Bool.{Bool, true, false, not, _&&_, _||_}
 use mathlib.Core.List.{List}
-use lib.Dec.{ltb, leb, eqb}
-use Rattle.laws.specs.Lists.{allOf, anyOf, risesFrom}
-use Rattle.text.specs.Number.{most}
+use lib.Dec.{ltb, eqb}
+use Rattle.laws.specs.Lists.{allOf, anyOf}
 use Rattle.text.specs.Items.{between, driveOf, isShared}
-use Rattle.text.specs.private.Lettered.{keyOf}
 use Rattle.plan.specs.Task.{Task, taskOf}
 use Rattle.plan.specs.Pairs.{isListed}
-use Rattle.plan.specs.Value.{at, row, items, isTrimmed}
+use Rattle.plan.specs.Value.{at, row, items}
 use Rattle.judge.specs.declared.Sets.{Sets}
 
 -- the tasks that arrays hold, whose ready ticks no pair looks at
@@ -44,19 +42,6 @@ PairInOrder begin finish after ordered a b =
 pub record PassedOver (begin finish : List ℕ) (ordered : Bool) (a b tasks r : ℕ) : Type 0 where
   pub onward : b ≤ r
   pub idle : (j : ℕ) → b ≤ j → j < r → (j < tasks) × (ordered ≡ true) × (overlapsIn begin finish a j ≡ false)
-
--- the two halves of what is kept of a task
-abbrev pub numbersIn : ℕ → ℕ → List ℕ → List ℕ → List ℕ → List ℕ → ℕ → Bool
-numbersIn edition boards board ready begin finish k =
-    (between 1 boards (at board k)
-    && (leb (at ready k) (at begin k) && (ltb (at begin k) (at finish k) && leb (at finish k) most)))
-    && (eqb edition 2 || eqb (at ready k) 0)
-
-abbrev pub listIn : Bool → ℕ → List ℕ → Bool
-listIn drives high l = risesFrom (keyOf drives) high 0 (items l) && isTrimmed l
-
-abbrev pub listsIn : ℕ → List ℕ → List ℕ → ℕ → Bool
-listsIn tasks holds after k = listIn true 32 (row 32 holds k) && listIn false tasks (row 64 after k)
 
 -- a hold whose drive is one of the 32, and so a bit
 abbrev pub isDrive : ℕ → Bool

@@ -12,7 +12,7 @@ use Rattle.text.specs.Items.{isList, listOf, isHold, holdOf, holdsOk, afterOk}
 use Rattle.faults.specs.Faults.{rangedRead, wordCode, endCode, worst, faultOf}
 use Rattle.plan.specs.Pairs.{clashByDrive, isListed, pairCode, rowFault, firstFault}
 use Rattle.plan.specs.Judged.{tasksAnswer}
-use Rattle.plan.specs.Value.{planOf, blankFrom, keptOk, rangesOk, isAccepted}
+use Rattle.plan.specs.Value.{planOf, blankFrom, keptOk, rangesOk, judgedAnswer, isAccepted}
 use Rattle.plan.specs.Read.{sizesOk, taskFrom, lineTask, codesFrom, readyCode, taskCodes, lineAnswer, linesAnswer, formAnswer, textAnswer, readingOf}
 use Rattle.theory.specs.Book.{allEnded, taskTest, soundTest}
 use Rattle.theory.specs.Report.{nonePast, reportCode, dropCode, goes, skipTimes, next, opened}
@@ -40,7 +40,7 @@ unfolding
     valueAfter digitsFrom digitsOf allOf anyOf firstNot rising same scan each rows every any latest least indexOf skipOn splitOn consFirst
     joinOn
     isNumber numberStop numberOf isList listOf isHold holdOf holdsOk afterOk rangedRead wordCode endCode worst faultOf
-    clashByDrive isListed pairCode rowFault firstFault tasksAnswer planOf blankFrom keptOk rangesOk isAccepted
+    clashByDrive isListed pairCode rowFault firstFault tasksAnswer planOf blankFrom keptOk rangesOk judgedAnswer isAccepted
     sizesOk taskFrom lineTask codesFrom readyCode taskCodes lineAnswer linesAnswer formAnswer textAnswer readingOf
     allEnded taskTest soundTest nonePast reportCode dropCode goes skipTimes next opened minimumEarly
     laid soundOn layOut openedOn openingOf codeOf reportAnswer nextBook reportedOf

@@ -1,4 +1,4 @@
-use Rattle.judge.proofs.ItemLaws.{part-row}
+use Rattle.plan.proofs.PlanRows.{part-row}
 use Rattle.judge.proofs.DriveLaws.{sets-clash}
 use borrow.Author.Needs.{needs}
 use Rattle.judge.proofs.drives.clash_by_drive.Statement.{statement}

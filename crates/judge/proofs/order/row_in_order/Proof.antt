@@ -1,6 +1,6 @@
 use mathlib.Core.Path.{ap}
 use mathlib.Core.Bool.{not}
-use Rattle.judge.proofs.ItemLaws.{part-row}
+use Rattle.plan.proofs.PlanRows.{part-row}
 use borrow.Author.Needs.{needs}
 use Rattle.judge.proofs.order.row_in_order.Statement.{statement}
 use Rattle.judge.proofs.order.row_in_order.Tie as tie

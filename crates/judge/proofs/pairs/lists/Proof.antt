@@ -1,4 +1,4 @@
-use Rattle.judge.proofs.ItemLaws.{part-row}
+use Rattle.plan.proofs.PlanRows.{part-row}
 use borrow.Author.Needs.{needs}
 use Rattle.judge.proofs.pairs.lists.Statement.{statement}
 use Rattle.judge.proofs.pairs.lists.Tie as tie

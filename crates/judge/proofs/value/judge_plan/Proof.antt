@@ -1,0 +1,19 @@
+use Rattle.judge.proofs.ValueLaws.{judged-nine, kept-in-range, judged-tasks}
+use borrow.Author.Needs.{needs}
+use Rattle.judge.proofs.value.judge_plan.Statement.{statement}
+use Rattle.judge.proofs.value.judge_plan.Tie as tie
+
+keeps-ranges-requires : tie.Need-keeps-ranges-requires
+keeps-ranges-requires c κs = search needs
+
+returns : tie.Need-returns
+returns c = judged-nine _ (c .before .keeps-ranges .ensures) (c .if1 .taken)
+
+judge-tasks-requires : tie.Need-judge-tasks-requires
+judge-tasks-requires c κs = kept-in-range _ (c .before .keeps-ranges .ensures) (c .if1 .left)
+
+returns-2 : tie.Need-returns-2
+returns-2 c = judged-tasks _ (c .before .before .keeps-ranges .ensures) (c .before .if1 .left) (c .judge-tasks .ensures)
+
+pub judge-plan-spec : {M : Type 1} → statement M
+judge-plan-spec = tie.close (tie.spec keeps-ranges-requires returns judge-tasks-requires returns-2)

@@ -1,0 +1,23 @@
+-- Short names for what single functions say of one task's places in lent arrays.
+use Prim.Native.Nat.{ℕ}
+use mathlib.Core.Bool.{Bool, true, false, _&&_, _||_}
+use mathlib.Core.List.{List}
+use lib.Dec.{ltb, leb, eqb}
+use Rattle.laws.specs.Lists.{risesFrom}
+use Rattle.text.specs.Number.{most}
+use Rattle.text.specs.Items.{between}
+use Rattle.text.specs.private.Lettered.{keyOf}
+use Rattle.plan.specs.Value.{at, row, items, isTrimmed}
+
+-- the two halves of what is kept of a task
+abbrev pub numbersIn : ℕ → ℕ → List ℕ → List ℕ → List ℕ → List ℕ → ℕ → Bool
+numbersIn edition boards board ready begin finish k =
+    (between 1 boards (at board k)
+    && (leb (at ready k) (at begin k) && (ltb (at begin k) (at finish k) && leb (at finish k) most)))
+    && (eqb edition 2 || eqb (at ready k) 0)
+
+abbrev pub listIn : Bool → ℕ → List ℕ → Bool
+listIn drives high l = risesFrom (keyOf drives) high 0 (items l) && isTrimmed l
+
+abbrev pub listsIn : ℕ → List ℕ → List ℕ → ℕ → Bool
+listsIn tasks holds after k = listIn true 32 (row 32 holds k) && listIn false tasks (row 64 after k)
