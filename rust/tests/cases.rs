@@ -22,7 +22,7 @@ fn folder_of(name: &str, plan: &[u8], ends: &[u8]) -> PathBuf {
 }
 
 fn run_in(folder: &Path) -> Output {
-    program_in(folder).output().unwrap()
+    program_in("runlog", folder).output().unwrap()
 }
 
 /// The program printed this log, and had nothing else to say.
@@ -192,7 +192,7 @@ fn ends_that_cannot_be_read_hide_the_refusal_of_a_plan() {
 fn a_log_that_cannot_be_written_is_said() {
     let folder = folder_of("full-device", PLAN_A, ENDS_A);
     let full = File::options().write(true).open("/dev/full").unwrap();
-    let output = program_in(&folder).stdout(full).output().unwrap();
+    let output = program_in("runlog", &folder).stdout(full).output().unwrap();
     expect_said(&output.stderr, "standard output");
 }
 
@@ -202,11 +202,12 @@ fn a_write_that_takes_a_part_goes_on_with_the_rest() {
     let ends = b"end\t0\t0\n".repeat(4_096);
     let folder = folder_of("limited", PLAN_A, &ends);
     let out = folder.join("out");
-    let limited = "trap '' XFSZ; ulimit -f 8; exec \"$0\"";
-    let program = program_in(&folder);
+    let limited = "trap '' XFSZ; ulimit -f 8; exec \"$0\" \"$@\"";
+    let program = program_in("runlog", &folder);
     let output = Command::new("bash")
         .args(["-c", limited])
         .arg(program.get_program())
+        .args(program.get_args())
         .current_dir(&folder)
         .stdout(File::create(&out).unwrap())
         .output()

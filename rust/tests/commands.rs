@@ -1,4 +1,4 @@
-//! How the commands are called: their use, links to them, and what `./runlog` tells while it proves.
+//! How the commands are called: their use, links to them, and what one that runs a program tells while it proves.
 
 use dispatcher::sample::program::{at_root, empty_folder};
 use std::os::unix::fs::{symlink, PermissionsExt};
@@ -6,8 +6,9 @@ use std::path::{Path, PathBuf};
 use std::process::{Command, Output};
 use std::{env, fs};
 
-const COMMANDS: [&str; 5] = [
+const COMMANDS: [&str; 6] = [
     "runlog",
+    "convert",
     "test",
     "tools/bench",
     "tools/program",
@@ -79,7 +80,8 @@ fn links_to_the_commands_do_as_the_commands_do() {
     expect_printed(&call(&link, &[example.to_str().unwrap()]), &log);
 
     let mut program = Command::new(link_to(&folder("link-program"), "tools/program"));
-    expect_printed(&program.current_dir(&example).output().unwrap(), &log);
+    let ran = program.arg("runlog").current_dir(&example).output();
+    expect_printed(&ran.unwrap(), &log);
 
     let mut picture = Command::new(link_to(&folder("link-picture"), "tools/picture"));
     let drawn = picture.args([example.join("plan.txt"), example.join("log.txt")]);
@@ -93,31 +95,33 @@ fn put_script(path: &Path, script: &str) {
     fs::set_permissions(path, fs::Permissions::from_mode(0o755)).unwrap();
 }
 
-/// `./runlog` in a project of four crates, one of which the program does without, and with an `rt`
+/// The command in a project of two programs and three crates, one of which both do without, and with an `rt`
 /// that proves nothing: it notes what it is asked for, and talks as much as the real one.
-fn run_unbuilt(name: &str, rt: &str) -> (Output, String) {
+fn run_unbuilt(command: &str, name: &str, rt: &str) -> (Output, String) {
     let root = folder(name);
     fs::create_dir_all(root.join("crates")).unwrap();
     fs::create_dir_all(root.join("examples/plan-a")).unwrap();
-    let crates = "# NAME: DEP DEP\nlow:\nhigh: low io\nbeside: low high\nrunlog: high os\n";
+    let crates =
+        "# NAME: DEP DEP\nlow:\nhigh: low io\nbeside: low high\nconvert: low\nrunlog: high os\n";
     fs::write(root.join("crates.txt"), crates).unwrap();
-    fs::copy(at_root("runlog"), root.join("runlog")).unwrap();
-    put_script(&root.join("tools/program"), "echo the log");
-    fs::copy(at_root("tools/use.bash"), root.join("tools/use.bash")).unwrap();
+    put_script(&root.join("tools/program"), "echo \"$* ran\"");
+    for script in [command, "tools/run.bash", "tools/use.bash"] {
+        fs::copy(at_root(script), root.join(script)).unwrap();
+    }
     put_script(&root.join("own/rt"), &format!("echo \"$*\" >>asked\n{rt}"));
     let path = env::var("PATH").unwrap();
     let path = format!("{}:{path}", root.join("own").display());
-    let output = Command::new(root.join("runlog")).env("PATH", path).output();
+    let output = Command::new(root.join(command)).env("PATH", path).output();
     let asked = fs::read_to_string(root.join("asked")).unwrap();
     (output.unwrap(), asked)
 }
 
-const BUILDS: &str = "echo \"rt: $2 proved (1 s)\"; echo loud >&2; mkdir -p target/bin; touch target/bin/runlog; chmod +x target/bin/runlog";
+const BUILDS: &str = "echo \"rt: $2 proved (1 s)\"; echo loud >&2; mkdir -p target/bin; touch target/bin/$2; chmod +x target/bin/$2";
 
 #[test]
 fn the_script_tells_which_crate_is_being_proved() {
-    let (output, asked) = run_unbuilt("proving", BUILDS);
-    assert_eq!(text(&output.stdout), "the log\n");
+    let (output, asked) = run_unbuilt("runlog", "proving", BUILDS);
+    assert_eq!(text(&output.stdout), "runlog ran\n");
     assert_eq!(
         text(&output.stderr),
         "runlog: the program is proved and built first, which takes some minutes
@@ -131,9 +135,21 @@ runlog: proving 3 of 3: runlog
 }
 
 #[test]
+fn each_script_builds_and_runs_its_own_program() {
+    let (output, asked) = run_unbuilt("convert", "own-program", BUILDS);
+    assert_eq!(text(&output.stdout), "convert ran\n");
+    let said = text(&output.stderr);
+    assert!(
+        said.ends_with("convert: proving 2 of 2: convert\n"),
+        "{said}"
+    );
+    assert_eq!(asked, "check low\ncheck convert\n");
+}
+
+#[test]
 fn the_script_stops_at_the_first_crate_that_is_not_proved() {
     let refusing = "[ \"$2\" = low ] || { echo \"rt: $2 NOT PROVED\"; exit 1; }";
-    let (output, asked) = run_unbuilt("not-proved", refusing);
+    let (output, asked) = run_unbuilt("runlog", "not-proved", refusing);
     assert_eq!(text(&output.stdout), "");
     let said = text(&output.stderr);
     let ending = "proving 2 of 3: high\nrunlog: it is not proved:\nrt: high NOT PROVED\n";

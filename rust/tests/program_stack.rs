@@ -16,14 +16,14 @@ fn runs_with(kib: u32, folder: &Path, log: &[u8]) -> bool {
 
 /// Whether the program prints its log with so much stack, which holds its environment too.
 fn runs_once_with(kib: u32, folder: &Path, log: &[u8]) -> bool {
-    let mut command = program_in(folder);
+    let mut command = program_in("runlog", folder);
     command.env_clear();
     for name in ["PATH", "RATTLE_HOME"] {
         if let Some(value) = std::env::var_os(name) {
             command.env(name, value);
         }
     }
-    let output = command.env("RUNLOG_STACK", kib.to_string()).output();
+    let output = command.env("PROGRAM_STACK", kib.to_string()).output();
     let output = output.unwrap();
     output.status.success() && output.stdout == log
 }

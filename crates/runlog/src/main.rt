@@ -1,6 +1,4 @@
 // The program: plan.txt and ends.txt in, the log out. Every byte of the log comes from `run_log`.
-mod files;
-
 ghost use mathlib.Core.Path.{_≡_};
 ghost use lib.ListN.{take};
 ghost use Rattle.io.specs.Counts.{Counts};

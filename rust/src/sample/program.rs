@@ -1,4 +1,4 @@
-//! The built program, run in a folder, and folders to run it in.
+//! The built programs, run in a folder, and folders to run them in.
 
 use std::fs;
 use std::path::{Path, PathBuf};
@@ -17,13 +17,13 @@ pub fn empty_folder(below: &str, name: &str) -> PathBuf {
     folder
 }
 
-/// The command that runs it there. A test without it has failed, and is not passed over.
-pub fn program_in(folder: &Path) -> Command {
+/// The command that runs the program there. A test without it has failed, and is not passed over.
+pub fn program_in(name: &str, folder: &Path) -> Command {
     assert!(
-        at_root("target/bin/runlog").exists(),
-        "target/bin/runlog is missing: run `rt check runlog` first"
+        at_root("target/bin").join(name).exists(),
+        "target/bin/{name} is missing: run `rt check {name}` first"
     );
     let mut command = Command::new(at_root("tools/program"));
-    command.current_dir(folder);
+    command.arg(name).current_dir(folder);
     command
 }

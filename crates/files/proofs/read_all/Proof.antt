@@ -1,11 +1,12 @@
--- `runlog::files::read_all` meets its contract: what was read lies within the buffer.
+-- `files::read_all` meets its contract: what was read lies within the buffer.
 use Rattle.io.proofs.Counting.{counts}
 use Prim.Native.Nat.{_-_, _≤_}
-use mathlib.Core.Path.{_≡_}
+use mathlib.Core.Path.{_≡_, sym, subst}
 use lib.ListN.{length}
+use lib.Dec.{T}
 use borrow.Author.Needs.{needs}
-use Rattle.runlog.proofs.files.read_all.Statement.{statement}
-use Rattle.runlog.proofs.files.read_all.Tie as tie
+use Rattle.files.proofs.read_all.Statement.{statement}
+use Rattle.files.proofs.read_all.Tie as tie
 
 abbrev Inv-loop : tie.InvT-loop
 Inv-loop fd text₀ done₀ text done = (length text ≡ length text₀) × (done ≤ length text)
@@ -50,13 +51,13 @@ same-length-2 : tie.Need-same-length-2 Inv-loop μ-loop
 same-length-2 c = search needs
 
 returns-2 : tie.Need-returns-2 Inv-loop μ-loop
-returns-2 c = counts _ _ (search needs)
+returns-2 c = (counts _ _ (search needs), λ failed. absurd (subst T (sym failed) tt))
 
 same-length-3 : tie.Need-same-length-3 Inv-loop μ-loop
 same-length-3 c = search needs
 
 returns-3 : tie.Need-returns-3 Inv-loop μ-loop
-returns-3 c = counts _ _ (search needs)
+returns-3 c = (counts _ _ (search needs), λ failed. absurd (subst T (sym failed) tt))
 
 pub read-all-spec : {M : Type 1} → statement M
 read-all-spec =

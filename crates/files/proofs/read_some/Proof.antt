@@ -1,9 +1,9 @@
--- `runlog::files::read_some` is safe and ends: the turns that are left fall.
+-- `files::read_some` is safe and ends: the turns that are left fall.
 use mathlib.Core.Path.{_≡_}
 use lib.ListN.{length}
 use borrow.Author.Needs.{needs}
-use Rattle.runlog.proofs.files.read_some.Statement.{statement}
-use Rattle.runlog.proofs.files.read_some.Tie as tie
+use Rattle.files.proofs.read_some.Statement.{statement}
+use Rattle.files.proofs.read_some.Tie as tie
 
 abbrev Inv-loop : tie.InvT-loop
 Inv-loop fd part₀ turns₀ part turns = length part ≡ length part₀

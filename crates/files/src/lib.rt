@@ -1,5 +1,6 @@
 // Whole files read, whole texts written. No contract can say which bytes come from a file or go to one.
 ghost use mathlib.Core.Path.{_≡_};
+ghost use mathlib.Core.Bool.{true};
 ghost use Prim.Native.Nat.{_≤_};
 ghost use lib.ListN.{length};
 ghost use Rattle.io.specs.Counts.{Counts};
@@ -8,7 +9,7 @@ use libc::ENOENT;
 use libc::STDOUT_FILENO;
 
 // How many of a file's bytes stand in the buffer; after a failure none count.
-pub(crate) struct Text {
+pub struct Text {
     pub failed: bool,
     pub length: usize,
 }
@@ -35,6 +36,7 @@ fn read_from(fd: i32, text: &mut [u8], from: usize) -> isize
 // A read can bring fewer bytes than asked, so it goes on until the file ends or the buffer is full.
 fn read_all(fd: i32, text: &mut [u8]) -> Text
     ensures { λ r. ⌜ Counts (r .length) (now (text .exit)) ⌝ }
+    ensures { λ r. ⌜ (r .failed ≡ true → r .length ≡ 0) ⌝ }
 {
     let mut done = 0;
     while done < text.len() {
@@ -72,8 +74,9 @@ fn unopened(path: &[u8]) -> Text
 }
 
 // Reads as much of a file as the buffer holds.
-pub(crate) fn read_text(path: &[u8], text: &mut [u8]) -> Text
+pub fn read_text(path: &[u8], text: &mut [u8]) -> Text
     ensures { λ r. ⌜ Counts (r .length) (now (text .exit)) ⌝ }
+    ensures { λ r. ⌜ (r .failed ≡ true → r .length ≡ 0) ⌝ }
 {
     let fd = os::open_read(path);
     if fd < 0 {
@@ -101,7 +104,9 @@ fn write_some(fd: i32, part: &[u8]) -> isize {
 }
 
 // A write can take fewer bytes than it is handed, so it goes on with the rest.
-fn write_all(fd: i32, text: &[u8]) -> bool {
+fn write_all(fd: i32, text: &[u8]) -> bool
+    ensures { λ r. ⌜ (length (now (text .entry)) ≡ 0 → r ≡ true) ⌝ }
+{
     let mut rest = text;
     while 0 < rest.len() {
         let taken = io::count(write_some(fd, rest), rest);
@@ -113,8 +118,13 @@ fn write_all(fd: i32, text: &[u8]) -> bool {
     true
 }
 
-pub(crate) fn print(text: &[u8]) {
-    if !write_all(STDOUT_FILENO, text) {
+// Whether the system took the whole text; an empty one is always taken.
+pub fn print(text: &[u8]) -> bool
+    ensures { λ r. ⌜ (length (now (text .entry)) ≡ 0 → r ≡ true) ⌝ }
+{
+    let is_written = write_all(STDOUT_FILENO, text);
+    if !is_written {
         os::fail(b"standard output");
     }
+    is_written
 }

@@ -1,7 +1,7 @@
--- `runlog::files::write_some` is safe and ends: the turns that are left fall.
+-- `files::write_some` is safe and ends: the turns that are left fall.
 use borrow.Author.Needs.{needs}
-use Rattle.runlog.proofs.files.write_some.Statement.{statement}
-use Rattle.runlog.proofs.files.write_some.Tie as tie
+use Rattle.files.proofs.write_some.Statement.{statement}
+use Rattle.files.proofs.write_some.Tie as tie
 
 abbrev Inv-loop : tie.InvT-loop
 Inv-loop fd part turns₀ turns = Unit {0}

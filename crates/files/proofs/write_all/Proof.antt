@@ -1,11 +1,13 @@
--- `runlog::files::write_all` is safe and ends: each turn leaves fewer bytes.
+-- `files::write_all` meets its contract and ends: each turn leaves fewer bytes.
+use Prim.Native.Nat.{_≤_}
 use lib.ListN.{length}
+use native.Mathlib.Omega.{arith}
 use borrow.Author.Needs.{needs}
-use Rattle.runlog.proofs.files.write_all.Statement.{statement}
-use Rattle.runlog.proofs.files.write_all.Tie as tie
+use Rattle.files.proofs.write_all.Statement.{statement}
+use Rattle.files.proofs.write_all.Tie as tie
 
 abbrev Inv-loop : tie.InvT-loop
-Inv-loop fd text rest₀ rest = Unit {0}
+Inv-loop fd text rest₀ rest = length rest ≤ length text
 
 abbrev μ-loop : tie.MeasureT-loop
 μ-loop fd text rest₀ rest = length rest
@@ -20,7 +22,7 @@ count-requires : tie.Need-count-requires Inv-loop μ-loop
 count-requires c κs = search needs
 
 returns : tie.Need-returns Inv-loop μ-loop
-returns c = search needs
+returns c = λ none. absurd (omega (arith, none))
 
 sub-rest : tie.Need-sub-rest Inv-loop μ-loop
 sub-rest c = search needs
