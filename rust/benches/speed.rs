@@ -6,13 +6,14 @@
 
 use dispatcher::sample::events::{droppable_tasks, event_line, must_take, passed_tasks, Event};
 use dispatcher::sample::mornings::random_morning;
-use dispatcher::sample::plans::{full_plan, with_even_ready_ticks};
+use dispatcher::sample::old_texts::with_all_shared;
+use dispatcher::sample::plans::{exclusively_held, full_plan, with_even_ready_ticks};
 use dispatcher::sample::reports::{accepted_report, Report};
 use dispatcher::sample::{announced_seed, Rng};
 use dispatcher::text::plan_text;
 use dispatcher::values::LONGEST_TEXT;
-use dispatcher::{accepted, drop_task, minimum_early, open_book, proved, read_plan, report};
-use dispatcher::{run_log, write_plan, Answer, Book, Plan};
+use dispatcher::{accepted, convert, convert_text, drop_task, minimum_early, open_book, proved};
+use dispatcher::{read_exclusive, read_plan, report, run_log, write_plan, Answer, Book, Plan};
 use std::fs;
 use std::hint::black_box;
 use std::time::{Duration, Instant};
@@ -81,6 +82,34 @@ fn time_texts(rounds: u32, plan: &Plan) {
         || write_plan(black_box(plan), black_box(&mut other_out)),
     );
     assert!(out == other_out);
+}
+
+/// Plans of either edition made into ones that share no drive, the first as it is
+/// accepted.
+fn time_conversions(rounds: u32, plan: &Plan) {
+    let old = exclusively_held(plan);
+    assert_eq!(convert(&old).answer, Answer::ACCEPTED);
+    time_both(
+        rounds,
+        "convert 64 tasks",
+        || proved::convert(black_box(&old)),
+        || convert(black_box(&old)),
+    );
+    let text = plan_text(&with_all_shared(&with_even_ready_ticks(plan)));
+    assert_eq!(read_exclusive(&text).answer, Answer::ACCEPTED);
+    time_both(
+        rounds,
+        &format!("second call, {} bytes", text.len()),
+        || proved::read_exclusive(black_box(&text)),
+        || read_exclusive(black_box(&text)),
+    );
+    let (text, mut out) = (plan_text(&old), vec![0; proved::CONVERTED_ROOM]);
+    time_both(
+        rounds,
+        &format!("convert a text, {} bytes", text.len()),
+        || proved::write_converted(black_box(&text), black_box(&mut out)),
+        || convert_text(black_box(&text)).len(),
+    );
 }
 
 /// A book half way through its morning, and a report it accepts.
@@ -203,6 +232,7 @@ fn main() {
     }
     let plan = full_plan(&mut rng, 64);
     time_drops(rounds, &mut rng, &plan);
+    time_conversions(rounds, &plan);
     println!("edition 2");
     let awaited = with_even_ready_ticks(&plan);
     time_random_morning(rounds, &mut rng, &awaited);

@@ -39,6 +39,9 @@ struct reported dispatch_report(struct book book, u32 task, u32 tick);
 struct dropped dispatch_drop(struct book book, u32 task);
 struct figure dispatch_minimum_early(struct book book);
 usize dispatch_run_log(const u8 *plan, usize plan_length, const u8 *ends, usize ends_length, u8 *out, usize length);
+struct reading dispatch_convert(struct plan plan);
+struct reading dispatch_read_exclusive(const u8 *text, usize length);
+usize dispatch_convert_text(const u8 *text, usize text_length, u8 *out, usize length);
 
 // ---- requests and answers
 struct slice { u8 *bytes; u32 length; };
@@ -151,7 +154,23 @@ static void run_log(void) {
     ANSWER(u64, dispatch_run_log(plan.bytes, plan.length, ends.bytes, ends.length, out.bytes, out.length), out);
 }
 
+static void convert(void) {
+    TAKE(struct plan, plan);
+    ANSWER(struct reading, dispatch_convert(plan), NONE);
+}
+
+static void read_exclusive(void) {
+    struct slice text = take_slice();
+    ANSWER(struct reading, dispatch_read_exclusive(text.bytes, text.length), NONE);
+}
+
+static void convert_text(void) {
+    struct slice text = take_slice(), out = take_slice();
+    ANSWER(u64, dispatch_convert_text(text.bytes, text.length, out.bytes, out.length), out);
+}
+
 // ---- the stack that one call takes, as rust/tests/stack.rs measures it
+enum { REGISTERS = 4 }; // as in rust/src/proved.rs
 enum { WORDS = 65536 }; // of 8 bytes: larger than allowed, so that too deep a call is no crash
 static const u64 PATTERN = 0xa5a55a5ac3c33c3c;
 static u64 stack[WORDS] __attribute__((aligned(16)));
@@ -164,16 +183,16 @@ static void known_frame(void) {
 }
 
 // The result register after a call on the stack that begins below `top`.
-static u64 call_on(u64 *top, const void *function, const u64 registers[3]) {
-    u64 result = (u64)function, first = registers[0], second = registers[1], third = registers[2];
+static u64 call_on(u64 *top, const void *function, const u64 registers[REGISTERS]) {
+    u64 result = (u64)function, first = registers[0], second = registers[1], third = registers[2], fourth = registers[3];
     // r12 is kept by every C function, so the way back is in it
     __asm__ volatile("movq %[top], %%r12\n\t"
                      "xchgq %%rsp, %%r12\n\t"
                      "call *%%rax\n\t"
                      "movq %%r12, %%rsp"
-                     : "+a"(result), "+D"(first), "+S"(second), "+d"(third)
+                     : "+a"(result), "+D"(first), "+S"(second), "+d"(third), "+c"(fourth)
                      : [top] "r"(top)
-                     : "rcx", "r8", "r9", "r10", "r11", "r12", "memory", "cc", "xmm0", "xmm1", "xmm2", "xmm3", "xmm4",
+                     : "r8", "r9", "r10", "r11", "r12", "memory", "cc", "xmm0", "xmm1", "xmm2", "xmm3", "xmm4",
                        "xmm5", "xmm6", "xmm7", "xmm8", "xmm9", "xmm10", "xmm11", "xmm12", "xmm13", "xmm14", "xmm15");
     return result;
 }
@@ -192,11 +211,12 @@ static u64 take_register(void) {
     return number;
 }
 
-// Takes a function's op, the value that it gets in memory and three registers.
+// Takes a function's op, the value that it gets in memory and its registers.
 static void measure(void) {
     TAKE(u8, op);
     struct slice value = take_slice();
-    u64 registers[3] = {take_register(), take_register(), take_register()};
+    u64 registers[REGISTERS];
+    for (u32 i = 0; i < REGISTERS; i++) registers[i] = take_register();
     for (u32 i = 0; i < WORDS; i++) stack[i] = PATTERN;
     u64 *top = stack + WORDS - (value.length + 15) / 16 * 2; // at a multiple of 16 bytes, as calls ask for
     memcpy(top, value.bytes, value.length);
@@ -220,6 +240,9 @@ static const struct { void (*answer)(void); const void *function; } ops[256] = {
     ['d'] = {drop, dispatch_drop},
     ['m'] = {minimum_early, dispatch_minimum_early},
     ['l'] = {run_log, dispatch_run_log},
+    ['c'] = {convert, dispatch_convert},
+    ['x'] = {read_exclusive, dispatch_read_exclusive},
+    ['t'] = {convert_text, dispatch_convert_text},
     ['0'] = {0, nothing},
     ['1'] = {0, known_frame},
     ['?'] = {measure, 0},

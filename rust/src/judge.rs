@@ -58,6 +58,7 @@ fn task_keeps_ranges(plan: &Plan, i: usize) -> bool {
         && plan.begin[i] < plan.finish[i]
         && plan.finish[i] <= LAST_TICK
         && holds_keep_rules(plan.hold_places(i))
+        && shares_as_its_edition(plan, i)
         && after_keeps_rules(plan.after_places(i), plan.tasks)
 }
 
@@ -76,6 +77,11 @@ fn holds_keep_rules(places: &[u8]) -> bool {
         .all(|&hold| (1..=MOST_DRIVES).contains(&drive_of(hold)))
         && held.windows(2).all(|w| drive_of(w[0]) < drive_of(w[1]))
         && is_all_zero(&places[held.len()..])
+}
+
+/// In edition 2 every hold is exclusive.
+fn shares_as_its_edition(plan: &Plan, i: usize) -> bool {
+    plan.edition == EDITION_1 || plan.hold_places(i).iter().all(|&hold| is_exclusive(hold))
 }
 
 fn after_keeps_rules(places: &[u8], tasks: u8) -> bool {

@@ -2,6 +2,7 @@
 //! keeps a book of the morning, and says how early everything left will be.
 
 pub mod book;
+pub mod convert;
 pub mod fields;
 pub mod judge;
 pub mod proved;
@@ -12,6 +13,7 @@ pub mod text;
 pub mod values;
 
 pub use book::{drop_task, minimum_early, open_book, report, sound};
+pub use convert::{convert, convert_text, read_exclusive};
 pub use judge::{accepted, first_faulty_pair};
 pub use runlog::run_log;
 pub use text::{read_plan, write_plan};

@@ -4,7 +4,7 @@
 //! that a test calls both alike. The library is compiled for x86-64, where it is
 //! linked and called over the C ABI; elsewhere a peer under an emulator calls it.
 
-use crate::values::{Book, Plan};
+use crate::values::{Book, Plan, LONGEST_TEXT};
 
 #[cfg(target_arch = "x86_64")]
 mod direct;
@@ -16,14 +16,20 @@ mod peer;
 #[cfg(not(target_arch = "x86_64"))]
 use peer as library;
 
-pub use library::{drop_task, measure, minimum_early, open_book};
-pub use library::{read_plan, report, write_log, write_plan};
+pub use library::{convert, drop_task, measure, minimum_early, open_book, read_exclusive};
+pub use library::{read_plan, report, write_converted, write_log, write_plan};
 
 /// Whether the library runs under an emulator, where times say nothing.
 pub const EMULATED: bool = cfg!(not(target_arch = "x86_64"));
 
 /// No log is longer, and a shorter buffer gets nothing.
 pub const LONGEST_LOG: usize = 212_992;
+
+/// The converter writes nothing into a shorter buffer; no text of a plan is longer.
+pub const CONVERTED_ROOM: usize = LONGEST_TEXT;
+
+/// A call is measured with so many registers: none that is measured takes more.
+pub const REGISTERS: usize = 4;
 
 pub fn accepted(plan: &Plan) -> bool {
     yes(library::is_accepted(plan))
@@ -52,6 +58,9 @@ pub enum Function {
     Drop = b'd',
     MinimumEarly = b'm',
     RunLog = b'l',
+    Convert = b'c',
+    ReadExclusive = b'x',
+    ConvertText = b't',
     /// Two that are not the library's, to try the measure itself: this has no frame.
     Nothing = b'0',
     /// A frame of 20,000 bytes, and little more.

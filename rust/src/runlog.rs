@@ -168,6 +168,7 @@ fn log_early(log: &mut Vec<u8>, book: &Book) {
     log.extend(line_of("early", &[book.clock, minimum_early(book).early]));
 }
 
-fn refused_line(answer: Answer) -> Vec<u8> {
+/// A refusal as the log and the converter say it.
+pub fn refused_line(answer: Answer) -> Vec<u8> {
     line_of("refused", &[answer.code, answer.first, answer.second])
 }

@@ -9,8 +9,8 @@ use crate::fields::{
     Spelling,
 };
 use crate::values::{
-    refusal, Answer, Plan, AFTER_PLACES, EDITION_1, EDITION_2, HOLD_PLACES, LAST_TICK, MOST_DRIVES,
-    MOST_TASKS,
+    is_exclusive, refusal, Answer, Plan, AFTER_PLACES, EDITION_1, EDITION_2, HOLD_PLACES,
+    LAST_TICK, MOST_DRIVES, MOST_TASKS,
 };
 
 /// How each field of a task line is spelt. Edition 1 has no ready field.
@@ -25,8 +25,16 @@ const TASK_LINE: [Spelling; 8] = [
     |after| read_list::<AFTER_PLACES>(after, MOST_TASKS.into(), read_listed_task).is_some(),
 ];
 
-/// The place of the ready field among these.
+/// The places of the ready field and of holds among these.
 const READY: usize = 3;
+const HOLDS: usize = 6;
+
+/// What becomes of a shared hold in a text of edition 2; edition 1 keeps its own.
+#[derive(Clone, Copy, PartialEq, Eq)]
+pub enum Shared {
+    Refused,
+    Allowed,
+}
 
 /// A well formed task line whose numbers are not yet held to any range.
 struct TaskLine {
@@ -52,14 +60,19 @@ struct Item {
 }
 
 /// Keeps in the plan what the text's first line says of task index i, and hands
-/// on the rest of the text; or the line's refusal, 3, 4 or 18.
-pub fn read_task<'a>(plan: &mut Plan, i: usize, text: &'a [u8]) -> Result<&'a [u8], Answer> {
+/// on the rest of the text; or the line's refusal, 3, 4, 20 or 18.
+pub fn read_task<'a>(
+    plan: &mut Plan,
+    i: usize,
+    text: &'a [u8],
+    shared: Shared,
+) -> Result<&'a [u8], Answer> {
     let line_number = i as u32 + 2;
     let Some((task, rest)) = read_task_line(text, plan) else {
         let column = malformed_column(first_line(text), &task_form(plan.edition));
         return Err(refusal(3, line_number, column));
     };
-    if let Some((code, field)) = fault_of_range(&task, i, plan) {
+    if let Some((code, field)) = fault_of_range(&task, i, plan, shared) {
         let column = field_column(first_line(text), place_in(plan.edition, field));
         return Err(refusal(code, line_number, column));
     }
@@ -157,12 +170,16 @@ fn read_listed_task(item: &[u8]) -> Option<Item> {
     })
 }
 
-/// Refusal 4 or 18 and the field of `TASK_LINE` that it names.
-fn fault_of_range(task: &TaskLine, i: usize, plan: &Plan) -> Option<(u32, usize)> {
-    match first_field_out_of_range(task, i, plan) {
-        Some(field) => Some((4, field)),
-        None => (task.ready > task.begin).then_some((18, READY)),
+/// Refusal 4, 20 or 18 and the field of `TASK_LINE` that it names.
+fn fault_of_range(task: &TaskLine, i: usize, plan: &Plan, shared: Shared) -> Option<(u32, usize)> {
+    if let Some(field) = first_field_out_of_range(task, i, plan) {
+        return Some((4, field));
     }
+    let takes_shared = plan.edition == EDITION_1 || shared == Shared::Allowed;
+    if !takes_shared && !task.holds.places.iter().all(|&hold| is_exclusive(hold)) {
+        return Some((20, HOLDS));
+    }
+    (task.ready > task.begin).then_some((18, READY))
 }
 
 /// The leftmost field that breaks its range or rule, counted from 0.

@@ -6,15 +6,23 @@
 
 use crate::fields::{line_of, push_number, read_number, split_fields, split_line};
 use crate::judge::{accepted, first_faulty_pair, late_beginning};
-use crate::task_line::read_task;
+use crate::task_line::{read_task, Shared};
 use crate::values::{
     drive_of, is_exclusive, items, refusal, Answer, Plan, Reading, Written, EDITION_1, EDITION_2,
     LONGEST_TEXT, MOST_BOARDS, MOST_TASKS,
 };
 
+/// The first line is not as a call wants it.
+pub const NO_FIRST_LINE: Answer = refusal(2, 1, 0);
+
 /// The plan a text spells, or its first refusal and a plan of zeros.
 pub fn read_plan(text: &[u8]) -> Reading {
-    match plan_of(text) {
+    reading_of(plan_of(text))
+}
+
+/// What a call answers with a plan: a refusal comes with a plan of zeros.
+pub fn reading_of(plan: Result<Plan, Answer>) -> Reading {
+    match plan {
         Ok(plan) => Reading {
             answer: Answer::ACCEPTED,
             plan,
@@ -94,26 +102,31 @@ fn push_list(text: &mut Vec<u8>, list: &[u8], push_item: fn(&mut Vec<u8>, u8)) {
     }
 }
 
-fn plan_of(text: &[u8]) -> Result<Plan, Answer> {
-    if text.len() > LONGEST_TEXT {
-        return Err(refusal(1, 0, 0));
-    }
-    let (mut plan, mut rest) = read_first_line(text).ok_or(refusal(2, 1, 0))?;
-    for i in 0..plan.task_count() {
-        rest = read_task(&mut plan, i, rest)?;
-    }
-    if !rest.is_empty() {
-        return Err(refusal(5, u32::from(plan.tasks) + 2, 0));
-    }
+pub fn plan_of(text: &[u8]) -> Result<Plan, Answer> {
+    let (sizes, rest) = read_first_line(text)?;
+    judged(read_task_lines(sizes, rest, Shared::Refused)?)
+}
+
+/// The very plan, when it has no refusal 17, 6, 7 or 8.
+pub fn judged(plan: Plan) -> Result<Plan, Answer> {
     match late_beginning(&plan).or_else(|| first_faulty_pair(&plan)) {
         Some(answer) => Err(answer),
         None => Ok(plan),
     }
 }
 
-/// A plan of the stated edition and sizes with no task in it, and the rest of the text.
-fn read_first_line(text: &[u8]) -> Option<(Plan, &[u8])> {
-    let (line, rest) = split_line(text)?;
+/// A plan of the stated edition and sizes with no task in it, and the rest of the
+/// text; or refusal 1 or 2.
+pub fn read_first_line(text: &[u8]) -> Result<(Plan, &[u8]), Answer> {
+    if text.len() > LONGEST_TEXT {
+        return Err(refusal(1, 0, 0));
+    }
+    let (line, rest) = split_line(text).ok_or(NO_FIRST_LINE)?;
+    let sizes = read_sizes(line).ok_or(NO_FIRST_LINE)?;
+    Ok((sizes, rest))
+}
+
+fn read_sizes(line: &[u8]) -> Option<Plan> {
     let [word, edition, boards, tasks] = split_fields(line)?;
     let edition = match edition {
         b"1" => EDITION_1,
@@ -128,11 +141,22 @@ fn read_first_line(text: &[u8]) -> Option<(Plan, &[u8])> {
     if !(1..=MOST_BOARDS).contains(&boards) || !(1..=MOST_TASKS).contains(&tasks) {
         return None;
     }
-    let plan = Plan {
+    Some(Plan {
         edition,
         boards,
         tasks,
         ..Plan::ZERO
-    };
-    Some((plan, rest))
+    })
+}
+
+/// The plan with what its task lines say; or refusal 3, 4, 20, 18 or 5.
+pub fn read_task_lines(sizes: Plan, lines: &[u8], shared: Shared) -> Result<Plan, Answer> {
+    let (mut plan, mut rest) = (sizes, lines);
+    for i in 0..plan.task_count() {
+        rest = read_task(&mut plan, i, rest, shared)?;
+    }
+    if !rest.is_empty() {
+        return Err(refusal(5, u32::from(plan.tasks) + 2, 0));
+    }
+    Ok(plan)
 }

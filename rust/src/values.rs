@@ -3,7 +3,8 @@
 //! Task number k sits at index k - 1. A hold byte is 2 * drive (exclusive) or
 //! 2 * drive + 1 (shared); an after byte is a task number; 0 ends a list early.
 
-/// Tasks of edition 2 have ready ticks; in edition 1 each is ready at tick 0.
+/// Tasks of edition 2 have ready ticks and share no drive; in edition 1 each is
+/// ready at tick 0, and a drive may be shared.
 pub const EDITION_1: u8 = 1;
 pub const EDITION_2: u8 = 2;
 
@@ -219,4 +220,9 @@ pub fn drive_of(hold: u8) -> u32 {
 /// Whether a hold byte is for exclusive use.
 pub fn is_exclusive(hold: u8) -> bool {
     hold.is_multiple_of(2)
+}
+
+/// The byte for exclusive use of the same drive.
+pub fn made_exclusive(hold: u8) -> u8 {
+    hold - hold % 2
 }

@@ -3,7 +3,10 @@
 use dispatcher::run_log;
 use dispatcher::sample::plan_a::{ENDS_A, PLAN_A};
 use dispatcher::sample::plans::full_plan;
-use dispatcher::sample::program::{at_root, empty_folder, program_in};
+use dispatcher::sample::program::{
+    at_root, contents, empty_folder, expect_printed, expect_said, folders_below, make_unreadable,
+    program_in,
+};
 use dispatcher::sample::{announced_seed, Rng};
 use dispatcher::text::plan_text;
 use std::fs::{self, File};
@@ -25,25 +28,13 @@ fn run_in(folder: &Path) -> Output {
     program_in("runlog", folder).output().unwrap()
 }
 
-/// The program printed this log, and had nothing else to say.
 fn expect_log(folder: &Path, log: &[u8]) {
-    let output = run_in(folder);
-    let (printed, said) = (output.stdout, output.stderr);
-    assert!(
-        printed == log,
-        "{}: printed\n{}instead of\n{}",
-        folder.display(),
-        String::from_utf8_lossy(&printed),
-        String::from_utf8_lossy(log)
-    );
-    assert_eq!(String::from_utf8_lossy(&said), "", "{}", folder.display());
-    assert!(output.status.success(), "{}", folder.display());
+    expect_printed(program_in("runlog", folder), log);
 }
 
 /// Runs the program on each folder of the folder, and answers how many there are.
 fn expect_logs_below(folder: &Path) -> usize {
-    let entries = fs::read_dir(folder).unwrap();
-    let cases: Vec<PathBuf> = entries.map(|entry| entry.unwrap().path()).collect();
+    let cases = folders_below(folder);
     for case in &cases {
         let log = fs::read(case.join("log.txt")).unwrap();
         expect_log(case, &log);
@@ -53,12 +44,24 @@ fn expect_logs_below(folder: &Path) -> usize {
 
 #[test]
 fn folders_of_cases_print_their_logs() {
-    assert_eq!(expect_logs_below(&at_root("rust/tests/cases")), 38);
+    assert_eq!(expect_logs_below(&at_root("rust/tests/cases")), 47);
+}
+
+/// So that a typed log is wrong on both sides or on none.
+#[test]
+fn the_second_dispatcher_prints_the_logs_of_cases_and_examples() {
+    for below in ["rust/tests/cases", "examples"] {
+        for case in folders_below(&at_root(below)) {
+            let [plan, ends, log] =
+                ["plan.txt", "ends.txt", "log.txt"].map(|name| contents(&case.join(name)));
+            assert!(run_log(&plan, &ends) == log, "{}", case.display());
+        }
+    }
 }
 
 #[test]
 fn examples_print_their_logs() {
-    assert_eq!(expect_logs_below(&at_root("examples")), 6);
+    assert_eq!(expect_logs_below(&at_root("examples")), 8);
 }
 
 #[test]
@@ -132,20 +135,6 @@ fn a_file_that_comes_in_pieces_is_read_whole() {
     });
     expect_log(&folder, &run_log(PLAN_A, ENDS_A));
     writer.join().unwrap();
-}
-
-/// One line on standard error that begins with the name.
-fn expect_said(said: &[u8], name: &str) {
-    let said = String::from_utf8_lossy(said);
-    assert!(said.starts_with(&format!("{name}: ")), "said {said:?}");
-    assert_eq!(said.matches('\n').count(), 1, "said {said:?}");
-    assert!(said.ends_with('\n'));
-}
-
-/// Puts a folder in the file's place: it is there, and cannot be read.
-fn make_unreadable(folder: &Path, name: &str) {
-    fs::remove_file(folder.join(name)).unwrap();
-    fs::create_dir(folder.join(name)).unwrap();
 }
 
 /// The program printed nothing, and one line names the file; the script ends with 2.

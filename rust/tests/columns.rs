@@ -3,12 +3,13 @@
 
 use dispatcher::sample::columns::{every_damaged_ends, every_damaged_plan};
 use dispatcher::sample::faults::damaged_text;
+use dispatcher::sample::mixtures::{every_mixture, READING, SECOND_CALL};
 use dispatcher::sample::plan_a::PLAN_A;
 use dispatcher::sample::plans::random_plan;
 use dispatcher::sample::tally::Tally;
 use dispatcher::text::plan_text;
-use dispatcher::values::refusal;
-use dispatcher::{read_plan, run_log, Answer};
+use dispatcher::values::{refusal, EDITION_1, EDITION_2};
+use dispatcher::{read_exclusive, read_plan, run_log, Answer};
 
 /// A plan of two tasks with this second one, its LF included where it has one.
 fn check_task_line(line: &str, code: u32, column: u32) {
@@ -168,12 +169,16 @@ const TASK_1: [&str; 7] = [
     "task", "number", "board", "start", "finish", "holds", "after",
 ];
 const TASK_2: [&str; 8] = [
+    "task", "number", "board", "ready", "start", "finish", "own", "after",
+];
+/// As the second call reads it, where a drive may still be shared.
+const TASK_2_SHARING: [&str; 8] = [
     "task", "number", "board", "ready", "start", "finish", "holds", "after",
 ];
 const END: [&str; 3] = ["end", "any", "any"];
 const DROP: [&str; 2] = ["drop", "any"];
 
-/// A line's fault as (code, column); where it has several, the least is the one.
+/// A line's fault as (code, column); where it has several, the first by code and then by column is the one.
 type Fault = (u32, usize);
 
 /// The first fault of a line of that form, from all it has.
@@ -196,7 +201,10 @@ fn first_fault(
     if fields.len() < form.len() || without_lf.is_none() {
         faults.push((3, bytes.len() + 1));
     }
-    faults.into_iter().min()
+    let rank = |code| READING.iter().position(|known| *known == code);
+    faults
+        .into_iter()
+        .min_by_key(|&(code, column)| (rank(code), column))
 }
 
 /// The number that these bytes spell, however large.
@@ -243,6 +251,7 @@ fn task_fault(line: &[u8], number: u128, sizes: &Sizes) -> Option<Fault> {
     first_fault(line, sizes.form, |name, field| match name {
         "task" => (field != b"task").then_some(3),
         "holds" => list_code(list_of(field, b"es"), 32),
+        "own" => list_code(list_of(field, b"es"), 32).or(field.contains(&b's').then_some(20)),
         "after" => list_code(list_of(field, b""), sizes.tasks),
         _ => number_code(name, number_of(field), start, number, sizes.boards),
     })
@@ -295,12 +304,13 @@ fn refused(line: usize, fault: Fault) -> Answer {
     refusal(fault.0, line as u32, fault.1 as u32)
 }
 
-/// The first 3, 4 or 18 of a text whose first line is well formed.
-fn plan_fault(text: &[u8]) -> Option<Answer> {
+/// The first 3, 4, 20 or 18 of a text whose first line is well formed, its lines in
+/// edition 2 of that form.
+fn plan_fault(text: &[u8], second: &'static [&'static str]) -> Option<Answer> {
     let lines: Vec<&[u8]> = text.split_inclusive(|&byte| byte == b'\n').collect();
     let first: Vec<&[u8]> = lines[0].trim_ascii_end().split(|&b| b == b'\t').collect();
     let sizes = Sizes {
-        form: if first[1] == b"1" { &TASK_1 } else { &TASK_2 },
+        form: if first[1] == b"1" { &TASK_1 } else { second },
         boards: number_of(first[2])?,
         tasks: number_of(first[3])?,
     };
@@ -313,7 +323,7 @@ fn plan_fault(text: &[u8]) -> Option<Answer> {
 
 /// The answer where it is of a line, else None.
 fn said_of_a_line(answer: Answer) -> Option<Answer> {
-    [3, 4, 18].contains(&answer.code).then_some(answer)
+    READING.contains(&answer.code).then_some(answer)
 }
 
 #[test]
@@ -322,10 +332,48 @@ fn every_damaged_task_line_is_refused_by_its_first_fault() {
     for text in every_damaged_plan() {
         let answer = read_plan(&text).answer;
         let shown = String::from_utf8_lossy(&text);
-        assert_eq!(said_of_a_line(answer), plan_fault(&text), "{shown:?}");
+        let wanted = plan_fault(&text, &TASK_2);
+        assert_eq!(said_of_a_line(answer), wanted, "{shown:?}");
         tally.count(answer);
     }
     tally.finish(25_000, &[3, 4]);
+}
+
+#[test]
+fn the_second_call_refuses_every_damaged_task_line_by_its_first_fault_but_20() {
+    let mut tally = Tally::new("columns of task lines with shared holds");
+    for text in every_damaged_plan() {
+        let answer = read_exclusive(&text).answer;
+        let shown = String::from_utf8_lossy(&text);
+        tally.count(answer);
+        if text.starts_with(b"plan\t1") {
+            assert_eq!(answer, refusal(2, 1, 0), "{shown:?}");
+            continue;
+        }
+        let wanted = plan_fault(&text, &TASK_2_SHARING);
+        assert_eq!(said_of_a_line(answer), wanted, "{shown:?}");
+    }
+    tally.finish(25_000, &[2, 3, 4]);
+}
+
+#[test]
+fn every_mixture_of_3_4_18_and_20_is_refused_by_its_first() {
+    let mut tally = Tally::new("mixtures");
+    for edition in [EDITION_1, EDITION_2] {
+        for mixture in every_mixture(edition) {
+            let answer = read_plan(&mixture.text).answer;
+            let shown = String::from_utf8_lossy(&mixture.text);
+            assert_eq!(answer, mixture.answer(&READING), "{shown:?}");
+            tally.count(answer);
+            let second = read_exclusive(&mixture.text).answer;
+            let wanted = match edition {
+                EDITION_1 => refusal(2, 1, 0),
+                _ => mixture.answer(&SECOND_CALL),
+            };
+            assert_eq!(second, wanted, "{shown:?}");
+        }
+    }
+    tally.finish(8_192, &[3, 4, 18, 20]);
 }
 
 #[test]
@@ -361,7 +409,8 @@ fn damaged_texts_are_refused_by_their_first_fault() {
             // Without a first line there is nothing to hold the others to.
             if ![1, 2].contains(&answer.code) {
                 let shown = String::from_utf8_lossy(&damaged);
-                assert_eq!(said_of_a_line(answer), plan_fault(&damaged), "{shown:?}");
+                let wanted = plan_fault(&damaged, &TASK_2);
+                assert_eq!(said_of_a_line(answer), wanted, "{shown:?}");
             }
         }
     }

@@ -1,13 +1,13 @@
 //! Opening, reporting, dropping, M and soundness: the proved implementation
 //! must answer every input as the second dispatcher does, to the last byte.
 
-use dispatcher::sample::damage::{mutated_book, mutated_plan, wrongly_dropped_book};
+use dispatcher::sample::damage::{mutated_book, mutated_plan, sharing_book, wrongly_dropped_book};
 use dispatcher::sample::events::{
     accepted_event, any_drop, any_event, first_drops, is_chain_over_boards, must_take,
     passed_tasks, random_book, starts_past_the_clock, Event,
 };
 use dispatcher::sample::every_book::{every_book, every_event, AWAITED, CHAIN};
-use dispatcher::sample::faults::late_plan;
+use dispatcher::sample::faults::{late_plan, sharing_plan};
 use dispatcher::sample::plan_a::{PLAN_A, REPORTS_A};
 use dispatcher::sample::plan_b::{PLAN_B, REPORTS_B};
 use dispatcher::sample::plans::{full_plan, in_either_edition, random_plan};
@@ -217,6 +217,11 @@ fn take_reports_on_changed_books(rng: &mut Rng, tally: &mut Tally) -> u64 {
             compare_figure(tally, &changed);
             reports += 1;
         }
+        let sharing = sharing_book(rng, &book);
+        let any = any_report(rng, &book);
+        compare_report(tally, &sharing, any);
+        compare_figure(tally, &sharing);
+        reports += 1;
     }
     tally.finish_kind("reports and figures of changed books");
     reports
@@ -229,6 +234,7 @@ fn open_changed_plans(rng: &mut Rng, tally: &mut Tally) {
             compare_opening(tally, &mutated_plan(rng, &plan));
             compare_opening(tally, &one_rule_broken(rng, &plan));
             compare_opening(tally, &late_plan(rng, &plan));
+            compare_opening(tally, &sharing_plan(rng, &plan));
             compare_opening(tally, &wild_plan(rng));
         }
     }
@@ -349,7 +355,8 @@ fn take_events_on_changed_books(rng: &mut Rng, dropping: &mut Dropping) {
         for _ in 0..4 {
             let changed = mutated_book(rng, &book);
             let wrong = wrongly_dropped_book(rng, &book);
-            for unsound in [changed, wrong] {
+            let sharing = sharing_book(rng, &book);
+            for unsound in [changed, wrong, sharing] {
                 let any = any_drop(rng, &book);
                 compare_drop(&mut dropping.drops, &unsound, any);
                 let any = any_event(rng, &book);
@@ -403,6 +410,7 @@ fn judge_books_of_mornings(rng: &mut Rng, tally: &mut Tally) {
             for _ in 0..3 {
                 compare_judging(tally, &wrongly_dropped_book(rng, &book));
             }
+            compare_judging(tally, &sharing_book(rng, &book));
             book = must_take(&book, event);
         }
         compare_judging(tally, &book);

@@ -3,18 +3,11 @@
 
 use dispatcher::proved;
 use dispatcher::sample::columns::{every_damaged_ends, every_damaged_plan};
+use dispatcher::sample::mixtures::every_mixture;
 use dispatcher::sample::plan_a::PLAN_A;
 use dispatcher::sample::tally::Tally;
-use dispatcher::values::refusal;
-use dispatcher::{read_plan, run_log};
-
-/// The code that a log's last line names; 0 where it is no refusal.
-fn last_code(log: &[u8]) -> u32 {
-    let log = std::str::from_utf8(log).unwrap();
-    let last = log.lines().last().unwrap();
-    let refused = last.strip_prefix("refused\t");
-    refused.map_or(0, |said| said.split('\t').next().unwrap().parse().unwrap())
-}
+use dispatcher::values::{EDITION_1, EDITION_2};
+use dispatcher::{read_exclusive, read_plan, run_log};
 
 #[test]
 fn damaged_task_lines_are_answered_alike() {
@@ -30,6 +23,35 @@ fn damaged_task_lines_are_answered_alike() {
 }
 
 #[test]
+fn damaged_task_lines_are_answered_alike_by_the_second_call() {
+    let mut tally = Tally::new("compare_columns");
+    for text in every_damaged_plan() {
+        let wanted = read_exclusive(&text);
+        let shown = String::from_utf8_lossy(&text);
+        assert_eq!(proved::read_exclusive(&text), wanted, "{shown:?}");
+        tally.count(wanted.answer);
+    }
+    tally.finish_kind("plans with one to three faults in a line");
+    tally.finish(25_000, &[2, 3, 4]);
+}
+
+#[test]
+fn every_mixture_of_3_4_18_and_20_is_answered_alike() {
+    let mut tally = Tally::new("compare_columns, mixtures");
+    for mixture in [EDITION_1, EDITION_2].into_iter().flat_map(every_mixture) {
+        let text = &mixture.text;
+        let shown = String::from_utf8_lossy(text);
+        let wanted = read_plan(text);
+        assert_eq!(proved::read_plan(text), wanted, "{shown:?}");
+        tally.count(wanted.answer);
+        let second = read_exclusive(text);
+        assert_eq!(proved::read_exclusive(text), second, "{shown:?}");
+    }
+    tally.finish_kind("plans with any of four faults in each of three lines");
+    tally.finish(8_192, &[3, 4, 18, 20]);
+}
+
+#[test]
 fn damaged_lines_of_ends_are_answered_alike() {
     let mut tally = Tally::new("compare_columns");
     let mut out = vec![0; proved::LONGEST_LOG];
@@ -38,7 +60,7 @@ fn damaged_lines_of_ends_are_answered_alike() {
         let length = proved::write_log(PLAN_A, &text, &mut out);
         let shown = String::from_utf8_lossy(&text);
         assert!(out[..length] == wanted[..], "{shown:?}");
-        tally.count(refusal(last_code(&wanted), 0, 0));
+        tally.count_printed(&wanted);
     }
     tally.finish_kind("ends with one to three faults in a line");
     tally.finish(1_500, &[3]);

@@ -4,7 +4,7 @@ use dispatcher::proved::{write_log, LONGEST_LOG};
 use dispatcher::sample::events::{
     accepted_event, any_event, event_line, first_drops, must_take, Event,
 };
-use dispatcher::sample::faults::{damaged_text, late_plan};
+use dispatcher::sample::faults::{damaged_text, late_plan, sharing_plan};
 use dispatcher::sample::lines::{damaged_lines, noise, with_odd_ends_line};
 use dispatcher::sample::one_fault::one_fault;
 use dispatcher::sample::plans::{full_plan, in_either_edition, random_plan};
@@ -57,7 +57,8 @@ fn has_line(log: &[u8], word: &str) -> bool {
 fn logs_are_the_same() {
     let mut rng = Rng::new(announced_seed("logs"));
     let mut out = vec![FILL; LONGEST_LOG];
-    let (mut refused, mut late, mut unready, mut skipped, mut longest) = (0, 0, 0, 0, 0);
+    let (mut refused, mut late, mut unready, mut shared) = (0, 0, 0, 0);
+    let (mut skipped, mut longest) = (0, 0);
     for round in 0..21_000u32 {
         let plan = if round % 100 == 0 {
             let full = full_plan(&mut rng, 64);
@@ -75,6 +76,7 @@ fn logs_are_the_same() {
             4 => ends = with_odd_ends_line(&mut rng, &ends),
             5 if round % 5 == 0 => text = plan_text(&late_plan(&mut rng, &plan)),
             5 if round % 5 == 1 => text = one_fault(&mut rng, &plan).text,
+            5 if round % 5 == 2 => text = plan_text(&sharing_plan(&mut rng, &plan)),
             _ => {}
         }
         let log = compare(&mut out, &text, &ends);
@@ -82,11 +84,13 @@ fn logs_are_the_same() {
         refused += u32::from(has_line(&log, "refused"));
         late += u32::from(has_line(&log, "refused\t17"));
         unready += u32::from(has_line(&log, "refused\t18"));
+        shared += u32::from(has_line(&log, "refused\t20"));
         skipped += u32::from(has_line(&log, "skip"));
     }
     println!("21000 pairs of texts, {refused} logs with a refusal, {skipped} with a skip");
     println!("the longest has {longest} bytes");
-    assert!(refused > 5_000 && refused < 20_000 && late >= 600 && unready >= 20);
+    assert!(refused > 5_000 && refused < 20_000);
+    assert!(late >= 600 && unready >= 20 && shared >= 200);
     assert!(skipped > 4_000 && skipped < 20_000);
 }
 

@@ -2,7 +2,8 @@
 //! every input as the second dispatcher does, to the last byte.
 
 use dispatcher::sample::damage::mutated_plan;
-use dispatcher::sample::faults::{damaged_text, faulty_pair_plan};
+use dispatcher::sample::faults::{damaged_text, faulty_pair_plan, sharing_plan};
+use dispatcher::sample::lent::{pattern, shown};
 use dispatcher::sample::lines::{damaged_lines, noise, stretched_text};
 use dispatcher::sample::one_fault::one_fault;
 use dispatcher::sample::plan_a::PLAN_A;
@@ -25,16 +26,6 @@ const FIELD_VALUES: &str = "|-|--|0|00|01|1|2|3|4|5|6|7|8|9|10|11|63|64|65|99|25
     18446744073709551617|340282366920938463463374607431768211457|plan|task|Task|end|e1|s1|e32|e33|\
     e0|s0|e1,e2|e2,e1|e1,s1|s31,s32|e1,|,e1|e|e01|E1|1,2|2,1|1,1|1,,2|1,5|5,6|e4294967297|\
     s4294967298| 1|1 ";
-
-/// Filling for lent buffers: no byte a text can hold, different from place to place.
-fn pattern(length: usize) -> Vec<u8> {
-    (0..length).map(|k| 0x80 | k as u8).collect()
-}
-
-fn shown(text: &[u8]) -> String {
-    let start = String::from_utf8_lossy(&text[..text.len().min(2000)]);
-    format!("{} bytes: {start:?}", text.len())
-}
 
 fn compare_reading(tally: &mut Tally, text: &[u8]) {
     let wanted = read_plan(text);
@@ -228,6 +219,9 @@ fn judge_and_write_changed_plans(rng: &mut Rng, tally: &mut Tally) {
             let faulty = faulty_pair_plan(rng, &plan);
             compare_value(rng, tally, &faulty);
         }
+        let sharing = sharing_plan(rng, &plan);
+        compare_value(rng, tally, &sharing);
+        compare_reading(tally, &plan_text(&sharing));
     }
     tally.finish_kind("plan values, right and changed, judged and written");
 }
@@ -276,5 +270,5 @@ fn texts_and_plans_are_answered_alike() {
     judge_and_write_changed_plans(&mut rng, &mut tally);
     judge_and_write_wild_plans(&mut rng, &mut tally);
     write_to_every_length(&mut rng, &mut tally);
-    tally.finish(200_000, &[1, 2, 3, 4, 5, 6, 7, 8, 9, 16, 17, 18]);
+    tally.finish(200_000, &[1, 2, 3, 4, 5, 6, 7, 8, 9, 16, 17, 18, 20]);
 }

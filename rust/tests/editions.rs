@@ -3,25 +3,16 @@
 
 use dispatcher::sample::events::{any_event, event_line, is_started, starts_past_the_clock, take};
 use dispatcher::sample::mornings::random_morning;
-use dispatcher::sample::plans::{random_plan, with_ready_ticks};
+use dispatcher::sample::plans::{exclusively_held, first_edition, random_plan, with_ready_ticks};
 use dispatcher::sample::reports::running_tasks;
 use dispatcher::sample::{announced_seed, Rng};
 use dispatcher::text::plan_text;
-use dispatcher::values::{refusal, DROPPED, EDITION_1, EDITION_2, WAITING};
+use dispatcher::values::{refusal, DROPPED, EDITION_2, WAITING};
 use dispatcher::{accepted, drop_task, minimum_early, open_book, read_plan, report, run_log};
 use dispatcher::{Book, Plan};
 
 fn rng_for(test: &str) -> Rng {
     Rng::new(announced_seed(test))
-}
-
-/// The plan in edition 1, with no ready tick left.
-fn first_edition(plan: &Plan) -> Plan {
-    Plan {
-        edition: EDITION_1,
-        ready: [0; 64],
-        ..*plan
-    }
 }
 
 /// A random plan with ready ticks.
@@ -50,7 +41,7 @@ fn in_edition_2(book: &Book) -> Book {
 fn edition_2_with_nobody_awaiting_a_class_runs_as_edition_1() {
     let mut rng = rng_for("edition_2_with_nobody_awaiting_a_class_runs_as_edition_1");
     for _ in 0..400 {
-        let plan = first_edition(&random_plan(&mut rng));
+        let plan = exclusively_held(&first_edition(&random_plan(&mut rng)));
         let second = Plan {
             edition: EDITION_2,
             ..plan

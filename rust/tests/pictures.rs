@@ -4,6 +4,15 @@ use dispatcher::sample::program::at_root;
 use std::fs;
 use std::process::{Command, Output};
 
+const DRAWN: [&str; 6] = [
+    "plan-a",
+    "full-morning",
+    "absent-students",
+    "awaited-class",
+    "old-plan",
+    "old-plan-refused",
+];
+
 fn draw(plan: &str, log: &str) -> Output {
     Command::new("python3")
         .arg(at_root("tools/picture"))
@@ -22,7 +31,7 @@ fn expect_refused(plan: &str, log: &str, why: &str) {
 
 #[test]
 fn the_committed_pictures_are_drawn_anew() {
-    for name in ["plan-a", "full-morning", "absent-students", "awaited-class"] {
+    for name in DRAWN {
         let folder = format!("examples/{name}");
         let output = draw(&format!("{folder}/plan.txt"), &format!("{folder}/log.txt"));
         let committed = fs::read(at_root(&format!("{folder}/picture.svg"))).unwrap();
@@ -34,10 +43,12 @@ fn the_committed_pictures_are_drawn_anew() {
 #[test]
 fn the_readme_shows_them() {
     let readme = fs::read_to_string(at_root("README.md")).unwrap();
-    assert!(readme.contains("(examples/plan-a/picture.svg)"));
-    assert!(readme.contains("(examples/full-morning/picture.svg)"));
-    assert!(readme.contains("(examples/absent-students/picture.svg)"));
-    assert!(readme.contains("(examples/awaited-class/picture.svg)"));
+    for name in DRAWN {
+        assert!(
+            readme.contains(&format!("(examples/{name}/picture.svg)")),
+            "{name}"
+        );
+    }
 }
 
 #[test]

@@ -87,7 +87,7 @@ fn each_edition_is_written_in_its_own_form() {
     let text = b"plan\t1\t2\t5
 task\t1\t1\t4\t6\t-\t-
 task\t2\t2\t0\t5\te1\t-
-task\t3\t2\t5\t8\ts2\t-
+task\t3\t2\t5\t8\te2\t-
 task\t4\t1\t9\t12\te2\t-
 task\t5\t2\t12\t14\te1\t2,4
 ";
@@ -109,32 +109,32 @@ fn each_edition_has_its_own_number_of_fields() {
 #[test]
 fn a_ready_tick_is_misspelt_or_out_of_range_in_its_own_field() {
     for misspelt in ["", "-", "03", "3,", "x", " 3", "+3"] {
-        let line = format!("task\t3\t2\t{misspelt}\t5\t8\ts2\t-");
+        let line = format!("task\t3\t2\t{misspelt}\t5\t8\te2\t-");
         check_text(&plan_b_with(4, &line), 3, 4, 10);
     }
     for over in ["1000001", "4294967296", "18446744073709551616"] {
-        let line = format!("task\t3\t2\t{over}\t5\t8\ts2\t-");
+        let line = format!("task\t3\t2\t{over}\t5\t8\te2\t-");
         check_text(&plan_b_with(4, &line), 4, 4, 10);
     }
     // The fields behind it are one further to the right.
     check_text(
-        &plan_b_with(4, "task\t3\t2\t3\t1000001\t8\ts2\t-"),
+        &plan_b_with(4, "task\t3\t2\t3\t1000001\t8\te2\t-"),
         4,
         4,
         12,
     );
-    check_text(&plan_b_with(4, "task\t3\t2\t3\t5\t5\ts2\t-"), 4, 4, 14);
-    check_text(&plan_b_with(4, "task\t3\t2\t3\t5\t8\ts0\t-"), 4, 4, 16);
-    check_text(&plan_b_with(4, "task\t3\t2\t3\t5\t8\ts2\t6"), 4, 4, 19);
+    check_text(&plan_b_with(4, "task\t3\t2\t3\t5\t5\te2\t-"), 4, 4, 14);
+    check_text(&plan_b_with(4, "task\t3\t2\t3\t5\t8\te0\t-"), 4, 4, 16);
+    check_text(&plan_b_with(4, "task\t3\t2\t3\t5\t8\te2\t6"), 4, 4, 19);
 }
 
 #[test]
 fn code_18_ready_after_the_planned_start() {
     for ready in ["6", "7", "8", "9", "1000000"] {
-        let line = format!("task\t3\t2\t{ready}\t5\t8\ts2\t-");
+        let line = format!("task\t3\t2\t{ready}\t5\t8\te2\t-");
         check_text(&plan_b_with(4, &line), 18, 4, 10);
     }
-    let just_in_time = plan_b_with(4, "task\t3\t2\t5\t5\t8\ts2\t-");
+    let just_in_time = plan_b_with(4, "task\t3\t2\t5\t5\t8\te2\t-");
     assert_eq!(read_plan(&just_in_time).answer, Answer::ACCEPTED);
     // The column is that of the ready field, wherever it stands.
     let ten = "plan\t2\t1\t10\n".to_string()
@@ -147,11 +147,11 @@ fn code_18_ready_after_the_planned_start() {
 
 #[test]
 fn code_18_comes_in_a_line_after_4_and_before_the_next_line() {
-    check_text(&plan_b_with(4, "task\t3\t2\t6\t5\t8\ts2\t-,"), 3, 4, 19);
-    check_text(&plan_b_with(4, "task\t3\t2\t6\t5\t8\ts2"), 3, 4, 18);
-    check_text(&plan_b_with(4, "task\t3\t2\t6\t5\t8\ts33\t-"), 4, 4, 16);
-    check_text(&plan_b_with(4, "task\t3\t2\t6\t5\t5\ts2\t-"), 4, 4, 14);
-    check_text(&plan_b_with(4, "task\t4\t2\t6\t5\t8\ts2\t-"), 4, 4, 6);
+    check_text(&plan_b_with(4, "task\t3\t2\t6\t5\t8\te2\t-,"), 3, 4, 19);
+    check_text(&plan_b_with(4, "task\t3\t2\t6\t5\t8\te2"), 3, 4, 18);
+    check_text(&plan_b_with(4, "task\t3\t2\t6\t5\t8\te33\t-"), 4, 4, 16);
+    check_text(&plan_b_with(4, "task\t3\t2\t6\t5\t5\te2\t-"), 4, 4, 14);
+    check_text(&plan_b_with(4, "task\t4\t2\t6\t5\t8\te2\t-"), 4, 4, 6);
     // The next line is malformed, bytes follow the last one, nobody begins at 0, two overlap.
     let text = b"plan\t2\t1\t2\ntask\t1\t1\t1\t0\t5\t-\t-\nx\n";
     check_text(text, 18, 2, 10);

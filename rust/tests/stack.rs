@@ -7,7 +7,8 @@
 
 use dispatcher::proved::{measure, Function, Measured, Register};
 use dispatcher::sample::events::{droppable_tasks, must_take, Event};
-use dispatcher::sample::plans::{full_plan, with_even_ready_ticks};
+use dispatcher::sample::old_texts::with_all_shared;
+use dispatcher::sample::plans::{exclusively_held, full_plan, with_even_ready_ticks};
 use dispatcher::sample::reports::last_moment_report;
 use dispatcher::sample::tally::say;
 use dispatcher::sample::Rng;
@@ -26,6 +27,17 @@ fn check(what: &str, measured: Measured, code: u32) {
     assert!(used <= MOST_STACK, "{what} takes {used} bytes of stack");
 }
 
+/// What the call took; registers that are not given hold 0.
+fn measured<const N: usize>(
+    function: Function,
+    in_memory: &[u8],
+    registers: [Register; N],
+) -> Measured {
+    let mut given = registers.into_iter();
+    let all = std::array::from_fn(|_| given.next().unwrap_or(Number(0)));
+    measure(function, in_memory, all)
+}
+
 /// A value as it lies in memory.
 fn bytes_of<T: Copy>(value: &T) -> &[u8] {
     let start = ptr::from_ref(value).cast();
@@ -33,56 +45,56 @@ fn bytes_of<T: Copy>(value: &T) -> &[u8] {
 }
 
 fn check_reading(what: &str, text: &[u8], code: u32) {
+    check_reading_by(Function::ReadPlan, what, text, code);
+}
+
+fn check_reading_by(function: Function, what: &str, text: &[u8], code: u32) {
     let mut text = text.to_vec();
     let length = Number(text.len());
     let registers = [Place, Lent(&mut text), length];
-    check(what, measure(Function::ReadPlan, &[], registers), code);
+    check(what, measured(function, &[], registers), code);
 }
 
 fn check_writing(what: &str, plan: &Plan, code: u32) {
     let mut out = vec![0; LONGEST_TEXT];
     // An answer of 16 bytes comes back in registers, its code first.
     assert_eq!(size_of::<Written>(), 16);
-    let registers = [Lent(&mut out), Number(LONGEST_TEXT), Number(0)];
-    let measured = measure(Function::WritePlan, bytes_of(plan), registers);
+    let registers = [Lent(&mut out), Number(LONGEST_TEXT)];
+    let measured = measured(Function::WritePlan, bytes_of(plan), registers);
     check(what, measured, code);
 }
 
 /// The answer is 1 or 0, in the register where others have their code.
 fn check_judging<T: Copy>(what: &str, function: Function, value: &T, yes: u32) {
-    check(
-        what,
-        measure(function, bytes_of(value), no_registers()),
-        yes,
-    );
+    check(what, measured(function, bytes_of(value), []), yes);
 }
 
 fn check_opening(what: &str, plan: &Plan, code: u32) {
-    let registers = [Place, Number(0), Number(0)];
-    let measured = measure(Function::OpenBook, bytes_of(plan), registers);
+    let measured = measured(Function::OpenBook, bytes_of(plan), [Place]);
     check(what, measured, code);
 }
 
 fn check_report(what: &str, book: &Book, (task, tick): (u32, u32), code: u32) {
     let registers = [Place, Number(task as usize), Number(tick as usize)];
-    let measured = measure(Function::Report, bytes_of(book), registers);
+    let measured = measured(Function::Report, bytes_of(book), registers);
     check(what, measured, code);
 }
 
 fn check_drop(what: &str, book: &Book, task: u32, code: u32) {
-    let registers = [Place, Number(task as usize), Number(0)];
-    let measured = measure(Function::Drop, bytes_of(book), registers);
+    let registers = [Place, Number(task as usize)];
+    let measured = measured(Function::Drop, bytes_of(book), registers);
     check(what, measured, code);
 }
 
 fn check_figure(what: &str, book: &Book, code: u32) {
     assert_eq!(size_of::<Figure>(), 16);
-    let measured = measure(Function::MinimumEarly, bytes_of(book), no_registers());
+    let measured = measured(Function::MinimumEarly, bytes_of(book), []);
     check(what, measured, code);
 }
 
-fn no_registers() -> [Register<'static>; 3] {
-    [Number(0), Number(0), Number(0)]
+fn check_convert(what: &str, plan: &Plan, code: u32) {
+    let measured = measured(Function::Convert, bytes_of(plan), [Place]);
+    check(what, measured, code);
 }
 
 /// A full plan of each edition.
@@ -120,6 +132,22 @@ fn no_call_on_a_plan_takes_more_than_32_kib() {
     check_opening("a refused opening", &Plan::ZERO, 9);
 }
 
+/// `convert_text` is a whole program's work, as `run_log` is, and takes 50,688 bytes.
+#[test]
+fn no_conversion_takes_more_than_32_kib() {
+    let [sharing, awaited] = full_plans();
+    check_convert("a refused conversion", &sharing, 7);
+    check_convert("a conversion of edition 2", &awaited, 9);
+    let exclusive = exclusively_held(&sharing);
+    check_convert("a conversion", &exclusive, 0);
+    let text = plan_text(&with_all_shared(&awaited));
+    let by = Function::ReadExclusive;
+    check_reading("reading a shared hold", &text, 20);
+    check_reading_by(by, "the second call", &text, 0);
+    check_reading_by(by, "a refused second call", &text[..text.len() - 1], 3);
+    check_reading_by(by, "the second call on edition 1", &plan_text(&sharing), 2);
+}
+
 #[test]
 fn no_call_on_a_book_takes_more_than_32_kib() {
     for plan in full_plans() {
@@ -143,7 +171,7 @@ fn no_call_on_a_book_takes_more_than_32_kib() {
 
 #[test]
 fn the_measure_itself_is_right() {
-    let used = |function, value: &[u8]| measure(function, value, no_registers()).used;
+    let used = |function, value: &[u8]| measured(function, value, []).used;
     assert_eq!(used(Function::Nothing, &[]), 16);
     assert_eq!(used(Function::Nothing, &[1; 160]), 176);
     let known = used(Function::KnownFrame, &[]);

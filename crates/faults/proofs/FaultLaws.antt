@@ -40,13 +40,17 @@ module _ (ended : Bool) (n : ℕ) (line : List ℕ) {count : ℕ} (e : count ≡
 
 -- ---- codes
 
--- a code is 0, 3, 4 or 18
+-- a code is 0, 3, 4, 20 or 18
 unfoldable pub isCode : ℕ → Bool
-isCode c = eqb 0 c || (eqb 3 c || (eqb 4 c || eqb 18 c))
+isCode c = eqb 0 c || (eqb 3 c || (eqb 4 c || (eqb 20 c || eqb 18 c)))
 
 pub eighteen-is-code : isCode 18 ≡ true
 unfolding isCode
 eighteen-is-code = refl
+
+pub twenty-is-code : isCode 20 ≡ true
+unfolding isCode
+twenty-is-code = refl
 
 pub for-code : (a b : Bool) → isCode (codeFor a b) ≡ true
 unfolding isCode
@@ -87,21 +91,37 @@ faultless-is (c ∷ l) h =
     by-eq c 4
     (λ f. rw f (other (anyOf (eqb 3) l)))
     (λ q.
-    let f : c ≡ 18 = eighteen c n m q (and-l (isCode c) (allOf isCode l) h) in
-    rw f (last (anyOf (eqb 3) l) (anyOf (eqb 4) l)))))
+    by-eq c 20
+    (λ t. rw t (third (anyOf (eqb 3) l) (anyOf (eqb 4) l)))
+    (λ w.
+    let f : c ≡ 18 = eighteen c n m q w (and-l (isCode c) (allOf isCode l) h) in
+    rw f (last (anyOf (eqb 3) l) (anyOf (eqb 4) l) (anyOf (eqb 20) l))))))
   where
-    eighteen : (c : ℕ) → (c ≡ 0 → ⊥) → (c ≡ 3 → ⊥) → (c ≡ 4 → ⊥) → isCode c ≡ true → c ≡ 18
-    eighteen c n m q h =
-        sym (eqb-true 18 c (rw (ne-eqb 0 c (λ e. n (sym e)), ne-eqb 3 c (λ e. m (sym e)), ne-eqb 4 c (λ e. q (sym e))) at h))
+    eighteen : (c : ℕ) → (c ≡ 0 → ⊥) → (c ≡ 3 → ⊥) → (c ≡ 4 → ⊥) → (c ≡ 20 → ⊥) → isCode c ≡ true → c ≡ 18
+    eighteen c n m q w h =
+        sym
+        (eqb-true 18 c
+        (rw (
+          ne-eqb 0 c (λ e. n (sym e)),
+          ne-eqb 3 c (λ e. m (sym e)),
+          ne-eqb 4 c (λ e. q (sym e)),
+          ne-eqb 20 c (λ e. w (sym e)),
+        ) at h))
 
     other : (b : Bool) → false ≡ eqb (cond {A = ℕ} b 3 4) 0
     other true = refl
     other false = refl
 
-    last : (a b : Bool) → false ≡ eqb (cond {A = ℕ} a 3 (cond b 4 18)) 0
-    last true b = refl
-    last false true = refl
-    last false false = refl
+    third : (a b : Bool) → false ≡ eqb (cond {A = ℕ} a 3 (cond b 4 20)) 0
+    third true b = refl
+    third false true = refl
+    third false false = refl
+
+    last : (a b c : Bool) → false ≡ eqb (cond {A = ℕ} a 3 (cond b 4 (cond c 20 18))) 0
+    last true b c = refl
+    last false true c = refl
+    last false false true = refl
+    last false false false = refl
 
 module _ (l : List ℕ) (i : ℕ) {x : Bool} where
   pub zero-stop : i < length l → (getD l i 0 ≡ 0 → ⊥) → allOf (eqb 0) (drop i l) ≡ x → false ≡ x
@@ -194,18 +214,28 @@ module _ (line codes : List ℕ) {three : ℕ} (p : three ≡ indexOf 3 codes) w
           e,
         )
 
-    module _ (few : length codes ≤ four) {last : ℕ} (l : last ≡ indexOf 18 codes) where
+    module _ (few : length codes ≤ four) {twenty : ℕ} (t : twenty ≡ indexOf 20 codes) where
       none-before : (anyOf (eqb 3) codes ≡ false) × (anyOf (eqb 4) codes ≡ false)
       none-before = (
         any-found 3 codes ∙ le-ltb (indexOf 3 codes) (length codes) (omega arith),
         any-found 4 codes ∙ le-ltb (indexOf 4 codes) (length codes) (omega arith),
       )
 
-      pub fault-eighteen : {column : ℕ} → last < length codes → column ≡ columnOf line codes 18 → record { code = 18; column = column } ≡ faultOf line codes
+      pub fault-twenty : {column : ℕ} → twenty < length codes → column ≡ columnOf line codes 20 → record { code = 20; column = column } ≡ faultOf line codes
       unfolding faultOf worst
-      fault-eighteen h e =
-          rw (none-before .0, none-before .1, any-found 18 codes, lt-ltb (indexOf 18 codes) (length codes) (omega arith), e)
+      fault-twenty h e =
+          rw (none-before .0, none-before .1, any-found 20 codes, lt-ltb (indexOf 20 codes) (length codes) (omega arith), e)
 
-      pub fault-none : length codes ≤ last → record { code = 0; column = 0 } ≡ faultOf line codes
-      unfolding faultOf worst
-      fault-none h = rw (none-before .0, none-before .1, any-found 18 codes, le-ltb (indexOf 18 codes) (length codes) (omega arith))
+      module _ (no-twenty : length codes ≤ twenty) {last : ℕ} (l : last ≡ indexOf 18 codes) where
+        none-twenty : anyOf (eqb 20) codes ≡ false
+        none-twenty = any-found 20 codes ∙ le-ltb (indexOf 20 codes) (length codes) (omega arith)
+
+        pub fault-eighteen : {column : ℕ} → last < length codes → column ≡ columnOf line codes 18 → record { code = 18; column = column } ≡ faultOf line codes
+        unfolding faultOf worst
+        fault-eighteen h e =
+            rw (none-before .0, none-before .1, none-twenty, any-found 18 codes, lt-ltb (indexOf 18 codes) (length codes) (omega arith), e)
+
+        pub fault-none : length codes ≤ last → record { code = 0; column = 0 } ≡ faultOf line codes
+        unfolding faultOf worst
+        fault-none h =
+            rw (none-before .0, none-before .1, none-twenty, any-found 18 codes, le-ltb (indexOf 18 codes) (length codes) (omega arith))

@@ -40,9 +40,11 @@ wordCode word s = cond (same s word) 0 3
 unfoldable pub endCode : Bool → ℕ → List ℕ → ℕ
 endCode ended n line = cond (ended && leb (length (fields line)) n) 0 3
 
--- 3, then 4, then 18
+-- 3, then 4, then 20, then 18
 unfoldable pub worst : List ℕ → ℕ
-worst codes = cond (anyOf (eqb 3) codes) 3 (cond (anyOf (eqb 4) codes) 4 (cond (anyOf (eqb 18) codes) 18 0))
+worst codes =
+    cond (anyOf (eqb 3) codes) 3
+    (cond (anyOf (eqb 4) codes) 4 (cond (anyOf (eqb 20) codes) 20 (cond (anyOf (eqb 18) codes) 18 0)))
 
 -- where the leftmost field of that code begins, from 1; just past the line's last byte where none stands there
 abbrev pub columnOf : List ℕ → List ℕ → ℕ → ℕ

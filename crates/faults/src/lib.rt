@@ -90,7 +90,7 @@ fn column_of<'a>(line: &'a [u8], codes: &'a [u8], code: u8) -> usize
     line.len() - rest.len() + 1
 }
 
-// 3, then 4, then 18.
+// 3, then 4, then 20, then 18.
 pub fn fault_of<'a>(line: &'a [u8], codes: &'a [u8]) -> Fault
     ensures { λ r. ⌜ r ≡ faultOf (now (line .entry)) (now (codes .entry)) ⌝ }
 {
@@ -104,6 +104,12 @@ pub fn fault_of<'a>(line: &'a [u8], codes: &'a [u8]) -> Fault
         return Fault {
             code: 4,
             column: column_of(line, codes, 4),
+        };
+    }
+    if find(codes, 20) < codes.len() {
+        return Fault {
+            code: 20,
+            column: column_of(line, codes, 20),
         };
     }
     if find(codes, 18) < codes.len() {

@@ -4,7 +4,8 @@ ghost use mathlib.Core.Bool.{cond};
 ghost use Prim.Native.Nat.{_≤_};
 ghost use lib.ListN.{length};
 ghost use lib.Seq.{sets};
-ghost use Rattle.plan.specs.Read.{readingOf};
+ghost use Rattle.plan.specs.Read.{readingOf, mendedOf};
+ghost use Rattle.plan.specs.Convert.{convertedOf};
 ghost use Rattle.plan.specs.Write.{writtenOf, bufferAfter};
 ghost use Rattle.plan.specs.Value.{isAccepted};
 ghost use Rattle.book.specs.Sound.{isSound};
@@ -12,6 +13,7 @@ ghost use Rattle.book.specs.Open.{openingOf};
 ghost use Rattle.book.specs.Report.{reportedOf};
 ghost use Rattle.book.specs.Drop.{droppedOf};
 ghost use Rattle.book.specs.Early.{figureOf};
+ghost use Rattle.editions.specs.Renewed.{textMost, renewedIn};
 ghost use Rattle.log.specs.Log.{logMost, logIn};
 use book::Book;
 use book::Dropped;
@@ -27,6 +29,27 @@ pub extern "C" fn dispatch_read_plan(text: &[u8]) -> Reading
     ensures { λ r. ⌜ r ≡ readingOf (now (text .entry)) ⌝ }
 {
     judge::read::read_plan(text)
+}
+
+#[no_mangle]
+pub extern "C" fn dispatch_read_exclusive(text: &[u8]) -> Reading
+    ensures { λ r. ⌜ r ≡ mendedOf (now (text .entry)) ⌝ }
+{
+    judge::read::read_exclusive(text)
+}
+
+#[no_mangle]
+pub extern "C" fn dispatch_convert(plan: Plan) -> Reading
+    ensures { λ r. ⌜ r ≡ convertedOf plan ⌝ }
+{
+    editions::convert(plan)
+}
+
+#[no_mangle]
+pub extern "C" fn dispatch_convert_text(text: &[u8], out: &mut [u8]) -> usize
+    ensures { λ r. ⌜ (r ≡ length (renewedIn (length (now (out .entry))) (now (text .entry)))) × (now (out .exit) ≡ sets (now (out .entry)) 0 (renewedIn (length (now (out .entry))) (now (text .entry)))) × (r ≤ textMost) ⌝ }
+{
+    editions::convert_text(text, out)
 }
 
 fn number(yes: bool) -> u32

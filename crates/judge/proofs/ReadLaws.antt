@@ -2,13 +2,14 @@
 use Prim.Native.Nat.{ℕ, _<_}
 use mathlib.Core.Path.{_≡_, refl, sym, ap, _∙_}
 use mathlib.Core.Logic.{_≢_}
+use mathlib.Core.Bool.{Bool}
 use mathlib.Core.List.{List}
 use native.Mathlib.Omega.{arith}
 use borrow.Author.Tests.{eq-eqb, ne-eqb}
 use Rattle.plan.specs.Task.{Task}
 use Rattle.plan.specs.Judged.{tasksAnswer}
 use Rattle.plan.specs.Value.{planOf, zeroPlan, taskAt}
-use Rattle.plan.specs.Read.{boardsOf, tasksOf, formAnswer, textTask, textAnswer, textPlan, linesOf, readingOf}
+use Rattle.plan.specs.Read.{boardsOf, tasksOf, formAnswer, textTask, textAnswer, textPlan, linesOf, readIn}
 use Rattle.plan.specs.declared.Answer.{Answer}
 use Rattle.plan.specs.declared.Reading.{Reading}
 use Rattle.plan.proofs.Judged.{tasks-granted}
@@ -16,29 +17,29 @@ use Rattle.plan.proofs.ReadOk.{FormOk, form-ok, ok-form, form-tasks, form-range
 use Rattle.judge.specs.private.Arrays.{RowsInRange}
 use Rattle.judge.proofs.ValueLaws.{task-in-range, judgedIn, judged-is}
 
-lines-answer : (s : List ℕ) → linesOf s .answer ≡ formAnswer s
+lines-answer : (mends : Bool) (s : List ℕ) → linesOf mends s .answer ≡ formAnswer mends s
 unfolding linesOf
-lines-answer s = refl
+lines-answer mends s = refl
 
-module _ (s : List ℕ) {lines : Reading} (l : lines ≡ linesOf s) where
-  says : lines .answer ≡ formAnswer s
-  says = ap (λ (x : Reading). x .answer) l ∙ lines-answer s
+module _ (mends : Bool) (s : List ℕ) {lines : Reading} (l : lines ≡ linesOf mends s) where
+  says : lines .answer ≡ formAnswer mends s
+  says = ap (λ (x : Reading). x .answer) l ∙ lines-answer mends s
 
-  answer-line : lines .answer .code ≢ 0 → textAnswer s ≡ formAnswer s
+  answer-line : lines .answer .code ≢ 0 → textAnswer mends s ≡ formAnswer mends s
   unfolding textAnswer
-  answer-line n = rw (ne-eqb (formAnswer s .code) 0 (rw says at n))
+  answer-line n = rw (ne-eqb (formAnswer mends s .code) 0 (rw says at n))
 
-  pub reading-line : lines .answer .code ≢ 0 → lines ≡ readingOf s
-  unfolding readingOf linesOf
+  pub reading-line : lines .answer .code ≢ 0 → lines ≡ readIn mends s
+  unfolding readIn linesOf
   reading-line n = l ∙ rw (answer-line n)
 
   module _ (clean : lines .answer .code ≡ 0) where
-    form : FormOk s
-    form = form-ok s (rw says at clean)
+    form : FormOk mends s
+    form = form-ok mends s (rw says at clean)
 
-    plan-is : lines .plan ≡ textPlan s
+    plan-is : lines .plan ≡ textPlan mends s
     unfolding linesOf
-    plan-is = rw (l, eq-eqb (formAnswer s .code) 0 (rw says at clean))
+    plan-is = rw (l, eq-eqb (formAnswer mends s .code) 0 (rw says at clean))
 
     tasks-are : lines .plan .tasks ≡ tasksOf s
     unfolding planOf
@@ -47,13 +48,13 @@ module _ (s : List ℕ) {lines : Reading} (l : lines ≡ linesOf s) where
     -- there is a task, and the drives of what was read are in range
     pub read-in-range : (0 < lines .plan .tasks) × RowsInRange (lines .plan .holds) (lines .plan .tasks)
     read-in-range = (
-      omega (arith, form-tasks s form .0, tasks-are),
+      omega (arith, form-tasks mends s form .0, tasks-are),
       record {
-        few = omega (arith, form-tasks s form .1, tasks-are);
+        few = omega (arith, form-tasks mends s form .1, tasks-are);
         range = λ k h.
             let low : k < tasksOf s = omega (arith, tasks-are) in
-            rw (plan-is, ap (λ (t : Task). t .holds) (form-task s form k low))
-            (task-in-range (boardsOf s) (tasksOf s) (textTask s k) (form-ranges s form k low));
+            rw (plan-is, ap (λ (t : Task). t .holds) (form-task mends s form k low))
+            (task-in-range (boardsOf s) (tasksOf s) (textTask mends s k) (form-ranges mends s form k low));
       },
     )
 
@@ -61,17 +62,17 @@ module _ (s : List ℕ) {lines : Reading} (l : lines ≡ linesOf s) where
       f : fault ≡ tasksAnswer (lines .plan .tasks) (taskAt (lines .plan))
       f = judged ∙ judged-is (lines .plan)
 
-      answer-tasks : textAnswer s ≡ fault
+      answer-tasks : textAnswer mends s ≡ fault
       unfolding textAnswer
       answer-tasks =
-          rw (eq-eqb (formAnswer s .code) 0 (rw says at clean)) (sym (f ∙ rw (tasks-are, plan-is) (form-judged s form)))
+          rw (eq-eqb (formAnswer mends s .code) 0 (rw says at clean)) (sym (f ∙ rw (tasks-are, plan-is) (form-judged mends s form)))
 
-      pub reading-fault : fault .code ≢ 0 → _≡_ {A = Reading} (record { answer = fault; plan = zeroPlan }) (readingOf s)
-      unfolding readingOf
+      pub reading-fault : fault .code ≢ 0 → _≡_ {A = Reading} (record { answer = fault; plan = zeroPlan }) (readIn mends s)
+      unfolding readIn
       reading-fault n = rw (answer-tasks, ne-eqb (fault .code) 0 n)
 
-      pub reading-in : fault .code ≡ 0 → lines ≡ readingOf s
-      unfolding readingOf linesOf
+      pub reading-in : fault .code ≡ 0 → lines ≡ readIn mends s
+      unfolding readIn linesOf
       reading-in z =
           let g = f ∙ tasks-granted (lines .plan .tasks) (taskAt (lines .plan)) (ap (λ (x : Answer). x .code) (sym f) ∙ z) in
-          l ∙ rw (ok-form s form, answer-tasks, g)
+          l ∙ rw (ok-form mends s form, answer-tasks, g)

@@ -1,15 +1,15 @@
 // Reading a plan text: its lines, then its tasks.
 ghost use mathlib.Core.Path.{_≡_};
-ghost use Rattle.plan.specs.Read.{readingOf};
+ghost use Rattle.plan.specs.Read.{readIn, readingOf, mendedOf};
 use crate::tasks::judge_tasks;
 use plan::Reading;
 use reader::lines::read_lines;
 use reader::lines::refused;
 
-pub fn read_plan(text: &[u8]) -> Reading
-    ensures { λ r. ⌜ r ≡ readingOf (now (text .entry)) ⌝ }
+fn read_in(text: &[u8], mends: bool) -> Reading
+    ensures { λ r. ⌜ r ≡ readIn mends (now (text .entry)) ⌝ }
 {
-    let lines = read_lines(text);
+    let lines = read_lines(text, mends);
     let said = lines.answer;
     if said.code != 0 {
         return lines;
@@ -27,4 +27,17 @@ pub fn read_plan(text: &[u8]) -> Reading
         return refused(fault);
     }
     lines
+}
+
+pub fn read_plan(text: &[u8]) -> Reading
+    ensures { λ r. ⌜ r ≡ readingOf (now (text .entry)) ⌝ }
+{
+    read_in(text, false)
+}
+
+// The second call: an edition 2 text in which `s` may still stand, read as if it were `e`.
+pub fn read_exclusive(text: &[u8]) -> Reading
+    ensures { λ r. ⌜ r ≡ mendedOf (now (text .entry)) ⌝ }
+{
+    read_in(text, true)
 }

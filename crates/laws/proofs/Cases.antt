@@ -53,6 +53,10 @@ pub or-no : (a b : Bool) → (a || b) ≡ false → (a ≡ false) × (b ≡ fals
 or-no true b h = true-false refl h
 or-no false b h = (refl, h)
 
+pub or-false : (a : Bool) → (a || false) ≡ a
+or-false true = refl
+or-false false = refl
+
 pub or-l : {a : Bool} (b : Bool) → a ≡ true → (a || b) ≡ true
 or-l b p = rw p
 

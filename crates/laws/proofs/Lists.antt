@@ -2,7 +2,7 @@
 use Prim.Native.Nat.{ℕ, zero, suc, _+_, _<_, _≤_}
 use mathlib.Core.List.{List, [], _∷_, _++_}
 use mathlib.Core.Bool.{Bool, true, false, _&&_, _||_}
-use mathlib.Core.Path.{_≡_, refl, ap}
+use mathlib.Core.Path.{_≡_, refl, sym, ap, _∙_}
 use lib.ListN.{length, getD, drop, drop-of-length-le}
 use lib.Seq.{drop-cons}
 use lib.Dec.{eqb}
@@ -10,7 +10,7 @@ use borrow.Author.Tests.{eqb-true, eq-eqb}
 use native.Mathlib.Omega.{arith}
 use native.Mathlib.Numerals.{add-one}
 use Rattle.laws.specs.Lists.{allOf, anyOf, firstNot, same}
-use Rattle.laws.proofs.Cases.{and-l, and-r, and-of, true-false}
+use Rattle.laws.proofs.Cases.{and-l, and-r, and-of, or-false, true-false}
 
 module _ {A : Type 0} (p : A → Bool) where
   module _ (l : List A) (i : ℕ) (d : A) where
@@ -51,6 +51,20 @@ module _ {A : Type 0} (p : A → Bool) where
   unfolding anyOf
   any-of-end l i h = rw (drop-of-length-le l h)
 
+  -- gathered to the list's end: what was seen so far, or some item of the rest
+  module _ (l : List A) (i : ℕ) (seen : Bool) {x : Bool} (q : (seen || anyOf p (drop i l)) ≡ x) where
+    pub gather-turn : (d : A) → i < length l → ((p (getD l i d) || seen) || anyOf p (drop (i + 1) l)) ≡ x
+    gather-turn d h =
+        swap (p (getD l i d)) seen (anyOf p (drop (i + 1) l)) ∙ ap (λ (b : Bool). seen || b) (sym (any-of-turn l i d h)) ∙ q
+      where
+        swap : (a b c : Bool) → ((a || b) || c) ≡ (b || (a || c))
+        swap true true c = refl
+        swap true false c = refl
+        swap false b c = refl
+
+    pub gather-end : length l ≤ i → seen ≡ x
+    gather-end h = sym (or-false seen) ∙ ap (λ (b : Bool). seen || b) (sym (any-of-end l i h)) ∙ q
+
   pub all-at : (l : List A) → allOf p l ≡ true → (i : ℕ) (d : A) → i < length l → p (getD l i d) ≡ true
   unfolding allOf
   all-at [] h i d k = absurd (omega arith)
@@ -68,6 +82,15 @@ module _ {A : Type 0} (p : A → Bool) where
   all-append (x ∷ k) l = rw (all-append k l) (assoc (p x) (allOf p k) (allOf p l))
     where
       assoc : (a b c : Bool) → (a && (b && c)) ≡ ((a && b) && c)
+      assoc true b c = refl
+      assoc false b c = refl
+
+  pub any-append : (k l : List A) → anyOf p (k ++ l) ≡ (anyOf p k || anyOf p l)
+  unfolding anyOf
+  any-append [] l = refl
+  any-append (x ∷ k) l = rw (any-append k l) (assoc (p x) (anyOf p k) (anyOf p l))
+    where
+      assoc : (a b c : Bool) → (a || (b || c)) ≡ ((a || b) || c)
       assoc true b c = refl
       assoc false b c = refl
 

@@ -9,6 +9,7 @@ use lib.Seq.{sets}
 use Rattle.laws.specs.Digits.{digitsOf}
 use Rattle.text.specs.Bytes.{bytes}
 use Rattle.text.specs.Line.{lineText}
+use Rattle.plan.specs.declared.Answer.{Answer}
 
 -- a word and numbers, with tabs and LF as in a plan text
 unfoldable pub numbersLine : List ℕ → List ℕ → List ℕ
@@ -21,6 +22,10 @@ taskLine word task board planned actual = numbersLine word (task ∷ board ∷ a
 -- the word of a start: a dropped task is skipped
 abbrev pub startWord : Bool → List ℕ
 startWord dropped = cond dropped (bytes "skip") (bytes "start")
+
+-- `refused` carries code and the table's two numbers
+abbrev pub refusedLine : Answer → List ℕ
+refusedLine answer = numbersLine (bytes "refused") (answer .code ∷ answer .first ∷ answer .second ∷ [])
 
 -- no line is longer
 abbrev pub lineMost : ℕ

@@ -5,7 +5,8 @@ ghost use Prim.Native.Nat.{_+_, _-_, _*_, _≤_};
 ghost use lib.Dec.{eqb};
 ghost use lib.ListN.{length};
 ghost use Rattle.text.specs.Bytes.{bytes};
-ghost use Rattle.lines.specs.Lines.{numbersLine, taskLine, startWord, Lined};
+ghost use Rattle.plan.specs.Answer.{refuse};
+ghost use Rattle.lines.specs.Lines.{numbersLine, taskLine, startWord, refusedLine, Lined};
 ghost use Rattle.lines.specs.private.Wrote.{Wrote};
 use text::part::LF;
 use text::part::TAB;
@@ -60,7 +61,7 @@ fn put_line(out: &mut [u8], at: usize, word: &[u8], numbers: &[u32]) -> usize
 }
 
 pub fn put_refused(out: &mut [u8], at: usize, code: u32, first: u32, second: u32) -> usize
-    ensures { λ r. ⌜ Lined (now (out .entry)) at (numbersLine (bytes "refused") (code ∷ first ∷ second ∷ [])) 41 (now (out .exit)) r ⌝ }
+    ensures { λ r. ⌜ Lined (now (out .entry)) at (refusedLine (refuse code first second)) 41 (now (out .exit)) r ⌝ }
 {
     put_line(out, at, b"refused", &[code, first, second])
 }

@@ -1,8 +1,8 @@
 -- The whole log, by the tests that lead to it.
-use Prim.Native.Nat.{ℕ, _+_, _≤_, _<_}
+use Prim.Native.Nat.{ℕ, _≤_, _<_}
 use mathlib.Core.Path.{_≡_, sym, ap, _∙_}
 use mathlib.Core.Logic.{_≢_}
-use mathlib.Core.Bool.{true}
+use mathlib.Core.Bool.{true, false}
 use mathlib.Core.List.{List, _++_}
 use native.Mathlib.Omega.{arith}
 use lib.ListN.{length, replicate}
@@ -24,10 +24,10 @@ use Rattle.view.proofs.Accepted.{plan-facts}
 use Rattle.view.proofs.Laid.{zeros-laid}
 use Rattle.book.specs.View.{layOut}
 use Rattle.book.proofs.Sizes.{SizedPlan, sized-opened}
-use Rattle.log.specs.Lines.{runLine, earlyLine, refusedLine}
+use Rattle.log.specs.Lines.{runLine, earlyLine}
 use Rattle.log.specs.Log.{shownAfter, openLog, endsLog, logOf, logMost, logIn}
 use Rattle.log.specs.declared.Shown.{Shown}
-use Rattle.lines.specs.Lines.{Lined}
+use Rattle.lines.specs.Lines.{Lined, refusedLine}
 use Rattle.lines.specs.private.Wrote.{Wrote}
 use Rattle.log.specs.private.Writes.{startsIn, openedIn}
 use Rattle.log.specs.private.Room.{EndsFit, endsMost}
@@ -93,10 +93,10 @@ module _ (plan ends out : List ℕ) where
             (wrote-line (omega arith) w)
 
         its-accepted : isAccepted (readingOf plan .plan) ≡ true
-        its-accepted = read-accepted plan (ap (λ (a : Answer). a .code) (sym (read-answer plan)) ∙ its-zero)
+        its-accepted = read-accepted false plan (ap (λ (a : Answer). a .code) (sym (read-answer false plan)) ∙ its-zero)
 
         its-sized : SizedPlan (readingOf plan .plan)
-        its-sized = read-sized plan (ap (λ (a : Answer). a .code) (sym (read-answer plan)) ∙ its-zero)
+        its-sized = read-sized false plan (ap (λ (a : Answer). a .code) (sym (read-answer false plan)) ∙ its-zero)
 
         pub opening-sound : {o : Opening} → o ≡ openingOf (r .plan) → o .answer .code ≡ 0 → isSound (o .book) ≡ true
         opening-sound q y =

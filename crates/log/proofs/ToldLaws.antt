@@ -24,10 +24,9 @@ use Rattle.book.specs.declared.Dropped.{Dropped}
 use Rattle.entries.specs.declared.Entry.{Entry}
 use Rattle.entries.specs.declared.Entry.the-variants.{End, Drop, Refused}
 use Rattle.entries.proofs.Entry.{the-type}
-use Rattle.log.specs.Lines.{refusedLine}
 use Rattle.log.specs.Log.{shownAfter, toldOf}
 use Rattle.log.specs.declared.Shown.{Shown}
-use Rattle.lines.specs.Lines.{Lined}
+use Rattle.lines.specs.Lines.{Lined, refusedLine}
 use Rattle.lines.specs.private.Wrote.{Wrote}
 use Rattle.log.specs.private.Writes.{Short, Named, linesIn, linesMost, earlyIn, toldIn, toldMost}
 use Rattle.lines.proofs.WriteLaws.{also, looser, nothing, wrote-length, wrote-line}

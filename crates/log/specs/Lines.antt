@@ -5,7 +5,6 @@ use mathlib.Core.List.{List, [], _∷_, _++_}
 use Rattle.text.specs.Bytes.{bytes}
 use Rattle.theory.specs.Book.{waiting, isDropped}
 use Rattle.plan.specs.Value.{at}
-use Rattle.plan.specs.declared.Answer.{Answer}
 use Rattle.book.specs.declared.Book.{Book}
 use Rattle.lines.specs.Lines.{numbersLine, taskLine, startWord}
 use Rattle.log.specs.declared.Shown.{Shown}
@@ -31,10 +30,6 @@ dropLine book task = numbersLine (bytes "drop") (task ∷ at (book .board) (task
 -- `early` carries clock and M
 abbrev pub earlyLine : Shown → List ℕ
 earlyLine shown = numbersLine (bytes "early") (shown .book .clock ∷ shown .early ∷ [])
-
--- `refused` carries code and the table's two numbers
-abbrev pub refusedLine : Answer → List ℕ
-refusedLine answer = numbersLine (bytes "refused") (answer .code ∷ answer .first ∷ answer .second ∷ [])
 
 -- task i waited in the old book and waits no longer in the new one
 abbrev pub hasStarted : Book → Book → ℕ → Bool

@@ -18,7 +18,8 @@ use Rattle.book.specs.declared.Book.{Book}
 use Rattle.entries.specs.Entries.{nextEntry, entryCode}
 use Rattle.entries.specs.declared.Entry.{Entry}
 use Rattle.entries.specs.declared.Entry.the-variants.{End, Drop, Refused}
-use Rattle.log.specs.Lines.{runLine, endLine, dropLine, earlyLine, refusedLine, startLines}
+use Rattle.lines.specs.Lines.{refusedLine}
+use Rattle.log.specs.Lines.{runLine, endLine, dropLine, earlyLine, startLines}
 use Rattle.log.specs.declared.Shown.{Shown}
 
 -- an answer, the book after it, and its M where it is accepted

@@ -5,3 +5,4 @@ pub mod PlanTasks
 pub mod TextLines
 pub mod LineCodes
 pub mod ReadOk
+pub mod Converted

@@ -1,7 +1,7 @@
 -- A task line whose codes are all 0, and what it then says.
 use Prim.Native.Nat.{ℕ, _+_, _≤_, _<_}
-use mathlib.Core.Path.{_≡_, refl}
-use mathlib.Core.Bool.{Bool, true, cond, _&&_}
+use mathlib.Core.Path.{_≡_, refl, ap}
+use mathlib.Core.Bool.{Bool, true, false, not, cond, _&&_}
 use mathlib.Core.List.{List, [], _∷_}
 use native.Mathlib.Omega.{arith}
 use lib.Dec.{ltb, eqb}
@@ -13,24 +13,26 @@ use Rattle.laws.specs.Split.{splitOn}
 use Rattle.text.specs.Bytes.{bytes}
 use Rattle.text.specs.Number.{isNumber, valueOf, most}
 use Rattle.text.specs.Line.{fields, field}
-use Rattle.text.specs.Items.{isList, holdsOk, afterOk}
+use Rattle.text.specs.Items.{isList, hasShared, holdsOk, afterOk}
+use Rattle.text.proofs.Shared.{none-shared}
 use Rattle.text.proofs.ListFields.{isHolds, holdsOf, isAfter, afterOf}
-use Rattle.faults.specs.Faults.{fieldCode, wordCode}
+use Rattle.faults.specs.Faults.{codeFor, fieldCode, wordCode}
 use Rattle.faults.proofs.RangedLaws.{InRange, field-zero, zero-field, ranged-value}
-use Rattle.faults.proofs.FaultLaws.{isCode, for-code, field-is-code, word-is-code, end-is-code, eighteen-is-code, for-zero, word-zero, zero-word, end-zero, zero-end, zero-at, no-codes, zeros}
+use Rattle.faults.proofs.FaultLaws.{isCode, for-code, field-is-code, word-is-code, end-is-code, eighteen-is-code, twenty-is-code, for-zero, word-zero, zero-word, end-zero, zero-end, zero-at, no-codes, zeros}
 use Rattle.plan.specs.Task.{taskOk, editionOk}
-use Rattle.plan.specs.Read.{startAt, codesFrom, readyCode, taskCodes, taskFrom, lineTask}
-use Rattle.plan.proofs.PlanTasks.{between-of}
+use Rattle.plan.specs.Read.{startAt, holdsCode, codesFrom, readyCode, taskCodes, taskFrom, lineTask}
+use Rattle.plan.proofs.PlanTasks.{between-of, exclusive-ok}
 
 -- ---- from the planned start on, which is field n
 
-pub record TimesOk (tasks : ℕ) (line : List ℕ) (n : ℕ) : Type 0 where
+pub record TimesOk (retired : Bool) (tasks : ℕ) (line : List ℕ) (n : ℕ) : Type 0 where
   pub begin : isNumber (field line n) ≡ true
   pub finish : isNumber (field line (n + 1)) ≡ true
   pub lasts : valueOf (field line n) < valueOf (field line (n + 1))
   pub to : valueOf (field line (n + 1)) ≤ most
   pub holds : isHolds (field line (n + 2)) ≡ true
   pub drives : holdsOk (holdsOf (field line (n + 2))) ≡ true
+  pub exclusive : retired ≡ true → hasShared (holdsOf (field line (n + 2))) ≡ false
   pub after : isAfter (field line (n + 3)) ≡ true
   pub order : afterOk tasks (afterOf (field line (n + 3))) ≡ true
   pub count : length (fields line) ≡ n + 4
@@ -46,14 +48,55 @@ listed line m h =
 start-value : (line : List ℕ) (n : ℕ) → fieldCode 0 most (field line n) ≡ 0 → startAt line n ≡ valueOf (field line n)
 start-value line n z = ranged-value 0 most (field line n) refl z
 
-module _ (ended : Bool) (tasks : ℕ) (line : List ℕ) (n : ℕ) where
-  times-ok : allOf (eqb 0) (codesFrom ended tasks line n) ≡ true → (ended ≡ true) × TimesOk tasks line n
+-- a holds field of code 0
+module _ (retired : Bool) (s : List ℕ) where
+  abbrev spelling : ℕ
+  spelling = codeFor (isHolds s) (holdsOk (holdsOf s))
+
+  pub record HoldsFine : Type 0 where
+    pub spelt : isHolds s ≡ true
+    pub fine : holdsOk (holdsOf s) ≡ true
+    pub exclusive : retired ≡ true → hasShared (holdsOf s) ≡ false
+
+  pub holds-zero : holdsCode retired s ≡ 0 → HoldsFine
+  unfolding holdsCode
+  holds-zero z =
+      by-eq spelling 0
+      (λ e.
+      let f = for-zero (isHolds s) (holdsOk (holdsOf s)) e in
+      record {
+        spelt = f .0;
+        fine = f .1;
+        exclusive =
+            λ r.
+            by-bool (hasShared (holdsOf s))
+            (λ h. let q : _≡_ {A = ℕ} 20 0 = rw (eq-eqb spelling 0 e, r, h) at z in absurd (omega arith))
+            (λ h. h);
+      })
+      (λ n. absurd (n (rw (ne-eqb spelling 0 n) at z)))
+
+  pub zero-holds : HoldsFine → holdsCode retired s ≡ 0
+  unfolding holdsCode
+  zero-holds f =
+      by-bool retired
+      (λ r. rw (f .spelt, f .fine, r, f .exclusive r))
+      (λ r. rw (f .spelt, f .fine, r))
+
+  pub holds-is-code : isCode (holdsCode retired s) ≡ true
+  unfolding holdsCode
+  holds-is-code =
+      by-bool (eqb spelling 0 && (retired && hasShared (holdsOf s)))
+      (λ e. rw e twenty-is-code)
+      (λ e. rw e (for-code (isHolds s) (holdsOk (holdsOf s))))
+
+module _ (retired ended : Bool) (tasks : ℕ) (line : List ℕ) (n : ℕ) where
+  times-ok : allOf (eqb 0) (codesFrom retired ended tasks line n) ≡ true → (ended ≡ true) × TimesOk retired tasks line n
   unfolding codesFrom
   times-ok all =
-      let at = zero-at (codesFrom ended tasks line n) all in
+      let at = zero-at (codesFrom retired ended tasks line n) all in
       let b = field-zero 0 most (field line n) (omega arith) (at 0 (omega arith)) in
       let f = field-zero (startAt line n + 1) most (field line (n + 1)) (omega arith) (at 1 (omega arith)) in
-      let h = for-zero (isHolds (field line (n + 2))) (holdsOk (holdsOf (field line (n + 2)))) (at 2 (omega arith)) in
+      let h = holds-zero retired (field line (n + 2)) (at 2 (omega arith)) in
       let a = for-zero (isAfter (field line (n + 3))) (afterOk tasks (afterOf (field line (n + 3)))) (at 3 (omega arith)) in
       let e = end-zero ended (n + 4) line (at 4 (omega arith)) in (
         e .0,
@@ -62,15 +105,16 @@ module _ (ended : Bool) (tasks : ℕ) (line : List ℕ) (n : ℕ) where
           finish = f .spelt;
           lasts = omega (arith, f .from, start-value line n (at 0 (omega arith)));
           to = f .to;
-          holds = h .0;
-          drives = h .1;
+          holds = h .spelt;
+          drives = h .fine;
+          exclusive = h .exclusive;
           after = a .0;
           order = a .1;
           count = omega (arith, e .1, listed line (n + 3) (a .0));
         },
       )
 
-  ok-times : ended ≡ true → TimesOk tasks line n → allOf (eqb 0) (codesFrom ended tasks line n) ≡ true
+  ok-times : ended ≡ true → TimesOk retired tasks line n → allOf (eqb 0) (codesFrom retired ended tasks line n) ≡ true
   unfolding codesFrom
   ok-times e t =
       let z = zero-field 0 most (field line n) (omega arith) (record { spelt = t .begin; from = omega arith; to = omega (arith, t .lasts, t .to) }) in
@@ -78,7 +122,7 @@ module _ (ended : Bool) (tasks : ℕ) (line : List ℕ) (n : ℕ) where
       (zeros _ _
       (zero-field (startAt line n + 1) most (field line (n + 1)) (omega arith)
       (record { spelt = t .finish; from = omega (arith, t .lasts, start-value line n z); to = t .to }))
-      (zeros _ _ (rw (t .holds, t .drives))
+      (zeros _ _ (zero-holds retired (field line (n + 2)) (record { spelt = t .holds; fine = t .drives; exclusive = t .exclusive }))
       (zeros _ _ (rw (t .after, t .order)) (zeros _ [] (zero-end ended (n + 4) line e (omega (arith, t .count))) no-codes))))
 
 -- ---- the whole line
@@ -97,9 +141,13 @@ ReadyOk line = (isNumber (field line 3) ≡ true) × (valueOf (field line 3) ≤
 abbrev pub startPlace : ℕ → ℕ
 startPlace edition = cond (eqb edition 2) 4 3
 
-pub record LineFine (edition boards tasks : ℕ) (line : List ℕ) (k : ℕ) : Type 0 where
+-- edition 2 no longer takes a shared hold
+abbrev pub retiredIn : Bool → ℕ → Bool
+retiredIn mends edition = cond (eqb edition 2) (not mends) false
+
+pub record LineFine (mends : Bool) (edition boards tasks : ℕ) (line : List ℕ) (k : ℕ) : Type 0 where
   pub head : HeadOk boards line k
-  pub times : TimesOk tasks line (startPlace edition)
+  pub times : TimesOk (retiredIn mends edition) tasks line (startPlace edition)
   pub ready : eqb edition 2 ≡ true → ReadyOk line
 
 module _ (line : List ℕ) where
@@ -124,9 +172,9 @@ module _ (line : List ℕ) where
       let e = zero-field 0 most (field line 3) (omega arith) (record { spelt = r .0; from = omega arith; to = omega (arith, r .1, few) }) in
       rw (e, le-ltb (startAt line 4) (valueOf (field line 3)) (omega (arith, r .1, start)))
 
-module _ (ended : Bool) (edition boards tasks : ℕ) (line : List ℕ) (k : ℕ) (few-boards : boards ≤ most) (few-tasks : k ≤ most) where
+module _ (mends ended : Bool) (edition boards tasks : ℕ) (line : List ℕ) (k : ℕ) (few-boards : boards ≤ most) (few-tasks : k ≤ most) where
   abbrev codes : List ℕ
-  codes = taskCodes ended edition boards tasks line k
+  codes = taskCodes mends ended edition boards tasks line k
 
   head-ok : allOf (eqb 0) codes ≡ true → HeadOk boards line k
   unfolding taskCodes
@@ -142,32 +190,32 @@ module _ (ended : Bool) (edition boards tasks : ℕ) (line : List ℕ) (k : ℕ)
 
   -- what follows the first three fields
   abbrev later : List ℕ
-  later = cond (eqb edition 2) (readyCode line ∷ codesFrom ended tasks line 4) (codesFrom ended tasks line 3)
+  later = cond (eqb edition 2) (readyCode line ∷ codesFrom (not mends) ended tasks line 4) (codesFrom false ended tasks line 3)
 
   all-later : allOf (eqb 0) codes ≡ true → allOf (eqb 0) later ≡ true
   unfolding taskCodes allOf
   all-later all = and-r (eqb 0 (fieldCode 1 boards (field line 2))) _ (and-r (eqb 0 (fieldCode k k (field line 1))) _ (and-r (eqb 0 (wordCode (bytes "task") (field line 0))) _ all))
 
-  pub line-fine : allOf (eqb 0) codes ≡ true → (ended ≡ true) × LineFine edition boards tasks line k
+  pub line-fine : allOf (eqb 0) codes ≡ true → (ended ≡ true) × LineFine mends edition boards tasks line k
   unfolding codesFrom allOf
   line-fine all =
       by-bool (eqb edition 2)
       (λ e.
-      let l : allOf (eqb 0) (readyCode line ∷ codesFrom ended tasks line 4) ≡ true = rw e at (all-later all) in
-      let r = and-r (eqb 0 (readyCode line)) (allOf (eqb 0) (codesFrom ended tasks line 4)) l in
-      let t = times-ok ended tasks line 4 r in (
+      let l : allOf (eqb 0) (readyCode line ∷ codesFrom (not mends) ended tasks line 4) ≡ true = rw e at (all-later all) in
+      let r = and-r (eqb 0 (readyCode line)) (allOf (eqb 0) (codesFrom (not mends) ended tasks line 4)) l in
+      let t = times-ok (not mends) ended tasks line 4 r in (
         t .0,
         record {
           head = head-ok all;
           times = rw e (t .1);
-          ready = λ q. ready-ok line (zero-at (readyCode line ∷ codesFrom ended tasks line 4) l 0 (omega arith)) (zero-at (codesFrom ended tasks line 4) r 0 (omega arith));
+          ready = λ q. ready-ok line (zero-at (readyCode line ∷ codesFrom (not mends) ended tasks line 4) l 0 (omega arith)) (zero-at (codesFrom (not mends) ended tasks line 4) r 0 (omega arith));
         },
       ))
       (λ e.
-      let t = times-ok ended tasks line 3 (rw e at (all-later all)) in
+      let t = times-ok false ended tasks line 3 (rw e at (all-later all)) in
       (t .0, record { head = head-ok all; times = rw e (t .1); ready = λ q. true-false q e }))
 
-  pub fine-line : ended ≡ true → LineFine edition boards tasks line k → allOf (eqb 0) codes ≡ true
+  pub fine-line : ended ≡ true → LineFine mends edition boards tasks line k → allOf (eqb 0) codes ≡ true
   unfolding taskCodes
   fine-line there f =
       let h = f .head in
@@ -176,25 +224,25 @@ module _ (ended : Bool) (edition boards tasks : ℕ) (line : List ℕ) (k : ℕ)
       (zero-field k k (field line 1) few-tasks (record { spelt = h .spelt; from = omega (arith, h .number); to = omega (arith, h .number) }))
       (zeros _ _ (zero-field 1 boards (field line 2) few-boards (h .board)) (rest (f .times) (f .ready))))
     where
-      begins : TimesOk tasks line 4 → fieldCode 0 most (field line 4) ≡ 0
+      begins : TimesOk (not mends) tasks line 4 → fieldCode 0 most (field line 4) ≡ 0
       begins t = zero-field 0 most (field line 4) (omega arith) (record { spelt = t .begin; from = omega arith; to = omega (arith, t .lasts, t .to) })
 
-      rest : TimesOk tasks line (startPlace edition) → (eqb edition 2 ≡ true → ReadyOk line) → allOf (eqb 0) later ≡ true
+      rest : TimesOk (retiredIn mends edition) tasks line (startPlace edition) → (eqb edition 2 ≡ true → ReadyOk line) → allOf (eqb 0) later ≡ true
       rest t r =
           by-bool (eqb edition 2)
           (λ e.
-          let t′ : TimesOk tasks line 4 = rw e at t in
-          rw e (zeros _ _ (ok-ready line (r e) (begins t′)) (ok-times ended tasks line 4 there t′)))
-          (λ e. rw e (ok-times ended tasks line 3 there (rw e at t)))
+          let t′ : TimesOk (not mends) tasks line 4 = rw e at t in
+          rw e (zeros _ _ (ok-ready line (r e) (begins t′)) (ok-times (not mends) ended tasks line 4 there t′)))
+          (λ e. rw e (ok-times false ended tasks line 3 there (rw e at t)))
 
-  -- each code is 0, 3, 4 or 18
+  -- each code is 0, 3, 4, 20 or 18
   pub task-kinds : allOf isCode codes ≡ true
   unfolding taskCodes codesFrom readyCode allOf
   task-kinds =
       and-of (word-is-code (bytes "task") (field line 0))
       (and-of (field-is-code k k (field line 1))
       (and-of (field-is-code 1 boards (field line 2))
-      (by-bool (eqb edition 2) (λ e. rw e (and-of ready-is-code (from-kinds 4))) (λ e. rw e (from-kinds 3)))))
+      (by-bool (eqb edition 2) (λ e. rw e (and-of ready-is-code (from-kinds (not mends) 4))) (λ e. rw e (from-kinds false 3)))))
     where
       ready-is-code : isCode (readyCode line) ≡ true
       ready-is-code =
@@ -202,17 +250,17 @@ module _ (ended : Bool) (edition boards tasks : ℕ) (line : List ℕ) (k : ℕ)
           (λ e. rw e eighteen-is-code)
           (λ e. rw e (field-is-code 0 most (field line 3)))
 
-      from-kinds : (n : ℕ) → allOf isCode (codesFrom ended tasks line n) ≡ true
-      from-kinds n =
+      from-kinds : (retired : Bool) (n : ℕ) → allOf isCode (codesFrom retired ended tasks line n) ≡ true
+      from-kinds retired n =
           and-of (field-is-code 0 most (field line n))
           (and-of (field-is-code (startAt line n + 1) most (field line (n + 1)))
-          (and-of (for-code (isHolds (field line (n + 2))) (holdsOk (holdsOf (field line (n + 2)))))
+          (and-of (holds-is-code retired (field line (n + 2)))
           (and-of (for-code (isAfter (field line (n + 3))) (afterOk tasks (afterOf (field line (n + 3))))) (and-of (end-is-code ended (n + 4) line) refl))))
 
 -- ---- the task that such a line says
 
-module _ (edition boards tasks : ℕ) (line : List ℕ) (k : ℕ) (f : LineFine edition boards tasks line k) where
-  from-ok : (ready n : ℕ) → TimesOk tasks line n → ready ≤ valueOf (field line n) → taskOk boards tasks (taskFrom line ready n) ≡ true
+module _ (mends : Bool) (edition boards tasks : ℕ) (line : List ℕ) (k : ℕ) (f : LineFine mends edition boards tasks line k) where
+  from-ok : {retired : Bool} (ready n : ℕ) → TimesOk retired tasks line n → ready ≤ valueOf (field line n) → taskOk boards tasks (taskFrom line ready n) ≡ true
   unfolding taskFrom
   from-ok ready n t r =
       and-of
@@ -221,13 +269,21 @@ module _ (edition boards tasks : ℕ) (line : List ℕ) (k : ℕ) (f : LineFine 
       (and-of (lt-ltb (valueOf (field line n)) (valueOf (field line (n + 1))) (t .lasts)) (le-leb (valueOf (field line (n + 1))) most (t .to)))))
       (and-of (t .drives) (t .order))
 
-  pub fine-task : taskOk boards tasks (lineTask edition line) ≡ true
+  pub fine-task : taskOk boards tasks (lineTask mends edition line) ≡ true
   unfolding lineTask
   fine-task =
       by-bool (eqb edition 2)
-      (λ e. rw e (from-ok (valueOf (field line 3)) 4 (rw e at (f .times)) (f .ready e .1)))
+      (λ e.
+      let t = from-ok (valueOf (field line 3)) 4 (rw e at (f .times)) (f .ready e .1) in
+      by-bool mends (λ m. rw (e, m) (exclusive-ok boards tasks (taskFrom line (valueOf (field line 3)) 4) t)) (λ m. rw (e, m) t))
       (λ e. rw e (from-ok 0 3 (rw e at (f .times)) (omega arith)))
 
-  pub fine-edition : editionOk edition (lineTask edition line) ≡ true
+  pub fine-edition : editionOk edition (lineTask mends edition line) ≡ true
   unfolding lineTask taskFrom
-  fine-edition = by-bool (eqb edition 2) (λ e. rw e) (λ e. rw e)
+  fine-edition =
+      by-bool (eqb edition 2)
+      (λ e.
+      by-bool mends
+      (λ m. rw (e, m) (ap not (none-shared (holdsOf (field line 6)))))
+      (λ m. let t : TimesOk (not mends) tasks line 4 = rw e at (f .times) in rw (e, m) (ap not (t .exclusive (rw m)))))
+      (λ e. rw e)

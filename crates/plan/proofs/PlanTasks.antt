@@ -18,7 +18,8 @@ use Rattle.laws.proofs.Blank.{length-zeros, rising-room, within-free}
 use Rattle.laws.specs.Lists.{allOf, rising}
 use Rattle.laws.proofs.Split.{free}
 use Rattle.text.specs.Items.{between, driveOf, holdsOk, afterOk}
-use Rattle.plan.specs.Task.{Task, numbersOk, taskOk, editionOk}
+use Rattle.plan.specs.Task.{Task, numbersOk, taskOk, editionOk, exclusiveTask}
+use Rattle.text.proofs.Shared.{exclusive-fine}
 use Rattle.plan.specs.Value.{row, taskAt, planOf, blankFrom, isTrimmed, keptOk, pastBlank, rangesOk}
 use Rattle.plan.specs.declared.Plan.{Plan}
 pub use Rattle.plan.specs.Sized.{SizedPlan}
@@ -266,3 +267,7 @@ planOf-own plan size ok =
       holds = s i;
       after = t i;
     }
+
+-- a task with each shared hold exclusive keeps the ranges too
+pub exclusive-ok : (boards tasks : ℕ) (task : Task) → taskOk boards tasks task ≡ true → taskOk boards tasks (exclusiveTask task) ≡ true
+exclusive-ok boards tasks task ok = rw (exclusive-fine (task .holds)) ok

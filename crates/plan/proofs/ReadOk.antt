@@ -19,7 +19,7 @@ use Rattle.plan.specs.Task.{taskOk, editionOk}
 use Rattle.plan.specs.Judged.{tasksAnswer}
 use Rattle.plan.specs.Value.{taskAt, planOf, rangesOk, isAccepted}
 use Rattle.plan.specs.Read.{sizesOk, editionOf, boardsOf, tasksOf, taskCodes}
-use Rattle.plan.specs.Read.{lineAnswer, linesAnswer, textTask, formAnswer, textAnswer, textPlan, readingOf}
+use Rattle.plan.specs.Read.{lineAnswer, linesAnswer, textTask, formAnswer, textAnswer, textPlan, readIn}
 use Rattle.plan.specs.declared.Answer.{Answer}
 use Rattle.plan.proofs.FirstFault.{refused-code, passed-code}
 use Rattle.plan.proofs.Judged.{tasks-granted, tasks-same, accepted-of}
@@ -30,165 +30,174 @@ use Rattle.plan.proofs.TextLines.{number-range, sizes-test}
 -- ---- what an accepted text keeps
 
 -- line k + 1 is there, is well formed, carries number k + 1, and its task keeps the ranges
-pub record LineOk (s : List ℕ) (k : ℕ) : Type 0 where
+pub record LineOk (mends : Bool) (s : List ℕ) (k : ℕ) : Type 0 where
   pub there : hasLine (skip (k + 1) s) ≡ true
-  pub fine : LineFine (editionOf s) (boardsOf s) (tasksOf s) (lineAt s (k + 1)) (k + 1)
+  pub fine : LineFine mends (editionOf s) (boardsOf s) (tasksOf s) (lineAt s (k + 1)) (k + 1)
 
-pub record FormOk (s : List ℕ) : Type 0 where
+pub record FormOk (mends : Bool) (s : List ℕ) : Type 0 where
   pub short : length s ≤ 32768
   pub first : hasLine s ≡ true
-  pub sizes : sizesOk (lineAt s 0) ≡ true
-  pub lines : (k : ℕ) → k < tasksOf s → LineOk s k
+  pub sizes : sizesOk mends (lineAt s 0) ≡ true
+  pub lines : (k : ℕ) → k < tasksOf s → LineOk mends s k
   pub ends : length (skip (tasksOf s + 1) s) ≡ 0
 
-pub record TextOk (s : List ℕ) : Type 0 where
-  pub form : FormOk s
-  pub judged : tasksAnswer (tasksOf s) (textTask s) ≡ granted
+pub record TextOk (mends : Bool) (s : List ℕ) : Type 0 where
+  pub form : FormOk mends s
+  pub judged : tasksAnswer (tasksOf s) (textTask mends s) ≡ granted
 
--- the edition is 1 or 2, B and T are small where the first line is as stated
-pub two-editions : (s : List ℕ) → sizesOk (lineAt s 0) ≡ true → (1 ≤ editionOf s) × (editionOf s ≤ 2)
-two-editions s h = let r = number-range 1 2 (field (lineAt s 0) 1) (sizes-test (lineAt s 0) h 2 (omega arith)) in (r .1, r .2)
+module _ (mends : Bool) (s : List ℕ) (sizes : sizesOk mends (lineAt s 0) ≡ true) where
+  -- the edition is 1 or 2, B and T are small where the first line is as stated
+  pub two-editions : (cond mends 2 1 ≤ editionOf s) × (editionOf s ≤ 2)
+  two-editions = let r = number-range (cond mends 2 1) 2 (field (lineAt s 0) 1) (sizes-test mends (lineAt s 0) sizes 2 (omega arith)) in (r .1, r .2)
 
-few-boards : (s : List ℕ) → sizesOk (lineAt s 0) ≡ true → (1 ≤ boardsOf s) × (boardsOf s ≤ 8)
-few-boards s h = let r = number-range 1 8 (field (lineAt s 0) 2) (sizes-test (lineAt s 0) h 3 (omega arith)) in (r .1, r .2)
+  few-boards : (1 ≤ boardsOf s) × (boardsOf s ≤ 8)
+  few-boards = let r = number-range 1 8 (field (lineAt s 0) 2) (sizes-test mends (lineAt s 0) sizes 3 (omega arith)) in (r .1, r .2)
 
-few-tasks : (s : List ℕ) → sizesOk (lineAt s 0) ≡ true → (1 ≤ tasksOf s) × (tasksOf s ≤ 64)
-few-tasks s h = let r = number-range 1 64 (field (lineAt s 0) 3) (sizes-test (lineAt s 0) h 4 (omega arith)) in (r .1, r .2)
+  few-tasks : (1 ≤ tasksOf s) × (tasksOf s ≤ 64)
+  few-tasks = let r = number-range 1 64 (field (lineAt s 0) 3) (sizes-test mends (lineAt s 0) sizes 4 (omega arith)) in (r .1, r .2)
 
-module _ (s : List ℕ) (sizes : sizesOk (lineAt s 0) ≡ true) (k : ℕ) (below : k < tasksOf s) where
-  abbrev there : Bool
-  there = hasLine (skip (k + 1) s)
+  module _ (k : ℕ) (below : k < tasksOf s) where
+    abbrev there : Bool
+    there = hasLine (skip (k + 1) s)
 
-  abbrev codes : List ℕ
-  codes = taskCodes there (editionOf s) (boardsOf s) (tasksOf s) (lineAt s (k + 1)) (k + 1)
+    abbrev codes : List ℕ
+    codes = taskCodes mends there (editionOf s) (boardsOf s) (tasksOf s) (lineAt s (k + 1)) (k + 1)
 
-  few : (boardsOf s ≤ 1000000) × (k + 1 ≤ 1000000)
-  few = let b = few-boards s sizes in let t = few-tasks s sizes in (omega arith, omega arith)
+    few : (boardsOf s ≤ 1000000) × (k + 1 ≤ 1000000)
+    few = (omega (arith, few-boards .1), omega (arith, few-tasks .1))
 
-  code-is : lineAnswer s (k + 1) .code ≡ worst codes
-  unfolding lineAnswer faultOf
-  code-is = refl
+    code-is : lineAnswer mends s (k + 1) .code ≡ worst codes
+    unfolding lineAnswer faultOf
+    code-is = refl
 
-  clean : allOf (eqb 0) codes ≡ eqb (worst codes) 0
-  clean = faultless-is codes (task-kinds there (editionOf s) (boardsOf s) (tasksOf s) (lineAt s (k + 1)) (k + 1) (few .0) (few .1))
+    clean : allOf (eqb 0) codes ≡ eqb (worst codes) 0
+    clean = faultless-is codes (task-kinds mends there (editionOf s) (boardsOf s) (tasksOf s) (lineAt s (k + 1)) (k + 1) (few .0) (few .1))
 
-  pub line-ok : lineAnswer s (k + 1) .code ≡ 0 → LineOk s k
-  line-ok z =
-      let f =
-      line-fine there (editionOf s) (boardsOf s) (tasksOf s) (lineAt s (k + 1)) (k + 1) (few .0) (few .1)
-      (clean ∙ eq-eqb (worst codes) 0 (sym code-is ∙ z)) in
-      record { there = f .0; fine = f .1 }
+    pub line-ok : lineAnswer mends s (k + 1) .code ≡ 0 → LineOk mends s k
+    line-ok z =
+        let f =
+        line-fine mends there (editionOf s) (boardsOf s) (tasksOf s) (lineAt s (k + 1)) (k + 1) (few .0) (few .1)
+        (clean ∙ eq-eqb (worst codes) 0 (sym code-is ∙ z)) in
+        record { there = f .0; fine = f .1 }
 
-  line-passed : LineOk s k → lineAnswer s (k + 1) .code ≡ 0
-  line-passed r =
-      code-is
-      ∙ eqb-true (worst codes) 0
-      (sym clean ∙ fine-line there (editionOf s) (boardsOf s) (tasksOf s) (lineAt s (k + 1)) (k + 1) (few .0) (few .1) (r .there) (r .fine))
+    line-passed : LineOk mends s k → lineAnswer mends s (k + 1) .code ≡ 0
+    line-passed r =
+        code-is
+        ∙ eqb-true (worst codes) 0
+        (sym clean ∙ fine-line mends there (editionOf s) (boardsOf s) (tasksOf s) (lineAt s (k + 1)) (k + 1) (few .0) (few .1) (r .there) (r .fine))
 
 answer-passed : (g : Bool) (x r : Answer) → (g ≡ true → x .code ≢ 0) → cond g x r .code ≡ 0 → (g ≡ false) × (r .code ≡ 0)
 answer-passed true x r n z = absurd (n refl z)
 answer-passed false x r n z = (refl, z)
 
-lines-ok :
-    (s : List ℕ) → sizesOk (lineAt s 0) ≡ true → isRefused (linesAnswer s) ≡ false → (k : ℕ) → k < tasksOf s → LineOk s k
-unfolding linesAnswer
-lines-ok s sizes p k h =
-    line-ok s sizes k h
-    (passed-code (lineAnswer s (k + 1))
-    (scan-clean isRefused granted (lineAnswer s) 1 (tasksOf s + 1) p (k + 1) (omega arith) (omega arith)))
+module _ (mends : Bool) (s : List ℕ) where
+  lines-ok :
+      sizesOk mends (lineAt s 0) ≡ true → isRefused (linesAnswer mends s) ≡ false → (k : ℕ) → k < tasksOf s → LineOk mends s k
+  unfolding linesAnswer
+  lines-ok sizes p k h =
+      line-ok mends s sizes k h
+      (passed-code (lineAnswer mends s (k + 1))
+      (scan-clean isRefused granted (lineAnswer mends s) 1 (tasksOf s + 1) p (k + 1) (omega arith) (omega arith)))
 
-pub form-ok : (s : List ℕ) → formAnswer s .code ≡ 0 → FormOk s
-unfolding formAnswer
-form-ok s z =
-    let more : Bool = ltb 0 (length (skip (tasksOf s + 1) s)) in
-    let r4 : Answer = cond more (refuse 5 (tasksOf s + 2) 0) granted in
-    let r3 : Answer = cond (isRefused (linesAnswer s)) (linesAnswer s) r4 in
-    let first : Bool = hasLine s && sizesOk (lineAt s 0) in
-    let r2 : Answer = cond (not first) (refuse 2 1 0) r3 in
-    let p1 = answer-passed (ltb 32768 (length s)) (refuse 1 0 0) r2 (λ t e. omega arith) z in
-    let p2 = answer-passed (not first) (refuse 2 1 0) r3 (λ t e. omega arith) (p1 .1) in
-    let p3 = answer-passed (isRefused (linesAnswer s)) (linesAnswer s) r4 (refused-code (linesAnswer s)) (p2 .1) in
-    let p4 = answer-passed more (refuse 5 (tasksOf s + 2) 0) granted (λ t e. omega arith) (p3 .1) in
-    let f = not-false first (p2 .0) in
-    let over = ltb-false 0 (length (skip (tasksOf s + 1) s)) (p4 .0) in
-    record {
-      short = ltb-false 32768 (length s) (p1 .0);
-      first = and-l (hasLine s) (sizesOk (lineAt s 0)) f;
-      sizes = and-r (hasLine s) (sizesOk (lineAt s 0)) f;
-      lines = lines-ok s (and-r (hasLine s) (sizesOk (lineAt s 0)) f) (p3 .0);
-      ends = omega arith;
-    }
+  pub form-ok : formAnswer mends s .code ≡ 0 → FormOk mends s
+  unfolding formAnswer
+  form-ok z =
+      let more : Bool = ltb 0 (length (skip (tasksOf s + 1) s)) in
+      let r4 : Answer = cond more (refuse 5 (tasksOf s + 2) 0) granted in
+      let r3 : Answer = cond (isRefused (linesAnswer mends s)) (linesAnswer mends s) r4 in
+      let first : Bool = hasLine s && sizesOk mends (lineAt s 0) in
+      let r2 : Answer = cond (not first) (refuse 2 1 0) r3 in
+      let p1 = answer-passed (ltb 32768 (length s)) (refuse 1 0 0) r2 (λ t e. omega arith) z in
+      let p2 = answer-passed (not first) (refuse 2 1 0) r3 (λ t e. omega arith) (p1 .1) in
+      let p3 = answer-passed (isRefused (linesAnswer mends s)) (linesAnswer mends s) r4 (refused-code (linesAnswer mends s)) (p2 .1) in
+      let p4 = answer-passed more (refuse 5 (tasksOf s + 2) 0) granted (λ t e. omega arith) (p3 .1) in
+      let f = not-false first (p2 .0) in
+      let over = ltb-false 0 (length (skip (tasksOf s + 1) s)) (p4 .0) in
+      record {
+        short = ltb-false 32768 (length s) (p1 .0);
+        first = and-l (hasLine s) (sizesOk mends (lineAt s 0)) f;
+        sizes = and-r (hasLine s) (sizesOk mends (lineAt s 0)) f;
+        lines = lines-ok (and-r (hasLine s) (sizesOk mends (lineAt s 0)) f) (p3 .0);
+        ends = omega arith;
+      }
 
-pub text-ok : (s : List ℕ) → textAnswer s .code ≡ 0 → TextOk s
-unfolding textAnswer
-text-ok s z =
-    let p = answer-passed (isRefused (formAnswer s)) (formAnswer s) (tasksAnswer (tasksOf s) (textTask s)) (refused-code (formAnswer s)) z in
-    record {
-      form = form-ok s (passed-code (formAnswer s) (p .0));
-      judged = tasks-granted (tasksOf s) (textTask s) (p .1);
-    }
+  -- and a text that keeps it is accepted
+  lines-passed : sizesOk mends (lineAt s 0) ≡ true → ((k : ℕ) → k < tasksOf s → LineOk mends s k) → linesAnswer mends s ≡ granted
+  unfolding linesAnswer
+  lines-passed sizes f =
+      scan-none isRefused granted (lineAnswer mends s) 1 (tasksOf s + 1)
+      (λ j h l.
+      let e : j - 1 + 1 ≡ j = omega arith in
+      let z : lineAnswer mends s j .code ≡ 0 = rw e at (line-passed mends s sizes (j - 1) (omega arith) (f (j - 1) (omega arith))) in
+      ap not (eq-eqb (lineAnswer mends s j .code) 0 z))
 
--- and a text that keeps it is accepted
-lines-passed : (s : List ℕ) → sizesOk (lineAt s 0) ≡ true → ((k : ℕ) → k < tasksOf s → LineOk s k) → linesAnswer s ≡ granted
-unfolding linesAnswer
-lines-passed s sizes f =
-    scan-none isRefused granted (lineAnswer s) 1 (tasksOf s + 1)
-    (λ j h l.
-    let e : j - 1 + 1 ≡ j = omega arith in
-    let z : lineAnswer s j .code ≡ 0 = rw e at (line-passed s sizes (j - 1) (omega arith) (f (j - 1) (omega arith))) in
-    ap not (eq-eqb (lineAnswer s j .code) 0 z))
+  pub ok-form : FormOk mends s → formAnswer mends s ≡ granted
+  unfolding formAnswer
+  ok-form r =
+      let over = le-ltb 0 (length (skip (tasksOf s + 1) s)) (omega (arith, r .ends)) in
+      rw (le-ltb 32768 (length s) (r .short), r .first, r .sizes, lines-passed (r .sizes) (r .lines), over)
 
-pub ok-form : (s : List ℕ) → FormOk s → formAnswer s ≡ granted
-unfolding formAnswer
-ok-form s r =
-    let over = le-ltb 0 (length (skip (tasksOf s + 1) s)) (omega (arith, r .ends)) in
-    rw (le-ltb 32768 (length s) (r .short), r .first, r .sizes, lines-passed s (r .sizes) (r .lines), over)
+  pub text-ok : textAnswer mends s .code ≡ 0 → TextOk mends s
+  unfolding textAnswer
+  text-ok z =
+      let p =
+      answer-passed (isRefused (formAnswer mends s)) (formAnswer mends s) (tasksAnswer (tasksOf s) (textTask mends s))
+      (refused-code (formAnswer mends s)) z in
+      record {
+        form = form-ok (passed-code (formAnswer mends s) (p .0));
+        judged = tasks-granted (tasksOf s) (textTask mends s) (p .1);
+      }
 
-pub ok-text : (s : List ℕ) → TextOk s → textAnswer s ≡ granted
-unfolding textAnswer
-ok-text s r = rw (ok-form s (r .form)) (r .judged)
+  pub ok-text : TextOk mends s → textAnswer mends s ≡ granted
+  unfolding textAnswer
+  ok-text r = rw (ok-form (r .form)) (r .judged)
 
--- ---- the plan that it reads as
+  -- ---- the plan that it reads as
 
-pub read-answer : (s : List ℕ) → readingOf s .answer ≡ textAnswer s
-unfolding readingOf
-read-answer s = refl
+  pub read-answer : readIn mends s .answer ≡ textAnswer mends s
+  unfolding readIn
+  read-answer = refl
 
-module _ (s : List ℕ) (f : FormOk s) where
+module _ (mends : Bool) (s : List ℕ) (f : FormOk mends s) where
   pub form-tasks : (1 ≤ tasksOf s) × (tasksOf s ≤ 64)
-  form-tasks = few-tasks s (f .sizes)
+  form-tasks = few-tasks mends s (f .sizes)
 
-  pub form-ranges : (k : ℕ) → k < tasksOf s → taskOk (boardsOf s) (tasksOf s) (textTask s k) ≡ true
-  form-ranges k h = fine-task (editionOf s) (boardsOf s) (tasksOf s) (lineAt s (k + 1)) (k + 1) (f .lines k h .fine)
+  pub form-ranges : (k : ℕ) → k < tasksOf s → taskOk (boardsOf s) (tasksOf s) (textTask mends s k) ≡ true
+  form-ranges k h = fine-task mends (editionOf s) (boardsOf s) (tasksOf s) (lineAt s (k + 1)) (k + 1) (f .lines k h .fine)
 
-  form-editions : (k : ℕ) → k < tasksOf s → editionOk (editionOf s) (textTask s k) ≡ true
-  form-editions k h = fine-edition (editionOf s) (boardsOf s) (tasksOf s) (lineAt s (k + 1)) (k + 1) (f .lines k h .fine)
+  form-editions : (k : ℕ) → k < tasksOf s → editionOk (editionOf s) (textTask mends s k) ≡ true
+  form-editions k h = fine-edition mends (editionOf s) (boardsOf s) (tasksOf s) (lineAt s (k + 1)) (k + 1) (f .lines k h .fine)
 
   -- the tasks of the plan are those of the lines
-  pub form-task : (k : ℕ) → k < tasksOf s → taskAt (textPlan s) k ≡ textTask s k
-  form-task = made-task (editionOf s) (boardsOf s) (tasksOf s) (textTask s) (form-tasks .1) form-ranges
+  pub form-task : (k : ℕ) → k < tasksOf s → taskAt (textPlan mends s) k ≡ textTask mends s k
+  form-task = made-task (editionOf s) (boardsOf s) (tasksOf s) (textTask mends s) (form-tasks .1) form-ranges
 
-  pub form-judged : tasksAnswer (tasksOf s) (taskAt (textPlan s)) ≡ tasksAnswer (tasksOf s) (textTask s)
-  form-judged = tasks-same (tasksOf s) (taskAt (textPlan s)) (textTask s) form-task
+  pub form-judged : tasksAnswer (tasksOf s) (taskAt (textPlan mends s)) ≡ tasksAnswer (tasksOf s) (textTask mends s)
+  form-judged = tasks-same (tasksOf s) (taskAt (textPlan mends s)) (textTask mends s) form-task
 
-  form-kept : rangesOk (textPlan s) ≡ true
+  pub form-kept : rangesOk (textPlan mends s) ≡ true
   form-kept =
-      made-ranges (editionOf s) (boardsOf s) (tasksOf s) (textTask s) (form-tasks .1) form-ranges form-editions
-      (two-editions s (f .sizes) .0) (two-editions s (f .sizes) .1)
-      (few-boards s (f .sizes) .0) (few-boards s (f .sizes) .1) (form-tasks .0)
+      let sizes = f .sizes in
+      made-ranges (editionOf s) (boardsOf s) (tasksOf s) (textTask mends s) (form-tasks .1) form-ranges form-editions
+      (low mends (two-editions mends s sizes .0)) (two-editions mends s sizes .1)
+      (few-boards mends s sizes .0) (few-boards mends s sizes .1) (form-tasks .0)
+    where
+      low : (b : Bool) {e : ℕ} → cond b 2 1 ≤ e → 1 ≤ e
+      low true h = omega arith
+      low false h = h
 
-module _ (s : List ℕ) (z : textAnswer s .code ≡ 0) where
-  pub read-plan : readingOf s .plan ≡ textPlan s
-  unfolding readingOf
-  read-plan = rw (eq-eqb (textAnswer s .code) 0 z)
+module _ (mends : Bool) (s : List ℕ) (z : textAnswer mends s .code ≡ 0) where
+  pub read-plan : readIn mends s .plan ≡ textPlan mends s
+  unfolding readIn
+  read-plan = rw (eq-eqb (textAnswer mends s .code) 0 z)
 
   -- its arrays have their lengths
-  pub read-sized : SizedPlan (readingOf s .plan)
-  read-sized = rw read-plan (planOf-sized (editionOf s) (boardsOf s) (tasksOf s) (textTask s))
+  pub read-sized : SizedPlan (readIn mends s .plan)
+  read-sized = rw read-plan (planOf-sized (editionOf s) (boardsOf s) (tasksOf s) (textTask mends s))
 
   -- a read plan is accepted
-  pub read-accepted : isAccepted (readingOf s .plan) ≡ true
+  pub read-accepted : isAccepted (readIn mends s .plan) ≡ true
   unfolding planOf
   read-accepted =
-      let f = text-ok s z .form in
-      rw read-plan (accepted-of (textPlan s) (form-kept s f) (ap (λ (x : Answer). x .code) (form-judged s f ∙ text-ok s z .judged)))
+      let f = text-ok mends s z .form in
+      rw read-plan (accepted-of (textPlan mends s) (form-kept mends s f) (ap (λ (x : Answer). x .code) (form-judged mends s f ∙ text-ok mends s z .judged)))

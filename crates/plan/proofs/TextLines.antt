@@ -1,7 +1,7 @@
 -- The lines of a text, and what a first line keeps.
 use Prim.Native.Nat.{ℕ, _+_, _<_, _≤_}
 use mathlib.Core.List.{List, [], _∷_}
-use mathlib.Core.Bool.{Bool, true}
+use mathlib.Core.Bool.{Bool, true, cond}
 use mathlib.Core.Path.{_≡_}
 use native.Mathlib.Numerals.{add-one}
 use lib.ListN.{length, getD}
@@ -23,18 +23,18 @@ use Rattle.plan.proofs.PlanTasks.{between-facts}
 pub skip-turn : (n : ℕ) (s : List ℕ) → skip (n + 1) s ≡ after LF (skip n s)
 skip-turn n s = rw add-one (skip-suc LF n s)
 
-abbrev sizesTests : List ℕ → List Bool
-sizesTests line =
+abbrev sizesTests : Bool → List ℕ → List Bool
+sizesTests mends line =
     eqb (length (fields line)) 4
     ∷ same (field line 0) (bytes "plan")
-    ∷ ranged 1 2 (field line 1)
+    ∷ ranged (cond mends 2 1) 2 (field line 1)
     ∷ ranged 1 8 (field line 2)
     ∷ ranged 1 64 (field line 3)
     ∷ []
 
-pub sizes-test : (line : List ℕ) → sizesOk line ≡ true → (i : ℕ) → i < 5 → getD (sizesTests line) i true ≡ true
+pub sizes-test : (mends : Bool) (line : List ℕ) → sizesOk mends line ≡ true → (i : ℕ) → i < 5 → getD (sizesTests mends line) i true ≡ true
 unfolding sizesOk
-sizes-test line h i l = conj-at (sizesTests line) h i l
+sizes-test mends line h i l = conj-at (sizesTests mends line) h i l
 
 pub number-range :
     (low high : ℕ) (s : List ℕ) → ranged low high s ≡ true

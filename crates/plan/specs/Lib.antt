@@ -6,3 +6,4 @@ pub mod Value
 pub mod Sized
 pub mod Read
 pub mod Write
+pub mod Convert

@@ -17,7 +17,6 @@ use Rattle.book.specs.Sound.{isSound}
 use Rattle.book.specs.Report.{reportedOf}
 use Rattle.book.specs.declared.Book.{Book}
 use Rattle.lines.specs.Lines.{Lined}
-use Rattle.log.specs.Log.{logIn}
 use Rattle.promises.specs.Runs.{SizedPlan, Sized, acceptedOf, Running, Ended, limitOf, runOf, AllInRange, Progress, Finishes, Reached}
 use Rattle.promises.proofs.InRange as in-range
 use Rattle.promises.proofs.Judged as judged
@@ -84,9 +83,8 @@ pub one-writing :
     → q ≡ writtenOf plan (length out) → other ≡ bufferAfter plan out → (r ≡ q) × (written ≡ other)
 one-writing plan out written other r q e b d c = (one-answer _ r q e d, one-answer _ written other b c)
 
--- `run_log`, with its bytes
-pub one-log :
-    (plan ends out written other : List ℕ) (r q : ℕ)
-    → r ≡ length (logIn (length out) plan ends) → written ≡ sets out 0 (logIn (length out) plan ends)
-    → q ≡ length (logIn (length out) plan ends) → other ≡ sets out 0 (logIn (length out) plan ends) → (r ≡ q) × (written ≡ other)
-one-log plan ends out written other r q e b d c = (one-answer _ r q e d, one-answer _ written other b c)
+-- `run_log` and `convert_text`, with their bytes: the text is `logIn`'s, or `renewedIn`'s
+pub one-text :
+    (text out written other : List ℕ) (r q : ℕ) → r ≡ length text → written ≡ sets out 0 text → q ≡ length text → other ≡ sets out 0 text
+    → (r ≡ q) × (written ≡ other)
+one-text text out written other r q e b d c = (one-answer _ r q e d, one-answer _ written other b c)

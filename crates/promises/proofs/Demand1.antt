@@ -3,7 +3,7 @@
 use Prim.Native.Nat.{ℕ, _+_, _≤_, _<_}
 use mathlib.Core.Path.{_≡_}
 use mathlib.Core.Logic.{_≢_, _↔_, _⊎_}
-use mathlib.Core.Bool.{true}
+use mathlib.Core.Bool.{true, false}
 use mathlib.Core.List.{List}
 use lib.ListN.{length}
 use Rattle.plan.specs.Pairs.{pairCode}
@@ -19,55 +19,61 @@ use Rattle.book.specs.Early.{figureOf}
 use Rattle.book.specs.declared.Book.{Book}
 use Rattle.entries.specs.Entries.{nextEntry}
 use Rattle.promises.specs.Runs.{SizedPlan, Sized}
-use Rattle.promises.specs.Says.{ReadyLate, FirstFaultyLine, EntrySays, FirstFaulty, BeginsLate, ReadingSays, OpeningSays, ReportSays, DropSays, FigureSays, WriteSays}
+use Rattle.promises.specs.Says.{SharedHold, ReadyLate, FirstFaultyLine, LineCode, EntrySays, FirstFaulty, BeginsLate, ReadingSays, OpeningSays, ReportSays, DropSays, FigureSays, WriteSays}
 use Rattle.promises.proofs.Judged as judged
-use Rattle.promises.proofs.codes.Columns as columns
+use Rattle.promises.proofs.codes.EntryLine as entry-line
 use Rattle.promises.proofs.codes.Reading as read-codes
 use Rattle.promises.proofs.codes.Book as book-codes
 use Rattle.promises.proofs.codes.Writing as write-codes
 
 pub reading-code :
     (text : List ℕ)
-    → (readingOf text .answer .code ≤ 8) ⊎ ((readingOf text .answer .code ≡ 17) ⊎ (readingOf text .answer .code ≡ 18))
-reading-code = read-codes.reading-code
+    → (readingOf text .answer .code ≤ 8)
+    ⊎ ((readingOf text .answer .code ≡ 17) ⊎ ((readingOf text .answer .code ≡ 18) ⊎ (readingOf text .answer .code ≡ 20)))
+reading-code = read-codes.reading-code false
 
-pub reading-says : (text : List ℕ) → ReadingSays text (readingOf text)
-reading-says = read-codes.reading-says
+pub reading-says : (text : List ℕ) → ReadingSays false text (readingOf text)
+reading-says = read-codes.reading-says false
 
--- refused with 3, 4 or 18 it names its first faulty line, and the column of that line's leftmost fault of the kind
+-- refused with 3, 4, 20 or 18 it names its first faulty line, and the column of that line's leftmost fault of the kind
 pub reading-column :
-    (text : List ℕ)
-    → (readingOf text .answer .code ≡ 3) ⊎ ((readingOf text .answer .code ≡ 4) ⊎ (readingOf text .answer .code ≡ 18))
+    (text : List ℕ) → LineCode (readingOf text .answer .code)
     → (k : ℕ) × (readingOf text .answer .first ≡ k + 1)
-    × FirstFaultyLine text (readingOf text .answer .code) k (readingOf text .answer .second)
-reading-column = read-codes.reading-column
+    × FirstFaultyLine false text (readingOf text .answer .code) k (readingOf text .answer .second)
+reading-column = read-codes.reading-column false
+
+-- with 20 a line of edition 2 that has a shared hold, and the column of its holds field
+pub reading-shared :
+    (text : List ℕ) → readingOf text .answer .code ≡ 20
+    → (k : ℕ) × (readingOf text .answer .first ≡ k + 1) × SharedHold false text k (readingOf text .answer .second)
+reading-shared = read-codes.reading-shared false
 
 -- with 18 a line of edition 2 whose ready tick is after its planned start, and the column of its ready field
 pub reading-unready :
     (text : List ℕ) → readingOf text .answer .code ≡ 18
     → (k : ℕ) × (readingOf text .answer .first ≡ k + 1) × ReadyLate text k (readingOf text .answer .second)
-reading-unready = read-codes.reading-unready
+reading-unready = read-codes.reading-unready false
 
 -- and a line of ends.txt with 3 or 4 names its column
 pub entry-says : (text : List ℕ) → EntrySays text (nextEntry text)
-entry-says = columns.entry-says
+entry-says = entry-line.entry-says
 
 -- refused with 6, 7 or 8 it names the first faulty pair, by a, then by b
 pub reading-pair :
     (text : List ℕ) → 6 ≤ readingOf text .answer .code → readingOf text .answer .code ≤ 8
-    → FirstFaulty text (readingOf text .answer .code) (readingOf text .answer .first) (readingOf text .answer .second)
-reading-pair = read-codes.reading-pair
+    → FirstFaulty (tasksOf text) (textTask false text) (readingOf text .answer .code) (readingOf text .answer .first) (readingOf text .answer .second)
+reading-pair = read-codes.reading-pair false
 
 -- refused with 17 exactly when its lines are faultless, nothing follows them and no task is planned at 0
 pub reading-late :
     (text : List ℕ)
     → (readingOf text .answer .code ≡ 17)
-    ↔ ((formAnswer text ≡ granted) × ((k : ℕ) → k < tasksOf text → textTask text k .begin ≢ 0))
-reading-late = read-codes.reading-late
+    ↔ ((formAnswer false text ≡ granted) × ((k : ℕ) → k < tasksOf text → textTask false text k .begin ≢ 0))
+reading-late = read-codes.reading-late false
 
 -- and it names the least planned start
-pub reading-start : (text : List ℕ) → readingOf text .answer .code ≡ 17 → BeginsLate text (readingOf text .answer .first)
-reading-start = read-codes.reading-start
+pub reading-start : (text : List ℕ) → readingOf text .answer .code ≡ 17 → BeginsLate false text (readingOf text .answer .first)
+reading-start = read-codes.reading-start false
 
 -- a plan is accepted exactly when its ranges are kept, some task is planned at 0 and no pair is faulty
 pub plan-accepted :
@@ -119,7 +125,7 @@ write-says = write-codes.write-says
 
 -- what is handed out has the arrays' lengths
 pub reading-sized : (text : List ℕ) → SizedPlan (readingOf text .plan)
-reading-sized = read-codes.reading-sized
+reading-sized = read-codes.reading-sized false
 
 pub opening-sized : (plan : Plan) → SizedPlan plan → Sized (openingOf plan .book)
 opening-sized = book-codes.opening-sized

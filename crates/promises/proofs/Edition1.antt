@@ -5,12 +5,14 @@ use mathlib.Core.Path.{_≡_}
 use mathlib.Core.Logic.{_≢_}
 use mathlib.Core.Bool.{true, false}
 use mathlib.Core.List.{List}
+use native.Mathlib.Omega.{arith}
 use Rattle.laws.specs.Lists.{same}
 use Rattle.text.specs.Bytes.{bytes}
 use Rattle.text.specs.Line.{lineAt, field}
 use Rattle.theory.specs.Events.{Event}
 use Rattle.plan.specs.Value.{at, isAccepted}
 use Rattle.plan.specs.Read.{editionOf, readingOf}
+use Rattle.plan.specs.Write.{textOf}
 use Rattle.plan.specs.declared.Plan.{Plan}
 use Rattle.book.specs.View.{planIn}
 use Rattle.book.specs.Sound.{isSound}
@@ -21,9 +23,10 @@ use Rattle.book.specs.Early.{figureOf}
 use Rattle.book.specs.declared.Book.{Book}
 use Rattle.promises.specs.Runs.{SizedPlan, runOf, Running, startOf}
 use Rattle.promises.specs.Says.{codesOf}
-use Rattle.promises.specs.Edition1.{NoReady, plainOpening, plainIsSound, plainReport, plainDrop, plainFigure, plainBookAfter, withReady, sevenReading}
+use Rattle.promises.specs.Edition1.{NoReady, plainOpening, plainIsSound, plainReport, plainDrop, plainFigure, plainBookAfter, withReady, sevenReading, sevenAccepted, sevenText}
 use Rattle.promises.proofs.Unmoved as unmoved
 use Rattle.promises.proofs.codes.Seven as seven
+use Rattle.promises.proofs.codes.SevenValue as value
 use Rattle.promises.proofs.codes.Reading as read-codes
 
 -- an accepted plan of edition 1 has ready ticks 0; so has a sound book, and the plan that a text of edition 1 reads as
@@ -37,6 +40,13 @@ pub read-unready :
     (text : List ℕ) → readingOf text .answer .code ≡ 0 → editionOf text ≡ 1
     → (readingOf text .plan .edition ≡ 1) × NoReady (readingOf text .plan)
 read-unready text z one = (unmoved.read-edition text z one, unmoved.read-unready text z one)
+
+-- a plan of edition 1 is accepted, and written, as before, whatever its holds
+pub accepted-unmoved : (plan : Plan) → plan .edition ≡ 1 → isAccepted plan ≡ sevenAccepted plan
+accepted-unmoved = value.accepted-seven
+
+pub text-unmoved : (plan : Plan) → plan .edition ≡ 1 → textOf plan ≡ sevenText plan
+text-unmoved = value.text-seven
 
 -- the opened book, or 9
 pub opening-unmoved : (plan : Plan) → NoReady plan → openingOf plan ≡ plainOpening plan
@@ -82,9 +92,15 @@ pub reading-unmoved :
     (text : List ℕ) → same (field (lineAt text 0) 1) (bytes "2") ≡ false → readingOf text ≡ sevenReading text
 reading-unmoved = seven.reading-seven
 
--- no field of a line of edition 1 is refused by 18, and no text of it
-pub no-field-18 : (text : List ℕ) → editionOf text ≡ 1 → (k n : ℕ) → at (codesOf text k) n ≢ 18
-no-field-18 = read-codes.no-field-18
+-- no field of a line of edition 1 is refused by 18 or 20, and no text of it
+pub no-field-18 : (text : List ℕ) → editionOf text ≡ 1 → (k n : ℕ) → at (codesOf false text k) n ≢ 18
+no-field-18 text one k n = read-codes.no-field-over text one k n 18 (omega arith)
+
+pub no-field-20 : (text : List ℕ) → editionOf text ≡ 1 → (k n : ℕ) → at (codesOf false text k) n ≢ 20
+no-field-20 text one k n = read-codes.no-field-over text one k n 20 (omega arith)
 
 pub no-text-18 : (text : List ℕ) → editionOf text ≡ 1 → readingOf text .answer .code ≢ 18
 no-text-18 = read-codes.no-text-18
+
+pub no-text-20 : (text : List ℕ) → editionOf text ≡ 1 → readingOf text .answer .code ≢ 20
+no-text-20 = read-codes.no-text-20

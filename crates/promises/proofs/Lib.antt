@@ -12,4 +12,5 @@ pub mod Demand1
 pub mod Demand2
 pub mod Demand3
 pub mod Edition1
+pub mod Conversion
 pub mod Claims

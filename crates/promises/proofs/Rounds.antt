@@ -1,7 +1,7 @@
 -- Both round trips, over the public definitions.
 use Prim.Native.Nat.{ℕ, _≤_}
 use mathlib.Core.Path.{_≡_, sym, ap, _∙_}
-use mathlib.Core.Bool.{true}
+use mathlib.Core.Bool.{true, false}
 use mathlib.Core.List.{List}
 use lib.ListN.{length, take, drop}
 use Rattle.plan.specs.Answer.{granted}
@@ -16,11 +16,11 @@ use Rattle.rounds.proofs.RoundWrite.{write-text, write-rest, write-back}
 use Rattle.book.specs.Sized.{SizedPlan}
 
 module _ (text : List ℕ) (z : readingOf text .answer .code ≡ 0) where
-  code-zero : textAnswer text .code ≡ 0
-  code-zero = sym (ap (λ (x : Answer). x .code) (read-answer text)) ∙ z
+  code-zero : textAnswer false text .code ≡ 0
+  code-zero = sym (ap (λ (x : Answer). x .code) (read-answer false text)) ∙ z
 
   pub reading-accepted : isAccepted (readingOf text .plan) ≡ true
-  reading-accepted = read-accepted text code-zero
+  reading-accepted = read-accepted false text code-zero
 
   pub text-back : textOf (readingOf text .plan) ≡ text
   text-back = read-back text code-zero

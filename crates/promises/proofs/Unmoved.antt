@@ -1,13 +1,12 @@
 -- Where every ready tick is 0 the calls answer and hand back what the rule without ready ticks does.
 use Prim.Native.Nat.{ℕ, _-_, _≤_, _<_}
 use native.Mathlib.Omega.{arith}
-use mathlib.Core.Bool.{Bool, true, not, cond, _&&_}
+use mathlib.Core.Bool.{Bool, true, false, not, cond, _&&_}
 use mathlib.Core.List.{List, [], _∷_}
 use mathlib.Core.Path.{_≡_, refl, sym, ap, subst, _∙_}
-use mathlib.Core.Logic.{⊎-elim}
 use lib.Dec.{eqb}
 use borrow.Author.Tests.{eqb-true, ne-eqb}
-use Rattle.laws.proofs.Cases.{by-bool, or-at, true-false}
+use Rattle.laws.proofs.Cases.{by-bool}
 use Rattle.theory.specs.Report.{nonePast, reportCode, dropCode}
 use Rattle.theory.specs.Events.{Event}
 use Rattle.theory.specs.Figure.{minimumEarly}
@@ -47,8 +46,7 @@ pub edition-unready : (plan : Plan) → isAccepted plan ≡ true → plan .editi
 edition-unready plan ok one i l =
     let r = ranges-kept plan (accepted-ranges plan ok) in
     let k = task-kept plan i (r .kept i l) .edition in
-    ⊎-elim (λ e. true-false e (ne-eqb (plan .edition) 2 (omega arith))) (λ e. eqb-true (at (plan .ready) i) 0 e)
-    (or-at (eqb (plan .edition) 2) _ k)
+    eqb-true (at (plan .ready) i) 0 (rw (ne-eqb (plan .edition) 2 (λ two. omega arith)) at k)
 
 pub book-unready : (book : Book) → isSound book ≡ true → book .edition ≡ 1 → NoReady (planIn book)
 book-unready book h one = edition-unready (planIn book) (is-sound-facts book .0 h .accepted) one
@@ -58,11 +56,11 @@ module _ (text : List ℕ) (z : readingOf text .answer .code ≡ 0) (one : editi
   pub read-edition : readingOf text .plan .edition ≡ 1
   unfolding planOf
   read-edition =
-      ap (λ (p : Plan). p .edition) (read-plan text (sym (ap (λ (x : Answer). x .code) (read-answer text)) ∙ z)) ∙ one
+      ap (λ (p : Plan). p .edition) (read-plan false text (sym (ap (λ (x : Answer). x .code) (read-answer false text)) ∙ z)) ∙ one
 
   pub read-unready : NoReady (readingOf text .plan)
   read-unready =
-      edition-unready (readingOf text .plan) (read-accepted text (sym (ap (λ (x : Answer). x .code) (read-answer text)) ∙ z)) read-edition
+      edition-unready (readingOf text .plan) (read-accepted false text (sym (ap (λ (x : Answer). x .code) (read-answer false text)) ∙ z)) read-edition
 
 -- opening
 pub opening-unmoved : (plan : Plan) → NoReady plan → openingOf plan ≡ plainOpening plan

@@ -1,5 +1,11 @@
 pub mod Columns
+pub mod TaskLine
+pub mod EntryLine
 pub mod Reading
 pub mod Seven
+pub mod SevenValue
 pub mod Book
 pub mod Writing
+pub mod Exclusive
+pub mod Conversion
+pub mod Mended

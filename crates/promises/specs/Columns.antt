@@ -22,11 +22,12 @@ module _ (width : ℕ) (ended : Bool) (line codes : List ℕ) (code column : ℕ
     field-too-many : width < length (fields line) → code ≡ 3 → column ≡ beginsAt width → Names
     missing-lf : length (fields line) ≤ width → ended ≡ false → code ≡ 3 → column ≡ length line + 1 → Names
 
-  -- 3 before 4 and 4 before 18, each at its leftmost field
+  -- 3 before 4, 4 before 20 and 20 before 18, each at its leftmost field
   pub record ColumnSays : Type 0 where
     pub from : 1 ≤ column
     pub to : column ≤ length line + 1
     pub names : Names
     pub leftmost : (n : ℕ) → n < width → beginsAt n < column → at codes n ≢ code
     pub no-three : code ≢ 3 → (n : ℕ) → n ≤ width → at codes n ≢ 3
-    pub no-four : code ≡ 18 → (n : ℕ) → n ≤ width → at codes n ≢ 4
+    pub no-four : code ≢ 3 → code ≢ 4 → (n : ℕ) → n ≤ width → at codes n ≢ 4
+    pub no-twenty : code ≡ 18 → (n : ℕ) → n ≤ width → at codes n ≢ 20

@@ -1,25 +1,28 @@
 -- Edition 1 as it was before edition 2: the rule without ready ticks on plans and books, and the reader of seven fields.
-use Prim.Native.Nat.{ℕ, _+_, _-_, _<_}
+use Prim.Native.Nat.{ℕ, zero, suc, _+_, _-_, _<_}
 use mathlib.Core.Path.{_≡_}
 use mathlib.Core.Bool.{Bool, not, cond, _&&_}
-use mathlib.Core.List.{List, [], _∷_}
+use mathlib.Core.List.{List, [], _∷_, _++_}
 use lib.Dec.{eqb, ltb}
 use lib.ListN.{length}
+use Rattle.laws.specs.Digits.{digitsOf}
+use Rattle.laws.specs.Every.{every}
 use Rattle.laws.specs.Lists.{anyOf, same}
 use Rattle.laws.specs.Scan.{scanTo}
 use Rattle.text.specs.Bytes.{bytes}
 use Rattle.text.specs.Number.{isNumber, valueOf, most}
-use Rattle.text.specs.Line.{hasLine, skip, lineAt, fields, field}
-use Rattle.text.specs.Items.{isList, listOf, isHold, holdOf, holdsOk, afterOk}
+use Rattle.text.specs.Line.{hasLine, skip, lineAt, fields, field, lineText}
+use Rattle.text.specs.Items.{between, isList, listOf, isHold, holdOf, holdsOk, afterOk}
 use Rattle.faults.specs.Faults.{codeFor, fieldCode, wordCode, endCode, columnOf}
 use Rattle.faults.specs.declared.Fault.{Fault}
 use Rattle.theory.specs.Events.{Event}
 use Rattle.theory.specs.Report.{dropIt}
 use Rattle.theory.specs.Unready.{plainOpened, plainNext, plainSound, plainEarly}
 use Rattle.plan.specs.Answer.{refuse, granted, isGranted, isRefused}
-use Rattle.plan.specs.Task.{Task, taskOf}
+use Rattle.plan.specs.Task.{Task, taskOf, taskOk}
 use Rattle.plan.specs.Judged.{tasksAnswer}
-use Rattle.plan.specs.Value.{at, planOf, zeroPlan, isAccepted}
+use Rattle.plan.specs.Value.{at, row, isTrimmed, taskAt, planOf, zeroPlan, pastBlank, isAccepted}
+use Rattle.plan.specs.Write.{fieldsFrom}
 use Rattle.plan.specs.Read.{ranged, boardsOf, tasksOf, readAs}
 use Rattle.plan.specs.declared.Answer.{Answer}
 use Rattle.plan.specs.declared.Plan.{Plan}
@@ -158,3 +161,26 @@ sevenAnswer s = cond (isRefused (sevenForm s)) (sevenForm s) (tasksAnswer (tasks
 
 abbrev pub sevenReading : List ℕ → Reading
 sevenReading s = readAs (sevenAnswer s) (planOf 1 (boardsOf s) (tasksOf s) (sevenTask s))
+
+-- ---- a plan value and its text
+
+-- no ready tick, and shared holds as they please
+abbrev pub sevenKept : Plan → ℕ → Bool
+sevenKept plan k =
+    taskOk (plan .boards) (plan .tasks) (taskAt plan k)
+    && (eqb (at (plan .ready) k) 0 && (isTrimmed (row 32 (plan .holds) k) && isTrimmed (row 64 (plan .after) k)))
+
+abbrev pub sevenAccepted : Plan → Bool
+sevenAccepted plan =
+    (between 1 8 (plan .boards) && (between 1 64 (plan .tasks) && (every (plan .tasks) (sevenKept plan) && pastBlank plan)))
+    && isGranted (tasksAnswer (plan .tasks) (taskAt plan))
+
+-- the lines of the first n tasks
+unfoldable pub sevenTexts : (ℕ → Task) → ℕ → List ℕ
+sevenTexts task zero = []
+sevenTexts task (suc n) =
+    sevenTexts task n ++ lineText (bytes "task" ∷ digitsOf (n + 1) ∷ digitsOf (task n .board) ∷ fieldsFrom (task n))
+
+abbrev pub sevenText : Plan → List ℕ
+sevenText plan =
+    lineText (bytes "plan" ∷ bytes "1" ∷ digitsOf (plan .boards) ∷ digitsOf (plan .tasks) ∷ []) ++ sevenTexts (taskAt plan) (plan .tasks)

@@ -2,17 +2,19 @@
 use Prim.Native.Nat.{ℕ, _+_, _-_, _≤_, _<_}
 use mathlib.Core.Path.{_≡_}
 use mathlib.Core.Logic.{_≢_, _⊎_}
-use mathlib.Core.Bool.{true, false, cond}
+use mathlib.Core.Bool.{Bool, true, false, cond, _&&_}
 use mathlib.Core.List.{List}
 use lib.Dec.{eqb}
 use lib.ListN.{length}
 use lib.Seq.{sets}
 use Rattle.plan.specs.Answer.{refuse, granted}
 use Rattle.plan.specs.Value.{at, zeroPlan, isAccepted}
+use Rattle.plan.specs.Task.{Task}
 use Rattle.plan.specs.Pairs.{pairCode}
 use Rattle.text.specs.Line.{TAB, LF, hasLine, skip, lineAt, field}
 use Rattle.text.specs.Number.{valueOf}
-use Rattle.plan.specs.Read.{editionOf, boardsOf, tasksOf, taskCodes, textTask, formAnswer}
+use Rattle.text.specs.Items.{listOf, holdOf, hasShared}
+use Rattle.plan.specs.Read.{sizesOk, editionOf, boardsOf, tasksOf, taskCodes, textTask, formAnswer}
 use Rattle.plan.specs.Write.{textOf}
 use Rattle.plan.specs.declared.Plan.{Plan}
 use Rattle.plan.specs.declared.Reading.{Reading}
@@ -36,34 +38,31 @@ use Rattle.promises.specs.Columns.{ColumnSays}
 abbrev pub noPlan : ℕ → ℕ → ℕ → Reading
 noPlan code first second = record { answer = refuse code first second; plan = zeroPlan }
 
--- the code of tasks a and b of a text, counted from 1; 0 where the pair is not faulty
-abbrev pub faultOf : List ℕ → ℕ → ℕ → ℕ
-faultOf text a b = pairCode (textTask text) (a - 1) (b - 1)
-
 -- (x, y) is examined before (a, b): by a, then by b
 abbrev pub Before : ℕ → ℕ → ℕ → ℕ → Type 0
 Before x y a b = (x < a) ⊎ ((x ≡ a) × (y < b))
 
--- the first faulty pair; (a, a) only for code 8
-pub record FirstFaulty (text : List ℕ) (code a b : ℕ) : Type 0 where
+-- the first faulty pair of these tasks, counted from 1; (a, a) only for code 8
+pub record FirstFaulty (tasks : ℕ) (task : ℕ → Task) (code a b : ℕ) : Type 0 where
   pub from : 1 ≤ a
   pub ordered : a ≤ b
-  pub to : b ≤ tasksOf text
+  pub to : b ≤ tasks
   pub number : (6 ≤ code) × (code ≤ 8)
-  pub faulty : faultOf text a b ≡ code
-  pub first : (x y : ℕ) → 1 ≤ x → x ≤ y → y ≤ tasksOf text → Before x y a b → faultOf text x y ≡ 0
+  pub faulty : pairCode task (a - 1) (b - 1) ≡ code
+  pub first : (x y : ℕ) → 1 ≤ x → x ≤ y → y ≤ tasks → Before x y a b → pairCode task (x - 1) (y - 1) ≡ 0
   pub two : code ≢ 8 → a < b
 
+-- Of a text reading, and the second call, which mends, are said once.
 -- the text's lines are faultless, nothing follows them, no task is planned at 0, and start is the least planned start
-pub record BeginsLate (text : List ℕ) (start : ℕ) : Type 0 where
-  pub lines : formAnswer text ≡ granted
+pub record BeginsLate (mends : Bool) (text : List ℕ) (start : ℕ) : Type 0 where
+  pub lines : formAnswer mends text ≡ granted
   pub from : 1 ≤ start
-  pub least : (k : ℕ) → k < tasksOf text → start ≤ textTask text k .begin
-  pub met : (k : ℕ) × (k < tasksOf text) × (textTask text k .begin ≡ start)
+  pub least : (k : ℕ) → k < tasksOf text → start ≤ textTask mends text k .begin
+  pub met : (k : ℕ) × (k < tasksOf text) × (textTask mends text k .begin ≡ start)
 
 -- the codes of the fields of task line k, and of its end
-abbrev pub codesOf : List ℕ → ℕ → List ℕ
-codesOf text k = taskCodes (hasLine (skip k text)) (editionOf text) (boardsOf text) (tasksOf text) (lineAt text k) k
+abbrev pub codesOf : Bool → List ℕ → ℕ → List ℕ
+codesOf mends text k = taskCodes mends (hasLine (skip k text)) (editionOf text) (boardsOf text) (tasksOf text) (lineAt text k) k
 
 -- a task line has seven fields, eight in edition 2
 abbrev pub widthOf : List ℕ → ℕ
@@ -75,24 +74,36 @@ pub record ReadyLate (text : List ℕ) (k column : ℕ) : Type 0 where
   pub late : valueOf (field (lineAt text k) 4) < valueOf (field (lineAt text k) 3)
   pub ready-field : column ≡ beginOf TAB (lineAt text k) 3 + 1
 
+-- 20, not said by the second call: the line is one of edition 2 that has a shared hold, and the column is that of the holds field
+pub record SharedHold (mends : Bool) (text : List ℕ) (k column : ℕ) : Type 0 where
+  pub reads : mends ≡ false
+  pub edition : editionOf text ≡ 2
+  pub shared : hasShared (listOf holdOf (field (lineAt text k) 6)) ≡ true
+  pub holds-field : column ≡ beginOf TAB (lineAt text k) 6 + 1
+
 -- task line k is the first that is refused, and the column is that of its fault
-pub record FirstFaultyLine (text : List ℕ) (code k column : ℕ) : Type 0 where
+pub record FirstFaultyLine (mends : Bool) (text : List ℕ) (code k column : ℕ) : Type 0 where
   pub from : 1 ≤ k
   pub to : k ≤ tasksOf text
-  pub earlier : (j n : ℕ) → 1 ≤ j → j < k → n ≤ widthOf text → at (codesOf text j) n ≡ 0
+  pub earlier : (j n : ℕ) → 1 ≤ j → j < k → n ≤ widthOf text → at (codesOf mends text j) n ≡ 0
+  pub shared : code ≡ 20 → SharedHold mends text k column
   pub unready : code ≡ 18 → ReadyLate text k column
-  pub says : ColumnSays (widthOf text) (hasLine (skip k text)) (lineAt text k) (codesOf text k) code column
+  pub says : ColumnSays (widthOf text) (hasLine (skip k text)) (lineAt text k) (codesOf mends text k) code column
 
-pub data ReadingSays (text : List ℕ) (r : Reading) : Type 0 where
-  read : r .answer ≡ granted → isAccepted (r .plan) ≡ true → ReadingSays text r
-  too-long : r ≡ noPlan 1 0 0 → ReadingSays text r
-  first-line : r ≡ noPlan 2 1 0 → ReadingSays text r
+-- what a line may be refused by
+abbrev pub LineCode : ℕ → Type 0
+LineCode code = (code ≡ 3) ⊎ ((code ≡ 4) ⊎ ((code ≡ 20) ⊎ (code ≡ 18)))
+
+pub data ReadingSays (mends : Bool) (text : List ℕ) (r : Reading) : Type 0 where
+  read : r .answer ≡ granted → isAccepted (r .plan) ≡ true → ReadingSays mends text r
+  too-long : 32768 < length text → r ≡ noPlan 1 0 0 → ReadingSays mends text r
+  first-line : (hasLine text && sizesOk mends (lineAt text 0)) ≡ false → r ≡ noPlan 2 1 0 → ReadingSays mends text r
   task-line :
-      (code k column : ℕ) → (code ≡ 3) ⊎ ((code ≡ 4) ⊎ (code ≡ 18)) → FirstFaultyLine text code k column → r ≡ noPlan code (k + 1) column
-      → ReadingSays text r
-  more-bytes : r ≡ noPlan 5 (tasksOf text + 2) 0 → ReadingSays text r
-  late : (start : ℕ) → BeginsLate text start → r ≡ noPlan 17 start 0 → ReadingSays text r
-  faulty-pair : (code a b : ℕ) → FirstFaulty text code a b → r ≡ noPlan code a b → ReadingSays text r
+      (code k column : ℕ) → LineCode code → FirstFaultyLine mends text code k column → r ≡ noPlan code (k + 1) column
+      → ReadingSays mends text r
+  more-bytes : 0 < length (skip (tasksOf text + 1) text) → r ≡ noPlan 5 (tasksOf text + 2) 0 → ReadingSays mends text r
+  late : (start : ℕ) → BeginsLate mends text start → r ≡ noPlan 17 start 0 → ReadingSays mends text r
+  faulty-pair : (code a b : ℕ) → FirstFaulty (tasksOf text) (textTask mends text) code a b → r ≡ noPlan code a b → ReadingSays mends text r
 
 pub data OpeningSays (plan : Plan) (r : Opening) : Type 0 where
   opened : isAccepted plan ≡ true → r ≡ record { answer = granted; book = openedOn plan } → OpeningSays plan r

@@ -6,3 +6,4 @@ pub mod Weaker
 pub mod Late
 pub mod Columns
 pub mod Ready
+pub mod Shared

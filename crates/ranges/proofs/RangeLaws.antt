@@ -1,48 +1,92 @@
 -- What is kept of a task, in the two halves that are tested, and the ranges of a plan in the order in which they are.
-use Prim.Native.Nat.{ℕ, _≤_}
-use mathlib.Core.Path.{_≡_, refl}
-use mathlib.Core.Bool.{Bool, true, false, not, _&&_, _||_}
-use mathlib.Core.List.{List}
+use Prim.Native.Nat.{ℕ, _%_, _≤_}
+use mathlib.Core.Path.{_≡_, refl, sym, ap, _∙_}
+use mathlib.Core.Bool.{Bool, true, false, not, cond, _&&_, _||_}
+use mathlib.Core.List.{List, [], _∷_}
+use native.Mathlib.Omega.{arith}
+use lib.ListN.{take, drop, take-append-drop}
 use lib.Dec.{leb, eqb}
-use borrow.Author.Tests.{not-true, not-false, leb-true}
-use Rattle.laws.proofs.Cases.{and-r}
-use Rattle.laws.specs.Lists.{risesFrom}
+use borrow.Author.Tests.{not-true, not-false, leb-true, eqb-true, ne-eqb}
+use Rattle.laws.proofs.Cases.{by-bool, and-l, and-r, and-no, or-false}
+use Rattle.laws.specs.Lists.{allOf, anyOf, risesFrom}
+use Rattle.laws.proofs.Lists.{any-append}
+use Rattle.laws.specs.Split.{indexOf}
 use Rattle.laws.proofs.Rise.{rises-is}
 use Rattle.laws.specs.Every.{every}
-use Rattle.text.specs.Items.{between, driveOf, holdsOk, afterOk}
+use Rattle.text.specs.Items.{between, driveOf, isShared, hasShared, holdsOk, afterOk}
 use Rattle.text.specs.private.Lettered.{keyOf}
 use Rattle.plan.specs.Task.{numbersOk}
-use Rattle.plan.specs.Value.{at, row, items, planWith, isTrimmed, keptOk, pastBlank, rangesOk, taskAt}
+use Rattle.plan.specs.Value.{at, row, items, planWith, blankFrom, isTrimmed, keptOk, pastBlank, rangesOk, taskAt}
 use Rattle.plan.specs.declared.Plan.{Plan}
-use Rattle.ranges.specs.private.Kept.{numbersIn, listsIn}
+use Rattle.ranges.specs.private.Kept.{numbersIn, listIn, sharedIn, listsIn}
 
+-- a list that has nothing past its last item is as shared as its items
+blank-unshared : (l : List ℕ) → allOf (eqb 0) l ≡ true → anyOf isShared l ≡ false
+unfolding allOf anyOf
+blank-unshared [] h = refl
+blank-unshared (x ∷ l) h =
+    let z : 0 ≡ x = eqb-true 0 x (and-l (eqb 0 x) (allOf (eqb 0) l) h) in
+    let e : isShared x ≡ false = ne-eqb (x % 2) 1 (λ q. omega arith) in
+    rw e (blank-unshared l (and-r (eqb 0 x) (allOf (eqb 0) l) h))
+
+trimmed-shared : (l : List ℕ) → isTrimmed l ≡ true → hasShared l ≡ hasShared (items l)
+unfolding hasShared blankFrom
+trimmed-shared l t =
+    let n : ℕ = indexOf 0 l in
+    ap (anyOf isShared) (sym (take-append-drop n l)) ∙ any-append isShared (take n l) (drop n l)
+    ∙ rw (blank-unshared (drop n l) t) (or-false (anyOf isShared (take n l)))
+
+-- what an edition asks, of the ready tick and of the holds, tested apart
 regroup :
-    (numbers holds after may one two : Bool)
-    → ((numbers && (holds && after)) && (may && (one && two))) ≡ ((numbers && may) && ((holds && one) && (after && two)))
-regroup false holds after may one two = refl
-regroup true false after true one two = refl
-regroup true false after false one two = refl
-regroup true true true true true two = refl
-regroup true true true true false two = refl
-regroup true true false true true two = refl
-regroup true true false true false two = refl
-regroup true true true false one two = refl
-regroup true true false false one two = refl
+    (numbers holds after second shared unready one two : Bool)
+    → ((numbers && (holds && after)) && (cond second (not shared) unready && (one && two)))
+    ≡ ((numbers && (second || unready)) && (((holds && one) && (not second || not shared)) && (after && two)))
+regroup false holds after second shared unready one two = refl
+regroup true false after true true unready one two = refl
+regroup true false after true false unready one two = refl
+regroup true false after false shared true one two = refl
+regroup true false after false shared false one two = refl
+regroup true true true true true unready true two = refl
+regroup true true false true true unready true two = refl
+regroup true true true true true unready false two = refl
+regroup true true false true true unready false two = refl
+regroup true true true true false unready true two = refl
+regroup true true false true false unready true two = refl
+regroup true true true true false unready false two = refl
+regroup true true false true false unready false two = refl
+regroup true true true false shared true true two = refl
+regroup true true false false shared true true two = refl
+regroup true true true false shared true false two = refl
+regroup true true false false shared true false two = refl
+regroup true true true false shared false one two = refl
+regroup true true false false shared false one two = refl
+
+-- only a trimmed list is asked
+untrimmed : (edition : ℕ) (rises : Bool) (l : List ℕ) → ((rises && isTrimmed l) && sharedIn edition (items l)) ≡ ((rises && isTrimmed l) && sharedIn edition l)
+untrimmed edition rises l =
+    by-bool (isTrimmed l)
+    (λ t. rw (trimmed-shared l t))
+    (λ t. rw (t, and-no rises))
 
 pub kept-is :
     (edition boards tasks : ℕ) (board ready begin finish holds after : List ℕ) (k : ℕ)
     → keptOk (planWith edition boards tasks board ready begin finish holds after) k
-    ≡ (numbersIn edition boards board ready begin finish k && listsIn tasks holds after k)
+    ≡ (numbersIn edition boards board ready begin finish k && listsIn edition tasks holds after k)
 unfolding keptOk holdsOk afterOk keyOf
 kept-is edition boards tasks board ready begin finish holds after k =
-    rw (rises-is driveOf 32 (items (row 32 holds k)), rises-is (λ n. n) tasks (items (row 64 after k)))
+    let row-of : List ℕ = row 32 holds k in
+    rw (rises-is driveOf 32 (items row-of), rises-is (λ n. n) tasks (items (row 64 after k)))
     (regroup
     (numbersOk boards (taskAt (planWith edition boards tasks board ready begin finish holds after) k))
-    (risesFrom driveOf 32 0 (items (row 32 holds k)))
+    (risesFrom driveOf 32 0 (items row-of))
     (risesFrom (λ n. n) tasks 0 (items (row 64 after k)))
-    (eqb edition 2 || eqb (at ready k) 0)
-    (isTrimmed (row 32 holds k))
+    (eqb edition 2)
+    (hasShared (items row-of))
+    (eqb (at ready k) 0)
+    (isTrimmed row-of)
     (isTrimmed (row 64 after k)))
+    ∙ ap (λ (b : Bool). numbersIn edition boards board ready begin finish k && (b && listIn false tasks (row 64 after k)))
+    (untrimmed edition (risesFrom driveOf 32 0 (items row-of)) row-of)
 
 -- the sizes that are tested first
 abbrev sizesIn : ℕ → ℕ → ℕ → Bool

@@ -6,7 +6,8 @@ ghost use Rattle.laws.specs.Every.{every};
 ghost use Rattle.laws.specs.Lists.{risesFrom};
 ghost use Rattle.text.specs.private.Lettered.{keyOf};
 ghost use Rattle.plan.specs.Value.{row, items, blankFrom, isTrimmed, planWith, keptOk, pastBlank, rangesOk};
-ghost use Rattle.ranges.specs.private.Kept.{numbersIn, listIn};
+ghost use Rattle.ranges.specs.private.Kept.{numbersIn, listIn, sharedIn, holdsIn};
+use text::list::has_shared;
 use text::part::find;
 
 // Nothing is kept from place n on. A walk that gathers to its end can use wide instructions.
@@ -88,13 +89,21 @@ fn numbers_ok<'a>(
     (board_ok & ((ready[k] <= begin[k]) & times)) & ((edition == 2) | (ready[k] == 0))
 }
 
-fn holds_ok(holds: &[u8; 2048], k: usize) -> bool
+// Edition 2 no longer takes a shared hold.
+fn shared_ok(edition: u8, list: &[u8]) -> bool
+    ensures { λ r. ⌜ r ≡ sharedIn edition (now (list .entry)) ⌝ }
+{
+    (edition != 2) | !has_shared(list)
+}
+
+fn holds_ok(edition: u8, holds: &[u8; 2048], k: usize) -> bool
     requires { ⌜ k < 64 ⌝ }
-    ensures { λ r. ⌜ r ≡ listIn true 32 (row 32 (now (holds .entry)) k) ⌝ }
+    ensures { λ r. ⌜ r ≡ holdsIn edition (row 32 (now (holds .entry)) k) ⌝ }
 {
     let all = &holds[..];
     let s = 32 * k;
-    list_ok(&all[s..s + 32], true, 32)
+    let list = &all[s..s + 32];
+    list_ok(list, true, 32) & shared_ok(edition, list)
 }
 
 fn after_ok(tasks: u8, after: &[u8; 4096], k: usize) -> bool
@@ -122,7 +131,7 @@ fn task_ok<'a>(
     ensures { λ r. ⌜ r ≡ keptOk (planWith edition boards tasks (now (board .entry)) (now (ready .entry)) (now (begin .entry)) (now (finish .entry)) (now (holds .entry)) (now (after .entry))) k ⌝ }
 {
     numbers_ok(edition, boards, board, ready, begin, finish, k)
-        & (holds_ok(holds, k) & after_ok(tasks, after, k))
+        & (holds_ok(edition, holds, k) & after_ok(tasks, after, k))
 }
 
 fn all_kept<'a>(

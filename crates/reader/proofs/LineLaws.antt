@@ -1,8 +1,8 @@
 -- The answers of the readers of whole lines, by the tests that lead to them.
 use Prim.Native.Nat.{ℕ, suc, _+_, _≤_, min}
 use mathlib.Core.Path.{_≡_, refl, sym, ap, _∙_}
-use mathlib.Core.Bool.{Bool, true, false, not, _&&_, _||_}
-use mathlib.Core.List.{List, [], _∷_}
+use mathlib.Core.Bool.{Bool, true, false, not, cond, _&&_, _||_}
+use mathlib.Core.List.{List, [], _∷_, map}
 use native.Mathlib.Omega.{arith}
 use lib.Dec.{ltb, eqb}
 use lib.ListN.{length, drop}
@@ -13,16 +13,19 @@ use Rattle.laws.specs.Split.{before, skipOn}
 use Rattle.text.specs.Bytes.{bytes}
 use Rattle.text.specs.Number.{isNumber, valueOf, most}
 use Rattle.text.specs.Line.{TAB, fields, field}
-use Rattle.text.specs.Items.{between, holdsOk, afterOk, itemsOf, holdsRead, afterRead}
+use Rattle.text.specs.Items.{between, hasShared, exclusive, holdsOk, afterOk, itemsOf, holdsRead, afterRead}
 use Rattle.text.specs.declared.Items.{Items}
 use Rattle.text.proofs.ListFields.{isHolds, holdsOf, isAfter, afterOf}
 use Rattle.text.proofs.Parts.{From, from-start, from-field, from-next, from-skip, skip-next, field-at}
 use Rattle.faults.specs.Faults.{codeFor, fieldCode, rangedRead, wordCode, endCode, faultOf}
 use Rattle.faults.specs.declared.Ranged.{Ranged}
 use Rattle.faults.specs.declared.Fault.{Fault}
+use Rattle.text.proofs.Answers.{holds-count}
+use Rattle.text.proofs.Shared.{shared-kept}
+use Rattle.faults.proofs.FaultLaws.{for-zero}
 use Rattle.faults.proofs.RangedLaws.{field-code, ranged-code, ranged-value}
-use Rattle.plan.specs.Read.{ranged, sizesOk, startAt, codesFrom, readyCode, taskCodes}
-use Rattle.reader.specs.private.Fields.{noSizes, sizesRead, noLine, tailRead, readyAt, readyIn, lineBy, lineRead}
+use Rattle.plan.specs.Read.{ranged, sizesOk, startAt, holdsCode, codesFrom, readyCode, taskCodes}
+use Rattle.reader.specs.private.Fields.{noSizes, sizesRead, noLine, tailRead, readyAt, readyIn, holdsIn, itemsMended, tailMended, lineBy, lineRead}
 use Rattle.reader.specs.declared.Sizes.{Sizes}
 use Rattle.reader.specs.declared.Tail.{Tail}
 use Rattle.reader.specs.declared.Line.{Line}
@@ -51,39 +54,39 @@ none-fails true true c h = (refl, refl, not-false c h)
 none-fails true false c h = let z : _≡_ {A = ℕ} 0 1 = cc in absurd (omega arith)
 none-fails false b c h = let z : _≡_ {A = ℕ} 0 1 = cc in absurd (omega arith)
 
-module _ (line : List ℕ) where
-  pub sizes-count : (length (fields line) ≡ 4 → ⊥) → noSizes ≡ sizesRead line
+module _ (mends : Bool) (line : List ℕ) where
+  pub sizes-count : (length (fields line) ≡ 4 → ⊥) → noSizes ≡ sizesRead mends line
   unfolding sizesRead sizesOk
   sizes-count n = rw (ne-eqb (length (fields line)) 4 n)
 
   module _ (four : length (fields line) ≡ 4) {word : Bool} (w : word ≡ same (field line 0) (bytes "plan")) where
-    pub sizes-word : not word ≡ true → noSizes ≡ sizesRead line
+    pub sizes-word : not word ≡ true → noSizes ≡ sizesRead mends line
     unfolding sizesRead sizesOk
     sizes-word h = rw (eq-eqb (length (fields line)) 4 four, sym w ∙ not-true word h)
 
     module _ (is-plan : not word ≡ false) {edition boards tasks : Ranged}
-        (e : edition ≡ rangedRead 1 2 (field line 1)) (p : boards ≡ rangedRead 1 8 (field line 2)) (q : tasks ≡ rangedRead 1 64 (field line 3)) where
+        (e : edition ≡ rangedRead (cond mends 2 1) 2 (field line 1)) (p : boards ≡ rangedRead 1 8 (field line 2)) (q : tasks ≡ rangedRead 1 64 (field line 3)) where
       abbrev fine : Bool
       fine = eqb (edition .code) 0 && (eqb (boards .code) 0 && eqb (tasks .code) 0)
 
-      ok-is : sizesOk line ≡ fine
+      ok-is : sizesOk mends line ≡ fine
       unfolding sizesOk
       ok-is =
           rw (
             eq-eqb (length (fields line)) 4 four,
             sym w ∙ not-false word is-plan,
-            ranged-test 1 2 (field line 1) (omega arith) e,
+            ranged-test (cond mends 2 1) 2 (field line 1) (omega arith) e,
             ranged-test 1 8 (field line 2) (omega arith) p,
             ranged-test 1 64 (field line 3) (omega arith) q,
           )
 
-      pub sizes-off : (not (eqb (edition .code) 0) || (not (eqb (boards .code) 0) || not (eqb (tasks .code) 0))) ≡ true → noSizes ≡ sizesRead line
+      pub sizes-off : (not (eqb (edition .code) 0) || (not (eqb (boards .code) 0) || not (eqb (tasks .code) 0))) ≡ true → noSizes ≡ sizesRead mends line
       unfolding sizesRead
       sizes-off h = rw (ok-is, some-fails (eqb (edition .code) 0) (eqb (boards .code) 0) (eqb (tasks .code) 0) h)
 
       pub sizes-in :
           (not (eqb (edition .code) 0) || (not (eqb (boards .code) 0) || not (eqb (tasks .code) 0))) ≡ false
-          → _≡_ {A = Sizes} (record { ok = true; edition = edition .value; boards = boards .value; tasks = tasks .value }) (sizesRead line)
+          → _≡_ {A = Sizes} (record { ok = true; edition = edition .value; boards = boards .value; tasks = tasks .value }) (sizesRead mends line)
       unfolding sizesRead
       sizes-in h =
           let g = none-fails (eqb (edition .code) 0) (eqb (boards .code) 0) (eqb (tasks .code) 0) h in
@@ -92,7 +95,7 @@ module _ (line : List ℕ) where
             g .0,
             g .1,
             g .2,
-            ranged-is 1 2 (field line 1) e (g .0),
+            ranged-is (cond mends 2 1) 2 (field line 1) e (g .0),
             ranged-is 1 8 (field line 2) p (g .1),
             ranged-is 1 64 (field line 3) q (g .2),
           )
@@ -156,9 +159,40 @@ items-code false fine stop l = refl
 items-code true false stop l = refl
 items-code true true stop l = refl
 
-holds-code : (s : List ℕ) → holdsRead s .code ≡ codeFor (isHolds s) (holdsOk (holdsOf s))
+holds-spelling : (s : List ℕ) → holdsRead s .code ≡ codeFor (isHolds s) (holdsOk (holdsOf s))
 unfolding holdsRead
-holds-code s = items-code (isHolds s) (holdsOk (holdsOf s)) _ (holdsOf s)
+holds-spelling s = items-code (isHolds s) (holdsOk (holdsOf s)) _ (holdsOf s)
+
+-- the places of a list that is read say whether one of its holds is shared
+holds-shared : (s : List ℕ) → codeFor (isHolds s) (holdsOk (holdsOf s)) ≡ 0 → hasShared (holdsRead s .items) ≡ hasShared (holdsOf s)
+unfolding holdsRead
+holds-shared s z =
+    let f = for-zero (isHolds s) (holdsOk (holdsOf s)) z in
+    rw (f .0, f .1) (shared-kept (holdsOf s) (omega (arith, holds-count (holdsOf s) (f .1))))
+
+pub holds-are : (retired : Bool) (s : List ℕ) → holdsIn retired (holdsRead s) ≡ holdsCode retired s
+unfolding holdsIn holdsCode
+holds-are retired s =
+    rw (holds-spelling s)
+    (by-eq (codeFor (isHolds s) (holdsOk (holdsOf s))) 0
+    (λ z. rw (holds-shared s z))
+    (λ n. rw (ne-eqb (codeFor (isHolds s) (holdsOk (holdsOf s))) 0 n)))
+
+-- 20, or the spelling's code; where none is retired the latter
+pub holds-twenty : (holds : Items) (retired : Bool) → (eqb (holds .code) 0 && (retired && hasShared (holds .items))) ≡ true → 20 ≡ holdsIn retired holds
+unfolding holdsIn
+holds-twenty holds retired e = rw e
+
+pub holds-other : (holds : Items) (retired : Bool) → (eqb (holds .code) 0 && (retired && hasShared (holds .items))) ≡ false → holds .code ≡ holdsIn retired holds
+unfolding holdsIn
+holds-other holds retired e = rw e
+
+none-retired : (holds : Items) → holds .code ≡ holdsIn false holds
+none-retired holds = holds-other holds false (never (eqb (holds .code) 0))
+  where
+    never : (b : Bool) → (b && false) ≡ false
+    never true = refl
+    never false = refl
 
 after-code : (s : List ℕ) (tasks : ℕ) → tasks ≤ 64 → afterRead s tasks .code ≡ codeFor (isAfter s) (afterOk tasks (afterOf s))
 unfolding afterRead
@@ -193,13 +227,14 @@ tail-moves tasks line n e =
     })
 
 pub tail-codes :
-    (ended : Bool) (tasks : ℕ) (line : List ℕ) (n : ℕ) → tasks ≤ 64 → {tail : Tail} {end : ℕ} → tail ≡ tailRead tasks line n → end ≡ endCode ended (n + 4) line
-    → (tail .begin .code ∷ tail .finish .code ∷ tail .holds .code ∷ tail .after .code ∷ end ∷ []) ≡ codesFrom ended tasks line n
+    (retired ended : Bool) (tasks : ℕ) (line : List ℕ) (n : ℕ) → tasks ≤ 64 → {tail : Tail} {holds end : ℕ} → tail ≡ tailRead tasks line n → holds ≡ holdsIn retired (tail .holds)
+    → end ≡ endCode ended (n + 4) line
+    → (tail .begin .code ∷ tail .finish .code ∷ holds ∷ tail .after .code ∷ end ∷ []) ≡ codesFrom retired ended tasks line n
 unfolding tailRead codesFrom
-tail-codes ended tasks line n few t e =
+tail-codes retired ended tasks line n few t h e =
     let p0 = ranged-code 0 most (field line n) (ap (λ (x : Tail). x .begin) t) in
     let p1 = ranged-code (startAt line n + 1) most (field line (n + 1)) (ap (λ (x : Tail). x .finish) t) in
-    let p2 = ap (λ (x : Tail). x .holds .code) t ∙ holds-code (field line (n + 2)) in
+    let p2 = h ∙ ap (λ (x : Tail). holdsIn retired (x .holds)) t ∙ holds-are retired (field line (n + 2)) in
     let p3 = ap (λ (x : Tail). x .after .code) t ∙ after-code (field line (n + 3)) tasks few in
     λ i. p0 i ∷ p1 i ∷ p2 i ∷ p3 i ∷ e i ∷ []
 
@@ -221,6 +256,18 @@ ready-is line r b =
     (λ z. rw (ranged-value 0 most (field line 3) refl z))
     (λ n. rw (ne-eqb (fieldCode 0 most (field line 3)) 0 n)))
 
+-- ---- the holds mended
+
+pub mended-not : (holds : Items) (mends : Bool) → not mends ≡ true → holds ≡ itemsMended mends holds
+unfolding itemsMended
+mended-not holds mends e = rw (not-true mends e)
+
+pub mended-is :
+    (holds : Items) (mends : Bool) {made : List ℕ} → not mends ≡ false → made ≡ map exclusive (holds .items)
+    → _≡_ {A = Items} (record { code = holds .code; stop = holds .stop; count = holds .count; items = made }) (itemsMended mends holds)
+unfolding itemsMended
+mended-is holds mends e m = rw (not-false mends e, m)
+
 -- ---- a line by its codes
 
 module _ (line codes : List ℕ) (board ready : ℕ) (tail : Tail) {t : Bool} (z : t ≡ allOf (eqb 0) codes) where
@@ -240,22 +287,25 @@ module _ (ended : Bool) (tasks : ℕ) (line : List ℕ) (few : tasks ≤ 64) (wo
   pub first-is :
       tail ≡ tailRead tasks line 3 → end ≡ endCode ended 7 line
       → lineBy line (word ∷ number ∷ code ∷ tail .begin .code ∷ tail .finish .code ∷ tail .holds .code ∷ tail .after .code ∷ end ∷ []) value 0 tail
-      ≡ lineBy line (word ∷ number ∷ code ∷ codesFrom ended tasks line 3) value 0 (tailRead tasks line 3)
-  first-is t e = let c = tail-codes ended tasks line 3 few t e in λ i. lineBy line (word ∷ number ∷ code ∷ c i) value 0 (t i)
+      ≡ lineBy line (word ∷ number ∷ code ∷ codesFrom false ended tasks line 3) value 0 (tailRead tasks line 3)
+  first-is t e = let c = tail-codes false ended tasks line 3 few t (none-retired (tail .holds)) e in λ i. lineBy line (word ∷ number ∷ code ∷ c i) value 0 (t i)
 
   pub second-is :
-      {ready : Ranged} {c : ℕ} → ready ≡ rangedRead 0 most (field line 3) → tail ≡ tailRead tasks line 4 → end ≡ endCode ended 8 line → c ≡ readyIn ready (tail .begin .value)
-      → lineBy line (word ∷ number ∷ code ∷ c ∷ tail .begin .code ∷ tail .finish .code ∷ tail .holds .code ∷ tail .after .code ∷ end ∷ []) value (ready .value) tail
-      ≡ lineBy line (word ∷ number ∷ code ∷ readyCode line ∷ codesFrom ended tasks line 4) value (readyAt line) (tailRead tasks line 4)
+      {ready : Ranged} {c h : ℕ} {m : Items} → (mends : Bool) → ready ≡ rangedRead 0 most (field line 3) → tail ≡ tailRead tasks line 4 → end ≡ endCode ended 8 line → c ≡ readyIn ready (tail .begin .value) → h ≡ holdsIn (not mends) (tail .holds) → m ≡ itemsMended mends (tail .holds)
+      → lineBy line (word ∷ number ∷ code ∷ c ∷ tail .begin .code ∷ tail .finish .code ∷ h ∷ tail .after .code ∷ end ∷ []) value (ready .value)
+      (record { begin = tail .begin; finish = tail .finish; holds = m; after = tail .after })
+      ≡ lineBy line (word ∷ number ∷ code ∷ readyCode line ∷ codesFrom (not mends) ended tasks line 4) value (readyAt line) (tailMended mends (tailRead tasks line 4))
   unfolding tailRead
-  second-is {ready} r t e q =
-      let c = tail-codes ended tasks line 4 few t e in
+  second-is {ready} {m = m} mends r t e q h w =
+      let c = tail-codes (not mends) ended tasks line 4 few t h e in
       let s : tail .begin .value ≡ startAt line 4 = ap (λ (x : Tail). x .begin .value) t in
       let d = q ∙ ready-is line r s in
       let v : ready .value ≡ readyAt line = ap (λ (x : Ranged). x .value) r in
-      λ i. lineBy line (word ∷ number ∷ code ∷ d i ∷ c i) value (v i) (t i)
+      let u : _≡_ {A = Tail} (record { begin = tail .begin; finish = tail .finish; holds = m; after = tail .after }) (tailMended mends (tailRead tasks line 4)) =
+      rw w (ap (tailMended mends) t) in
+      λ i. lineBy line (word ∷ number ∷ code ∷ d i ∷ c i) value (v i) (u i)
 
-module _ (ended : Bool) (edition boards tasks : ℕ) (line : List ℕ) (k : ℕ) {word : ℕ} {number board : Ranged}
+module _ (mends ended : Bool) (edition boards tasks : ℕ) (line : List ℕ) (k : ℕ) {word : ℕ} {number board : Ranged}
     (w : word ≡ wordCode (bytes "task") (field line 0)) (n : number ≡ rangedRead k k (field line 1)) (b : board ≡ rangedRead 1 boards (field line 2)) where
   n-code : number .code ≡ fieldCode k k (field line 1)
   n-code = ranged-code k k (field line 1) n
@@ -268,18 +318,18 @@ module _ (ended : Bool) (edition boards tasks : ℕ) (line : List ℕ) (k : ℕ)
 
   pub line-second :
       edition ≡ 2
-      → lineBy line (word ∷ number .code ∷ board .code ∷ readyCode line ∷ codesFrom ended tasks line 4) (board .value) (readyAt line) (tailRead tasks line 4)
-      ≡ lineRead ended edition boards tasks line k
+      → lineBy line (word ∷ number .code ∷ board .code ∷ readyCode line ∷ codesFrom (not mends) ended tasks line 4) (board .value) (readyAt line) (tailMended mends (tailRead tasks line 4))
+      ≡ lineRead mends ended edition boards tasks line k
   unfolding lineRead taskCodes
   line-second e =
       rw (eq-eqb edition 2 e)
-      (λ i. lineBy line (w i ∷ n-code i ∷ b-code i ∷ readyCode line ∷ codesFrom ended tasks line 4) (b-value i) (readyAt line) (tailRead tasks line 4))
+      (λ i. lineBy line (w i ∷ n-code i ∷ b-code i ∷ readyCode line ∷ codesFrom (not mends) ended tasks line 4) (b-value i) (readyAt line) (tailMended mends (tailRead tasks line 4)))
 
   pub line-first :
       (edition ≡ 2 → ⊥)
-      → lineBy line (word ∷ number .code ∷ board .code ∷ codesFrom ended tasks line 3) (board .value) 0 (tailRead tasks line 3)
-      ≡ lineRead ended edition boards tasks line k
+      → lineBy line (word ∷ number .code ∷ board .code ∷ codesFrom false ended tasks line 3) (board .value) 0 (tailRead tasks line 3)
+      ≡ lineRead mends ended edition boards tasks line k
   unfolding lineRead taskCodes
   line-first e =
       rw (ne-eqb edition 2 e)
-      (λ i. lineBy line (w i ∷ n-code i ∷ b-code i ∷ codesFrom ended tasks line 3) (b-value i) 0 (tailRead tasks line 3))
+      (λ i. lineBy line (w i ∷ n-code i ∷ b-code i ∷ codesFrom false ended tasks line 3) (b-value i) 0 (tailRead tasks line 3))

@@ -1,44 +1,49 @@
 -- What a task line says: its fault, or the text's task.
 use Prim.Native.Nat.{ℕ, _+_, _≤_, min}
-use mathlib.Core.Path.{_≡_, refl}
-use mathlib.Core.Bool.{Bool, true, false, _&&_}
-use mathlib.Core.List.{List}
+use mathlib.Core.Path.{_≡_, refl, sym, ap, _∙_}
+use mathlib.Core.Bool.{Bool, true, false, not, cond, _&&_}
+use mathlib.Core.List.{List, map}
 use native.Mathlib.Omega.{arith}
 use lib.Dec.{ltb, eqb}
-use lib.ListN.{length, take}
+use lib.ListN.{length, take, replicate}
+use lib.Seq.{sets}
 use borrow.Author.Tests.{eqb-true}
 use Rattle.laws.proofs.Cases.{by-bool, and-of, true-false}
 use Rattle.laws.specs.Lists.{allOf}
 use Rattle.laws.specs.Split.{indexOf, before}
 use Rattle.text.specs.Number.{valueOf, most}
 use Rattle.text.specs.Line.{LF, hasLine, field}
-use Rattle.text.specs.Items.{holdsOk, afterOk, someItems, itemsOf, holdsRead, afterRead}
+use Rattle.text.specs.declared.Items.{Items}
+use Rattle.text.specs.Items.{exclusive, holdsOk, afterOk, someItems, itemsOf, holdsRead, afterRead}
+use Rattle.text.proofs.Answers.{holds-count}
+use Rattle.text.proofs.Shared.{length-map, exclusive-kept}
 use Rattle.text.proofs.ListFields.{isHolds, holdsOf, isAfter, afterOf}
 use Rattle.faults.specs.Faults.{rangedRead, worst, faultOf}
 use Rattle.faults.proofs.RangedLaws.{InRange, zero-field, ranged-value}
 use Rattle.faults.proofs.FaultLaws.{faultless-is}
-use Rattle.plan.specs.Task.{Task}
+use Rattle.plan.specs.Task.{Task, exclusiveTask}
 use Rattle.plan.specs.Read.{startAt, taskCodes, taskFrom, lineTask}
 use Rattle.plan.proofs.LineCodes.{TimesOk, LineFine, fine-line, task-kinds}
-use Rattle.reader.specs.private.Fields.{tailRead, lineBy, lineRead, nextLine}
+use Rattle.reader.specs.private.Fields.{tailRead, itemsMended, tailMended, lineBy, lineRead, nextLine}
+use Rattle.reader.specs.declared.Tail.{Tail}
 use Rattle.reader.specs.declared.Line.{Line}
 
 -- the line that begins the text
 pub next-is :
-    (edition boards tasks : ℕ) (s : List ℕ) (k : ℕ) {r : ℕ} → r ≡ indexOf LF s
-    → lineRead (ltb r (length s)) edition boards tasks (take r s) k ≡ nextLine edition boards tasks s k
+    (mends : Bool) (edition boards tasks : ℕ) (s : List ℕ) (k : ℕ) {r : ℕ} → r ≡ indexOf LF s
+    → lineRead mends (ltb r (length s)) edition boards tasks (take r s) k ≡ nextLine mends edition boards tasks s k
 unfolding nextLine
-next-is edition boards tasks s k p = rw p
+next-is mends edition boards tasks s k p = rw p
 
 -- the fault that is read is the one defined
-module _ (ended : Bool) (edition boards tasks : ℕ) (line : List ℕ) (k : ℕ) (few-boards : boards ≤ most) (few : k ≤ most) where
+module _ (mends ended : Bool) (edition boards tasks : ℕ) (line : List ℕ) (k : ℕ) (few-boards : boards ≤ most) (few : k ≤ most) where
   abbrev codes : List ℕ
-  codes = taskCodes ended edition boards tasks line k
+  codes = taskCodes mends ended edition boards tasks line k
 
   clean : allOf (eqb 0) codes ≡ eqb (worst codes) 0
-  clean = faultless-is codes (task-kinds ended edition boards tasks line k few-boards few)
+  clean = faultless-is codes (task-kinds mends ended edition boards tasks line k few-boards few)
 
-  pub line-fault : lineRead ended edition boards tasks line k .fault ≡ faultOf line codes
+  pub line-fault : lineRead mends ended edition boards tasks line k .fault ≡ faultOf line codes
   unfolding lineRead lineBy faultOf
   line-fault =
       by-bool (eqb edition 2)
@@ -46,10 +51,10 @@ module _ (ended : Bool) (edition boards tasks : ℕ) (line : List ℕ) (k : ℕ)
       (λ e. by-bool (eqb (worst codes) 0) (λ w. rw (e, clean, w, eqb-true (worst codes) 0 w)) (λ w. rw (e, clean, w)))
 
 pub next-fault :
-    (edition boards tasks : ℕ) (s : List ℕ) (k : ℕ) → boards ≤ most → k ≤ most
-    → nextLine edition boards tasks s k .fault ≡ faultOf (before LF s) (taskCodes (hasLine s) edition boards tasks (before LF s) k)
+    (mends : Bool) (edition boards tasks : ℕ) (s : List ℕ) (k : ℕ) → boards ≤ most → k ≤ most
+    → nextLine mends edition boards tasks s k .fault ≡ faultOf (before LF s) (taskCodes mends (hasLine s) edition boards tasks (before LF s) k)
 unfolding nextLine
-next-fault edition boards tasks s k b h = line-fault (hasLine s) edition boards tasks (before LF s) k b h
+next-fault mends edition boards tasks s k b h = line-fault mends (hasLine s) edition boards tasks (before LF s) k b h
 
 -- what a granted line says is the text's task
 pub record LineSays (line : Line) (task : Task) : Type 0 where
@@ -83,13 +88,24 @@ after-say s tasks h = rw items-stop (items-say (isAfter s) (afterOk (min tasks 6
 value-of : (low high : ℕ) (s : List ℕ) → high ≤ most → InRange low high s → rangedRead low high s .value ≡ valueOf s
 value-of low high s h r = ranged-value low high s refl (zero-field low high s h r)
 
+items-mended :
+    (holds : Items) (l : List ℕ) → length l ≤ 64 → holds ≡ someItems (holds .stop) l
+    → _≡_ {A = Items} (record { code = holds .code; stop = holds .stop; count = holds .count; items = map exclusive (holds .items) })
+    (someItems (holds .stop) (map exclusive l))
+items-mended holds l few e =
+    let c : holds .code ≡ 0 = ap (λ (x : Items). x .code) e in
+    let n : holds .count ≡ length (map exclusive l) = ap (λ (x : Items). x .count) e ∙ sym (length-map l) in
+    let m : map exclusive (holds .items) ≡ sets (replicate 64 0) 0 (map exclusive l) =
+    ap (λ (x : Items). map exclusive (x .items)) e ∙ exclusive-kept l few in
+    λ i. record { code = c i; stop = holds .stop; count = n i; items = m i }
+
 -- a line by codes that are all 0
 module _ (boards tasks : ℕ) (line codes : List ℕ) (few-boards : boards ≤ most) (few : tasks ≤ 64) (all : allOf (eqb 0) codes ≡ true) (board-in : InRange 1 boards (field line 2)) where
   by-said :
-      (ready n : ℕ) {said : ℕ} → TimesOk tasks line n → said ≡ ready
+      (retired : Bool) (ready n : ℕ) {said : ℕ} → TimesOk retired tasks line n → said ≡ ready
       → LineSays (lineBy line codes (rangedRead 1 boards (field line 2) .value) said (tailRead tasks line n)) (taskFrom line ready n)
   unfolding lineBy tailRead taskFrom
-  by-said ready n t r =
+  by-said retired ready n t r =
       let m : min tasks 64 ≡ tasks = omega arith in
       let b = value-of 0 most (field line n) (omega arith) (record { spelt = t .begin; from = omega arith; to = omega (arith, t .lasts, t .to) }) in
       record {
@@ -101,18 +117,36 @@ module _ (boards tasks : ℕ) (line codes : List ℕ) (few-boards : boards ≤ m
         after = rw all (after-say (field line (n + 3)) tasks (and-of (t .after) (rw m (t .order))));
       }
 
+  -- and its holds mended
+  mended-said :
+      (mends : Bool) (board ready : ℕ) (tail : Tail) (task : Task) → holdsOk (task .holds) ≡ true → LineSays (lineBy line codes board ready tail) task
+      → LineSays (lineBy line codes board ready (tailMended mends tail)) (cond mends (exclusiveTask task) task)
+  unfolding lineBy itemsMended
+  mended-said false board ready tail task fine says = says
+  mended-said true board ready tail task fine says =
+      let h : tail .holds ≡ someItems (tail .holds .stop) (task .holds) = rw all at (says .holds) in
+      record {
+        board = rw all (rw all at (says .board));
+        ready = rw all (rw all at (says .ready));
+        begin = rw all (rw all at (says .begin));
+        finish = rw all (rw all at (says .finish));
+        holds = rw all (items-mended (tail .holds) (task .holds) (omega (arith, holds-count (task .holds) fine)) h);
+        after = rw all (rw all at (says .after));
+      }
+
 pub read-says :
-    (ended : Bool) (edition boards tasks : ℕ) (line : List ℕ) (k : ℕ) → boards ≤ most → k ≤ most → tasks ≤ 64 → ended ≡ true
-    → LineFine edition boards tasks line k → LineSays (lineRead ended edition boards tasks line k) (lineTask edition line)
-unfolding lineRead lineTask
-read-says ended edition boards tasks line k few-boards few-k few there f =
-    let codes = taskCodes ended edition boards tasks line k in
-    let all = fine-line ended edition boards tasks line k few-boards few-k there f in
+    (mends ended : Bool) (edition boards tasks : ℕ) (line : List ℕ) (k : ℕ) → boards ≤ most → k ≤ most → tasks ≤ 64 → ended ≡ true
+    → LineFine mends edition boards tasks line k → LineSays (lineRead mends ended edition boards tasks line k) (lineTask mends edition line)
+unfolding lineRead lineTask taskFrom
+read-says mends ended edition boards tasks line k few-boards few-k few there f =
+    let codes = taskCodes mends ended edition boards tasks line k in
+    let all = fine-line mends ended edition boards tasks line k few-boards few-k there f in
     by-bool (eqb edition 2)
     (λ e.
-    let t : TimesOk tasks line 4 = rw e at (f .times) in
+    let t : TimesOk (not mends) tasks line 4 = rw e at (f .times) in
     let r = f .ready e in
     rw e
-    (by-said boards tasks line codes few-boards few all (f .head .board) (valueOf (field line 3)) 4 t
-    (value-of 0 most (field line 3) (omega arith) (record { spelt = r .0; from = omega arith; to = omega (arith, r .1, t .lasts, t .to) }))))
-    (λ e. rw e (by-said boards tasks line codes few-boards few all (f .head .board) 0 3 (rw e at (f .times)) refl))
+    (mended-said boards tasks line codes few-boards few all (f .head .board) mends _ _ (tailRead tasks line 4) _ (t .drives)
+    (by-said boards tasks line codes few-boards few all (f .head .board) (not mends) (valueOf (field line 3)) 4 t
+    (value-of 0 most (field line 3) (omega arith) (record { spelt = r .0; from = omega arith; to = omega (arith, r .1, t .lasts, t .to) })))))
+    (λ e. rw e (by-said boards tasks line codes few-boards few all (f .head .board) false 0 3 (rw e at (f .times)) refl))

@@ -2,7 +2,7 @@
 use Prim.Native.Nat.{ℕ, suc, _+_, _-_, _*_, _≤_, _<_}
 use mathlib.Core.Path.{_≡_, refl, sym, ap, _∙_}
 use mathlib.Core.Logic.{_≢_}
-use mathlib.Core.Bool.{true, false, cond}
+use mathlib.Core.Bool.{Bool, true, false, cond}
 use mathlib.Core.List.{List}
 use native.Mathlib.Omega.{arith}
 use lib.Dec.{ltb, leb}
@@ -104,20 +104,20 @@ list-put out at list f l e =
     e ∙ rw (le-leb (at + length (take (list .count) (list .items))) (length out) (omega (arith, f .fits)))
 
 -- k lines are read: what is known of them, and of the rest
-pub record Going (s : List ℕ) (k : ℕ) (board ready begin finish holds after rest : List ℕ) : Type 0 where
+pub record Going (mends : Bool) (s : List ℕ) (k : ℕ) (board ready begin finish holds after rest : List ℕ) : Type 0 where
   pub rest-is : rest ≡ skip (k + 1) s
-  pub passed : linesAnswer s ≡ scanTo isRefused granted (lineAnswer s) (k + 1) (tasksOf s + 1)
-  pub board-is : board ≡ column (λ i. textTask s i .board) k
-  pub ready-is : ready ≡ column (λ i. textTask s i .ready) k
-  pub begin-is : begin ≡ column (λ i. textTask s i .begin) k
-  pub finish-is : finish ≡ column (λ i. textTask s i .finish) k
-  pub holds-is : holds ≡ grid 32 2048 (λ i. textTask s i .holds) k
-  pub after-is : after ≡ grid 64 4096 (λ i. textTask s i .after) k
+  pub passed : linesAnswer mends s ≡ scanTo isRefused granted (lineAnswer mends s) (k + 1) (tasksOf s + 1)
+  pub board-is : board ≡ column (λ i. textTask mends s i .board) k
+  pub ready-is : ready ≡ column (λ i. textTask mends s i .ready) k
+  pub begin-is : begin ≡ column (λ i. textTask mends s i .begin) k
+  pub finish-is : finish ≡ column (λ i. textTask mends s i .finish) k
+  pub holds-is : holds ≡ grid 32 2048 (λ i. textTask mends s i .holds) k
+  pub after-is : after ≡ grid 64 4096 (λ i. textTask mends s i .after) k
 
-pub going-start : (s : List ℕ) {rest : List ℕ} → rest ≡ Split.after LF s
-    → Going s 0 (replicate 64 0) (replicate 64 0) (replicate 64 0) (replicate 64 0) (replicate 2048 0) (replicate 4096 0) rest
+pub going-start : (mends : Bool) (s : List ℕ) {rest : List ℕ} → rest ≡ Split.after LF s
+    → Going mends s 0 (replicate 64 0) (replicate 64 0) (replicate 64 0) (replicate 64 0) (replicate 2048 0) (replicate 4096 0) rest
 unfolding skipOn linesAnswer
-going-start s e = record {
+going-start mends s e = record {
   rest-is = e;
   passed = refl;
   board-is = column-start _;
@@ -128,114 +128,114 @@ going-start s e = record {
   after-is = grid-start 64 4096 _;
 }
 
-module _ (s : List ℕ) (k : ℕ) {board ready begin finish holds after rest : List ℕ} (g : Going s k board ready begin finish holds after rest) where
+module _ (mends : Bool) (s : List ℕ) (k : ℕ) {board ready begin finish holds after rest : List ℕ} (g : Going mends s k board ready begin finish holds after rest) where
   pub holds-whole : 2048 ≡ length holds
   holds-whole = sym (ap length (g .holds-is) ∙ grid-length 32 2048 _ k)
 
   pub after-whole : 4096 ≡ length after
   after-whole = sym (ap length (g .after-is) ∙ grid-length 64 4096 _ k)
 
-  module _ {edition boards tasks : ℕ} (first : FirstRead s edition boards tasks) (e : k ≡ tasks) where
+  module _ {edition boards tasks : ℕ} (first : FirstRead mends s edition boards tasks) (e : k ≡ tasks) where
     all : k ≡ tasksOf s
     all = e ∙ first .tasks-are
 
-    faultless : linesAnswer s ≡ granted
+    faultless : linesAnswer mends s ≡ granted
     faultless = g .passed ∙ scan-end _ _ _ (k + 1) (tasksOf s + 1) (omega (arith, all))
 
     rest-end : rest ≡ skip (tasksOf s + 1) s
     rest-end = g .rest-is ∙ ap (λ (n : ℕ). skip (n + 1) s) all
 
-    pub going-more : length rest ≢ 0 → refusedReading (refuse 5 (tasks + 2) 0) ≡ linesOf s
+    pub going-more : length rest ≢ 0 → refusedReading (refuse 5 (tasks + 2) 0) ≡ linesOf mends s
     going-more n =
         let left : length rest ≡ length (skip (tasksOf s + 1) s) = ap length rest-end in
         let more : ltb 0 (length (skip (tasksOf s + 1) s)) ≡ true = lt-ltb 0 (length (skip (tasksOf s + 1) s)) (omega (arith, left, n)) in
         let t = first .tasks-are in
-        reading-refused s (answer-lines s first ∙ rw (faultless, more, t)) (omega arith)
+        reading-refused mends s (answer-lines mends s first ∙ rw (faultless, more, t)) (omega arith)
 
     pub going-end :
         length rest ≡ 0
         → _≡_ {A = Reading} (record {
           answer = granted;
           plan = record { edition = edition; boards = boards; tasks = tasks; board = board; ready = ready; begin = begin; finish = finish; holds = holds; after = after };
-        }) (linesOf s)
+        }) (linesOf mends s)
     unfolding linesOf
     going-end z =
         let left : length rest ≡ length (skip (tasksOf s + 1) s) = ap length rest-end in
         let done : ltb 0 (length (skip (tasksOf s + 1) s)) ≡ false = le-ltb 0 (length (skip (tasksOf s + 1) s)) (omega (arith, left)) in
-        let answer : formAnswer s ≡ granted = answer-lines s first ∙ rw (faultless, done) in
-        rw (answer, plan-made (editionOf s) (boardsOf s) (tasksOf s) (textTask s))
+        let answer : formAnswer mends s ≡ granted = answer-lines mends s first ∙ rw (faultless, done) in
+        rw (answer, plan-made (editionOf s) (boardsOf s) (tasksOf s) (textTask mends s))
         (λ i. record {
           answer = granted;
           plan = record {
             edition = (first .edition-is) i;
             boards = (first .boards-are) i;
             tasks = (first .tasks-are) i;
-            board = (g .board-is ∙ ap (column (λ j. textTask s j .board)) all) i;
-            ready = (g .ready-is ∙ ap (column (λ j. textTask s j .ready)) all) i;
-            begin = (g .begin-is ∙ ap (column (λ j. textTask s j .begin)) all) i;
-            finish = (g .finish-is ∙ ap (column (λ j. textTask s j .finish)) all) i;
-            holds = (g .holds-is ∙ ap (grid 32 2048 (λ j. textTask s j .holds)) all) i;
-            after = (g .after-is ∙ ap (grid 64 4096 (λ j. textTask s j .after)) all) i;
+            board = (g .board-is ∙ ap (column (λ j. textTask mends s j .board)) all) i;
+            ready = (g .ready-is ∙ ap (column (λ j. textTask mends s j .ready)) all) i;
+            begin = (g .begin-is ∙ ap (column (λ j. textTask mends s j .begin)) all) i;
+            finish = (g .finish-is ∙ ap (column (λ j. textTask mends s j .finish)) all) i;
+            holds = (g .holds-is ∙ ap (grid 32 2048 (λ j. textTask mends s j .holds)) all) i;
+            after = (g .after-is ∙ ap (grid 64 4096 (λ j. textTask mends s j .after)) all) i;
           };
         })
 
-  module _ {edition boards tasks : ℕ} (first : FirstRead s edition boards tasks) (before-last : k < tasks) {line : Line} (said : line ≡ nextLine edition boards tasks rest (k + 1)) where
+  module _ {edition boards tasks : ℕ} (first : FirstRead mends s edition boards tasks) (before-last : k < tasks) {line : Line} (said : line ≡ nextLine mends edition boards tasks rest (k + 1)) where
     below : k < tasksOf s
     below = omega (arith, first .tasks-are)
 
-    l : line ≡ nextLine (editionOf s) (boardsOf s) (tasksOf s) rest (k + 1)
+    l : line ≡ nextLine mends (editionOf s) (boardsOf s) (tasksOf s) rest (k + 1)
     l = said ∙ rw (first .edition-is, first .boards-are, first .tasks-are)
 
     few : (boardsOf s ≤ 1000000) × (k + 1 ≤ 1000000)
     few = (omega (arith, first .few-boards, first .boards-are), omega (arith, first .few-tasks, before-last))
 
-    the-fault : line .fault ≡ faultOf (lineAt s (k + 1)) (taskCodes (hasLine (skip (k + 1) s)) (editionOf s) (boardsOf s) (tasksOf s) (lineAt s (k + 1)) (k + 1))
-    the-fault = rw (l, g .rest-is) (next-fault (editionOf s) (boardsOf s) (tasksOf s) (skip (k + 1) s) (k + 1) (few .0) (few .1))
+    the-fault : line .fault ≡ faultOf (lineAt s (k + 1)) (taskCodes mends (hasLine (skip (k + 1) s)) (editionOf s) (boardsOf s) (tasksOf s) (lineAt s (k + 1)) (k + 1))
+    the-fault = rw (l, g .rest-is) (next-fault mends (editionOf s) (boardsOf s) (tasksOf s) (skip (k + 1) s) (k + 1) (few .0) (few .1))
 
-    the-answer : lineAnswer s (k + 1) ≡ refuse (line .fault .code) (k + 2) (line .fault .column)
+    the-answer : lineAnswer mends s (k + 1) ≡ refuse (line .fault .code) (k + 2) (line .fault .column)
     unfolding lineAnswer
     the-answer = let e : k + 1 + 1 ≡ k + 2 = omega arith in rw (the-fault, e)
 
     -- the column is no larger than the text
     pub column-small : line .fault .column < 4294967296
     column-small =
-        let c = column-most (lineAt s (k + 1)) (taskCodes (hasLine (skip (k + 1) s)) (editionOf s) (boardsOf s) (tasksOf s) (lineAt s (k + 1)) (k + 1)) in
+        let c = column-most (lineAt s (k + 1)) (taskCodes mends (hasLine (skip (k + 1) s)) (editionOf s) (boardsOf s) (tasksOf s) (lineAt s (k + 1)) (k + 1)) in
         let e : line .fault .column ≡ _ = ap (λ (x : Fault). x .column) the-fault in
         omega (arith, c, e, index-le LF (skip (k + 1) s), length-take (indexOf LF (skip (k + 1) s)) (skip (k + 1) s), skip-le LF (k + 1) s, first .short)
 
-    pub going-refused : line .fault .code ≢ 0 → refusedReading (refuse (line .fault .code) (k + 2) (line .fault .column)) ≡ linesOf s
+    pub going-refused : line .fault .code ≢ 0 → refusedReading (refuse (line .fault .code) (k + 2) (line .fault .column)) ≡ linesOf mends s
     going-refused n =
-        let stops : isRefused (lineAnswer s (k + 1)) ≡ true = rw (the-answer, ne-eqb (line .fault .code) 0 n) in
-        let hit : linesAnswer s ≡ refuse (line .fault .code) (k + 2) (line .fault .column) =
+        let stops : isRefused (lineAnswer mends s (k + 1)) ≡ true = rw (the-answer, ne-eqb (line .fault .code) 0 n) in
+        let hit : linesAnswer mends s ≡ refuse (line .fault .code) (k + 2) (line .fault .column) =
         g .passed ∙ scan-hit _ _ _ (k + 1) (tasksOf s + 1) (omega (arith, below)) stops ∙ the-answer in
-        reading-refused s (answer-lines s first ∙ rw (hit, ne-eqb (line .fault .code) 0 n)) n
+        reading-refused mends s (answer-lines mends s first ∙ rw (hit, ne-eqb (line .fault .code) 0 n)) n
 
     module _ (z : line .fault .code ≡ 0) where
-      line-there : LineOk s k
-      line-there = line-ok s (first .sizes) k below (ap (λ (x : Answer). x .code) the-answer ∙ z)
+      line-there : LineOk mends s k
+      line-there = line-ok mends s (first .sizes) k below (ap (λ (x : Answer). x .code) the-answer ∙ z)
 
-      pub says : LineSays line (textTask s k)
+      pub says : LineSays line (textTask mends s k)
       unfolding nextLine
       says =
           rw (l, g .rest-is)
-          (read-says (hasLine (skip (k + 1) s)) (editionOf s) (boardsOf s) (tasksOf s) (lineAt s (k + 1)) (k + 1) (few .0) (few .1) (omega (arith, first .few-tasks, first .tasks-are))
+          (read-says mends (hasLine (skip (k + 1) s)) (editionOf s) (boardsOf s) (tasksOf s) (lineAt s (k + 1)) (k + 1) (few .0) (few .1) (omega (arith, first .few-tasks, first .tasks-are))
           (line-there .there) (line-there .fine))
 
-      pub fits : TaskFits (boardsOf s) (tasksOf s) (textTask s k)
-      fits = task-fits (boardsOf s) (tasksOf s) (textTask s k) (fine-task (editionOf s) (boardsOf s) (tasksOf s) (lineAt s (k + 1)) (k + 1) (line-there .fine))
+      pub fits : TaskFits (boardsOf s) (tasksOf s) (textTask mends s k)
+      fits = task-fits (boardsOf s) (tasksOf s) (textTask mends s k) (fine-task mends (editionOf s) (boardsOf s) (tasksOf s) (lineAt s (k + 1)) (k + 1) (line-there .fine))
 
       pub board-small : line .board < 256
       board-small = omega (arith, says .board, fits .board .1, first .few-boards, first .boards-are)
 
       pub holds-room : ListFits holds (32 * k) (line .holds)
       holds-room =
-          let n : line .holds .count ≡ length (textTask s k .holds) = ap (λ (x : Items). x .count) (says .holds) in
+          let n : line .holds .count ≡ length (textTask mends s k .holds) = ap (λ (x : Items). x .count) (says .holds) in
           let m : length holds ≡ 2048 = ap length (g .holds-is) ∙ grid-length 32 2048 _ k in
           record { few = omega (arith, fits .holds .room); fits = omega (arith, fits .holds .room, first .few-tasks) }
 
       pub after-room : ListFits after (64 * k) (line .after)
       after-room =
-          let n : line .after .count ≡ length (textTask s k .after) = ap (λ (x : Items). x .count) (says .after) in
+          let n : line .after .count ≡ length (textTask mends s k .after) = ap (λ (x : Items). x .count) (says .after) in
           let m : length after ≡ 4096 = ap length (g .after-is) ∙ grid-length 64 4096 _ k in
           record {
             few = omega (arith, fits .after .room, first .few-tasks, first .tasks-are);
@@ -248,7 +248,7 @@ module _ (s : List ℕ) (k : ℕ) {board ready begin finish holds after rest : L
       pub going-turn : {holds2 after2 rest2 : List ℕ}
           → holds2 ≡ sets holds (32 * k) (take (line .holds .count) (line .holds .items))
           → after2 ≡ sets after (64 * k) (take (line .after .count) (line .after .items)) → rest2 ≡ Split.after LF rest
-          → Going s (k + 1) (set board k (line .board)) (set ready k (line .ready)) (set begin k (line .begin)) (set finish k (line .finish)) holds2 after2 rest2
+          → Going mends s (k + 1) (set board k (line .board)) (set ready k (line .ready)) (set begin k (line .begin)) (set finish k (line .finish)) holds2 after2 rest2
       going-turn h a r = record {
         rest-is = r ∙ ap (Split.after LF) (g .rest-is) ∙ sym (skip-turn (k + 1) s);
         passed = g .passed ∙ scan-turn _ _ _ (k + 1) (tasksOf s + 1) (omega (arith, below)) (rw (the-answer, z));

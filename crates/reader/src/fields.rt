@@ -1,11 +1,12 @@
 // The fields of the first line and of a task line.
 ghost use mathlib.Core.Path.{_≡_};
+ghost use mathlib.Core.Bool.{false, not, cond};
 ghost use mathlib.Core.List.{_∷_};
 ghost use Prim.Native.Nat.{_≤_};
 ghost use Rattle.laws.specs.Split.{skipOn};
 ghost use Rattle.text.specs.Line.{TAB};
 ghost use Rattle.plan.specs.Read.{codesFrom, readyCode};
-ghost use Rattle.reader.specs.private.Fields.{sizesRead, noSizes, noLine, tailRead, readyAt, readyIn, lineBy, lineRead};
+ghost use Rattle.reader.specs.private.Fields.{sizesRead, noSizes, noLine, tailRead, readyAt, readyIn, holdsIn, itemsMended, tailMended, lineBy, lineRead};
 use crate::Line;
 use crate::Sizes;
 use crate::Tail;
@@ -17,6 +18,8 @@ use faults::is_faultless;
 use faults::read_ranged;
 use faults::word_code;
 use text::Items;
+use text::list::has_shared;
+use text::list::make_exclusive;
 use text::list::read_after;
 use text::list::read_holds;
 use text::part::TAB;
@@ -39,9 +42,19 @@ fn no_sizes() -> Sizes
     }
 }
 
+// A reading that mends takes edition 2 alone.
+fn lowest_edition(mends: bool) -> u32
+    ensures { λ r. ⌜ r ≡ cond mends 2 1 ⌝ }
+{
+    if mends {
+        return 2;
+    }
+    1
+}
+
 // The first line.
-pub(crate) fn read_sizes(line: &[u8]) -> Sizes
-    ensures { λ r. ⌜ r ≡ sizesRead (now (line .entry)) ⌝ }
+pub(crate) fn read_sizes(line: &[u8], mends: bool) -> Sizes
+    ensures { λ r. ⌜ r ≡ sizesRead mends (now (line .entry)) ⌝ }
 {
     if count_fields(line) != 4 {
         return no_sizes();
@@ -49,7 +62,7 @@ pub(crate) fn read_sizes(line: &[u8]) -> Sizes
     if !same(field(line, 0), b"plan") {
         return no_sizes();
     }
-    let edition = read_ranged(field(line, 1), 1, 2);
+    let edition = read_ranged(field(line, 1), lowest_edition(mends), 2);
     let boards = read_ranged(field(line, 2), 1, 8);
     let tasks = read_ranged(field(line, 3), 1, 64);
     if (edition.code != 0) | ((boards.code != 0) | (tasks.code != 0)) {
@@ -138,7 +151,7 @@ fn read_first<'a>(
     rest: &'a [u8],
 ) -> Line
     requires { ⌜ (tasks ≤ 64) × (now rest ≡ skipOn TAB 3 (now line)) ⌝ }
-    ensures { λ r. ⌜ r ≡ lineBy (now (line .entry)) (word ∷ number ∷ board .code ∷ codesFrom ended tasks (now (line .entry)) 3) (board .value) 0 (tailRead tasks (now (line .entry)) 3) ⌝ }
+    ensures { λ r. ⌜ r ≡ lineBy (now (line .entry)) (word ∷ number ∷ board .code ∷ codesFrom false ended tasks (now (line .entry)) 3) (board .value) 0 (tailRead tasks (now (line .entry)) 3) ⌝ }
 {
     let tail = read_tail(rest, tasks);
     let codes = [
@@ -164,9 +177,38 @@ fn ready_code(ready: Ranged, begin: u32) -> u8
     ready.code
 }
 
+// 20: a shared hold where it is retired.
+fn holds_code(holds: Items, retired: bool) -> u8
+    ensures { λ r. ⌜ r ≡ holdsIn retired holds ⌝ }
+{
+    let items = holds.items;
+    if (holds.code == 0) & (retired & has_shared(&items)) {
+        return 20;
+    }
+    holds.code
+}
+
+// A reading that mends makes `s` into `e`.
+fn mended(holds: Items, mends: bool) -> Items
+    ensures { λ r. ⌜ r ≡ itemsMended mends holds ⌝ }
+{
+    if !mends {
+        return holds;
+    }
+    let mut items = holds.items;
+    make_exclusive(&mut items);
+    Items {
+        code: holds.code,
+        stop: holds.stop,
+        count: holds.count,
+        items,
+    }
+}
+
 // A line of edition 2 past its board.
 fn read_second<'a>(
     line: &'a [u8],
+    mends: bool,
     ended: bool,
     tasks: u32,
     word: u8,
@@ -175,7 +217,7 @@ fn read_second<'a>(
     rest: &'a [u8],
 ) -> Line
     requires { ⌜ (tasks ≤ 64) × (now rest ≡ skipOn TAB 3 (now line)) ⌝ }
-    ensures { λ r. ⌜ r ≡ lineBy (now (line .entry)) (word ∷ number ∷ board .code ∷ readyCode (now (line .entry)) ∷ codesFrom ended tasks (now (line .entry)) 4) (board .value) (readyAt (now (line .entry))) (tailRead tasks (now (line .entry)) 4) ⌝ }
+    ensures { λ r. ⌜ r ≡ lineBy (now (line .entry)) (word ∷ number ∷ board .code ∷ readyCode (now (line .entry)) ∷ codesFrom (not mends) ended tasks (now (line .entry)) 4) (board .value) (readyAt (now (line .entry))) (tailMended mends (tailRead tasks (now (line .entry)) 4)) ⌝ }
 {
     let ready_field = part_before(rest, TAB);
     let ready = read_ranged(ready_field, 0, MOST);
@@ -187,16 +229,26 @@ fn read_second<'a>(
         ready_code(ready, tail.begin.value),
         tail.begin.code,
         tail.finish.code,
-        tail.holds.code,
+        holds_code(tail.holds, !mends),
         tail.after.code,
         end_code(line, 8, ended),
     ];
-    line_by(line, &codes, board.value, ready.value, tail)
+    let begin = tail.begin;
+    let finish = tail.finish;
+    let after = tail.after;
+    let says = Tail {
+        begin,
+        finish,
+        holds: mended(tail.holds, mends),
+        after,
+    };
+    line_by(line, &codes, board.value, ready.value, says)
 }
 
 // The k-th task line.
 pub(crate) fn read_line(
     line: &[u8],
+    mends: bool,
     ended: bool,
     edition: u32,
     boards: u32,
@@ -204,7 +256,7 @@ pub(crate) fn read_line(
     k: u32,
 ) -> Line
     requires { ⌜ tasks ≤ 64 ⌝ }
-    ensures { λ r. ⌜ r ≡ lineRead ended edition boards tasks (now (line .entry)) k ⌝ }
+    ensures { λ r. ⌜ r ≡ lineRead mends ended edition boards tasks (now (line .entry)) k ⌝ }
 {
     let word = part_before(line, TAB);
     let from_number = past(line, word.len());
@@ -216,7 +268,7 @@ pub(crate) fn read_line(
     let number = read_ranged(number_field, k, k);
     let board = read_ranged(board_field, 1, boards);
     if edition == 2 {
-        return read_second(line, ended, tasks, word_is, number.code, board, rest);
+        return read_second(line, mends, ended, tasks, word_is, number.code, board, rest);
     }
     read_first(line, ended, tasks, word_is, number.code, board, rest)
 }

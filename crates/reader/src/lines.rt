@@ -24,11 +24,27 @@ use text::part::past;
 use text::put::put_text;
 
 // The k-th task line, which begins the rest of the text and ends at the first LF.
-fn next_line(rest: &[u8], end: usize, edition: u32, boards: u32, tasks: u32, k: u32) -> Line
+fn next_line(
+    rest: &[u8],
+    end: usize,
+    mends: bool,
+    edition: u32,
+    boards: u32,
+    tasks: u32,
+    k: u32,
+) -> Line
     requires { ⌜ (tasks ≤ 64) × (end ≡ indexOf LF (now rest)) ⌝ }
-    ensures { λ r. ⌜ r ≡ nextLine edition boards tasks (now (rest .entry)) k ⌝ }
+    ensures { λ r. ⌜ r ≡ nextLine mends edition boards tasks (now (rest .entry)) k ⌝ }
 {
-    read_line(&rest[..end], end < rest.len(), edition, boards, tasks, k)
+    read_line(
+        &rest[..end],
+        mends,
+        end < rest.len(),
+        edition,
+        boards,
+        tasks,
+        k,
+    )
 }
 
 fn zero_plan() -> Plan
@@ -78,9 +94,9 @@ fn put_items(out: &mut [u8], at: usize, list: Items)
 }
 
 // The task lines, the rest of the text going on to the next line's reader.
-fn read_tasks(text: &[u8], edition: u32, boards: u32, tasks: u32) -> Reading
-    requires { ⌜ FirstRead (now text) edition boards tasks ⌝ }
-    ensures { λ r. ⌜ r ≡ linesOf (now (text .entry)) ⌝ }
+fn read_tasks(text: &[u8], mends: bool, edition: u32, boards: u32, tasks: u32) -> Reading
+    requires { ⌜ FirstRead mends (now text) edition boards tasks ⌝ }
+    ensures { λ r. ⌜ r ≡ linesOf mends (now (text .entry)) ⌝ }
 {
     let mut board = [0u8; 64];
     let mut ready = [0u32; 64];
@@ -92,7 +108,7 @@ fn read_tasks(text: &[u8], edition: u32, boards: u32, tasks: u32) -> Reading
     let mut k: u32 = 0;
     while k < tasks {
         let end = find(rest, LF);
-        let line = next_line(rest, end, edition, boards, tasks, k + 1);
+        let line = next_line(rest, end, mends, edition, boards, tasks, k + 1);
         let fault = line.fault;
         if fault.code != 0 {
             return refused(answer_of(fault.code as u32, k + 2, fault.column as u32));
@@ -127,9 +143,9 @@ fn read_tasks(text: &[u8], edition: u32, boards: u32, tasks: u32) -> Reading
     }
 }
 
-// The plan that the lines make, or the first refusal. Its pairs are not examined here.
-pub fn read_lines(text: &[u8]) -> Reading
-    ensures { λ r. ⌜ r ≡ linesOf (now (text .entry)) ⌝ }
+// The plan that the lines make, or the first refusal. Its pairs are not examined here. A reading that mends lets shared holds stand.
+pub fn read_lines(text: &[u8], mends: bool) -> Reading
+    ensures { λ r. ⌜ r ≡ linesOf mends (now (text .entry)) ⌝ }
 {
     if 32768 < text.len() {
         return refused(answer_of(1, 0, 0));
@@ -137,9 +153,9 @@ pub fn read_lines(text: &[u8]) -> Reading
     if find(text, LF) == text.len() {
         return refused(answer_of(2, 1, 0));
     }
-    let sizes = read_sizes(part_before(text, LF));
+    let sizes = read_sizes(part_before(text, LF), mends);
     if !sizes.ok {
         return refused(answer_of(2, 1, 0));
     }
-    read_tasks(text, sizes.edition, sizes.boards, sizes.tasks)
+    read_tasks(text, mends, sizes.edition, sizes.boards, sizes.tasks)
 }

@@ -1,15 +1,15 @@
 -- A line that is written reads back as what it was written from.
 use Prim.Native.Nat.{ℕ, zero, suc, _+_, _<_, _≤_}
 use mathlib.Core.List.{List, [], _∷_, _++_, append-assoc, append-nil}
-use mathlib.Core.Bool.{true, cond}
+use mathlib.Core.Bool.{Bool, true, false, cond}
 use mathlib.Core.Path.{_≡_, refl, sym, ap, _∙_}
 use native.Mathlib.Omega.{arith}
 use lib.ListN.{length, getD, length-append}
 use native.Mathlib.Nat.{add-zero}
 use lib.Dec.{eqb}
 use lib.Seq.{append-snoc, getD-append-add}
-use borrow.Author.Tests.{lt-ltb, eqb-true}
-use Rattle.laws.proofs.Cases.{by-bool, by-eq, and-of}
+use borrow.Author.Tests.{lt-ltb, eqb-true, not-true}
+use Rattle.laws.proofs.Cases.{by-bool, by-eq, and-of, true-false}
 use Rattle.laws.proofs.Conj.{conj-at}
 use Rattle.laws.specs.Digits.{digitsOf}
 use Rattle.laws.proofs.Digits.{value-digits}
@@ -22,7 +22,7 @@ use Rattle.text.proofs.Lists.{free-join, holds-back, holds-free, after-back, af
 use Rattle.text.specs.Bytes.{bytes}
 use Rattle.text.specs.Number.{valueOf}
 use Rattle.text.specs.Line.{TAB, LF, hasLine, skip, fields, field, lineText}
-use Rattle.text.specs.Items.{holdsOk, afterOk}
+use Rattle.text.specs.Items.{hasShared, holdsOk, afterOk}
 use Rattle.text.proofs.ListFields.{holdsOf, afterOf}
 use Rattle.plan.specs.Task.{Task, numbersOk, taskOk, editionOk}
 use Rattle.plan.specs.Read.{ranged, sizesOk, taskFrom, lineTask}
@@ -78,7 +78,7 @@ module _ (edition boards tasks : ℕ) where
 
   pub sizes-read :
       (1 ≤ edition) × (edition ≤ 2) → (1 ≤ boards) × (boards ≤ 8) → (1 ≤ tasks) × (tasks ≤ 64)
-      → sizesOk (joinOn TAB (sizesFields edition boards tasks)) ≡ true
+      → sizesOk false (joinOn TAB (sizesFields edition boards tasks)) ≡ true
   unfolding sizesOk
   sizes-read e b t =
       rw sizes-fields
@@ -128,8 +128,10 @@ module _ (line : List ℕ) (front : List (List ℕ)) (task : Task) (split : fiel
   begins : field line place ≡ digitsOf (task .begin)
   begins = rw add-zero at (from-front 0)
 
-  times-back : (boards tasks : ℕ) → taskOk boards tasks task ≡ true → TimesOk tasks line place
-  times-back boards tasks ok =
+  times-back :
+      (retired : Bool) (boards tasks : ℕ) → taskOk boards tasks task ≡ true → (retired ≡ true → hasShared (task .holds) ≡ false)
+      → TimesOk retired tasks line place
+  times-back retired boards tasks ok none =
       let fits = task-fits boards tasks task ok in
       let rules = conj-at (numbersOk boards task ∷ holdsOk (task .holds) ∷ afterOk tasks (task .after) ∷ []) ok in
       record {
@@ -139,6 +141,7 @@ module _ (line : List ℕ) (front : List (List ℕ)) (task : Task) (split : fiel
         to = rw (from-front 1, value-digits) (fits .ends);
         holds = rw (from-front 2) (holds-back (task .holds) .0);
         drives = rw (from-front 2, holds-back (task .holds) .1) (rules 1 (omega arith));
+        exclusive = λ r. rw (from-front 2, holds-back (task .holds) .1) (none r);
         after = rw (from-front 3) (after-back (task .after) .0);
         order = rw (from-front 3, after-back (task .after) .1) (rules 2 (omega arith));
         count = rw (split, length-append);
@@ -159,7 +162,7 @@ module _ (line : List ℕ) (front : List (List ℕ)) (task : Task) (split : fiel
 -- a line with the fields of a task reads back as the task
 module _
     (edition number : ℕ) (task : Task) (line : List ℕ) (whole : fields line ≡ taskFields edition number task)
-    (boards tasks : ℕ) (ok : taskOk boards tasks task ≡ true)
+    (boards tasks : ℕ) (ok : taskOk boards tasks task ≡ true) (allowed : editionOk edition task ≡ true)
   where
     abbrev front : List (List ℕ)
     front = (bytes "task") ∷ digitsOf number ∷ digitsOf (task .board) ∷ []
@@ -184,13 +187,13 @@ module _
           };
         }
 
-    pub task-fine : LineFine edition boards tasks line number
+    pub task-fine : LineFine false edition boards tasks line number
     task-fine =
         record {
           head = head-back;
           times = by-bool (eqb edition 2)
-              (λ e. rw e (times-back line (front ++ (digitsOf (task .ready) ∷ [])) task (rw e at whole) boards tasks ok))
-              (λ e. rw e (times-back line front task (rw e at whole) boards tasks ok));
+              (λ e. rw e (times-back line (front ++ (digitsOf (task .ready) ∷ [])) task (rw e at whole) true boards tasks ok (λ r. not-true (hasShared (task .holds)) (rw e at allowed))))
+              (λ e. rw e (times-back line front task (rw e at whole) false boards tasks ok (λ r. true-false r refl)));
           ready = λ e.
               let starts : field line 4 ≡ digitsOf (task .begin) = rw (whole, e) in (
                 rw (ready-field e) (digits-number (task .ready)),
@@ -198,9 +201,9 @@ module _
               );
         }
 
-    pub task-back : editionOk edition task ≡ true → lineTask edition line ≡ task
+    pub task-back : lineTask false edition line ≡ task
     unfolding lineTask
-    task-back allowed =
+    task-back =
         by-bool (eqb edition 2)
         (λ e.
         rw e

@@ -1,7 +1,7 @@
 -- The lines of a text, and a line that is well formed: it is the text of what it says.
 use Prim.Native.Nat.{ℕ, _+_}
 use mathlib.Core.List.{List, [], _∷_, _++_}
-use mathlib.Core.Bool.{true}
+use mathlib.Core.Bool.{Bool, true, false}
 use mathlib.Core.Path.{_≡_, sym, ap, _∙_}
 use native.Mathlib.Omega.{arith}
 use lib.ListN.{length}
@@ -44,19 +44,19 @@ fields-joined line parts n count own =
 
 -- the first line is the text of its numbers
 pub sizes-spelt :
-    (line : List ℕ) → sizesOk line ≡ true
+    (line : List ℕ) → sizesOk false line ≡ true
     → sizesText (valueOf (field line 1)) (valueOf (field line 2)) (valueOf (field line 3)) ≡ line ++ (LF ∷ [])
 unfolding sizesText
 sizes-spelt line h =
-    let p : field line 0 ≡ (bytes "plan") = same-eq (field line 0) (bytes "plan") (sizes-test line h 1 (omega arith)) in
-    let e = number-range 1 2 (field line 1) (sizes-test line h 2 (omega arith)) in
-    let b = number-range 1 8 (field line 2) (sizes-test line h 3 (omega arith)) in
-    let t = number-range 1 64 (field line 3) (sizes-test line h 4 (omega arith)) in
-    fields-joined line _ 4 (eqb-true (length (fields line)) 4 (sizes-test line h 0 (omega arith))) (cc (p, e .0, b .0, t .0))
+    let p : field line 0 ≡ (bytes "plan") = same-eq (field line 0) (bytes "plan") (sizes-test false line h 1 (omega arith)) in
+    let e = number-range 1 2 (field line 1) (sizes-test false line h 2 (omega arith)) in
+    let b = number-range 1 8 (field line 2) (sizes-test false line h 3 (omega arith)) in
+    let t = number-range 1 64 (field line 3) (sizes-test false line h 4 (omega arith)) in
+    fields-joined line _ 4 (eqb-true (length (fields line)) 4 (sizes-test false line h 0 (omega arith))) (cc (p, e .0, b .0, t .0))
 
 -- the fields from the planned start on, which is field n
 times-spelt :
-    (tasks : ℕ) (line : List ℕ) (ready n : ℕ) → TimesOk tasks line n
+    {retired : Bool} (tasks : ℕ) (line : List ℕ) (ready n : ℕ) → TimesOk retired tasks line n
     → fieldsFrom (taskFrom line ready n) ≡ field line n ∷ field line (n + 1) ∷ field line (n + 2) ∷ field line (n + 3) ∷ []
 unfolding taskFrom
 times-spelt tasks line ready n t =
@@ -68,8 +68,8 @@ times-spelt tasks line ready n t =
 
 -- a task line is the text of its number and its task
 pub task-spelt :
-    (edition boards tasks : ℕ) (line : List ℕ) (k : ℕ) → LineFine edition boards tasks line k
-    → taskText edition k (lineTask edition line) ≡ line ++ (LF ∷ [])
+    (edition boards tasks : ℕ) (line : List ℕ) (k : ℕ) → LineFine false edition boards tasks line k
+    → taskText edition k (lineTask false edition line) ≡ line ++ (LF ∷ [])
 unfolding taskText lineTask taskFrom
 task-spelt edition boards tasks line k f =
     let w : field line 0 ≡ (bytes "task") = same-eq (field line 0) (bytes "task") (f .head .word) in
@@ -77,11 +77,11 @@ task-spelt edition boards tasks line k f =
     let n2 = number-spelt (field line 2) (f .head .board .spelt) in
     by-bool (eqb edition 2)
     (λ e.
-    let t : TimesOk tasks line 4 = rw e at (f .times) in
+    let t : TimesOk true tasks line 4 = rw e at (f .times) in
     let r = number-spelt (field line 3) (f .ready e .0) in
     let later = times-spelt tasks line (valueOf (field line 3)) 4 t in
     rw e (fields-joined line _ 8 (t .count) (cc)))
     (λ e.
-    let t : TimesOk tasks line 3 = rw e at (f .times) in
+    let t : TimesOk false tasks line 3 = rw e at (f .times) in
     let later = times-spelt tasks line 0 3 t in
     rw e (fields-joined line _ 7 (t .count) (cc)))

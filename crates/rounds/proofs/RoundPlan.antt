@@ -1,7 +1,7 @@
 -- The text of an accepted plan is short enough, and reads back as the plan.
 use Prim.Native.Nat.{ℕ, _+_, _<_, _≤_}
 use mathlib.Core.List.{List, [], _++_, append-nil}
-use mathlib.Core.Bool.{true}
+use mathlib.Core.Bool.{true, false}
 use mathlib.Core.Path.{_≡_, sym, ap, _∙_}
 use native.Mathlib.Omega.{arith}
 use native.Mathlib.Numerals.{add-one}
@@ -10,7 +10,7 @@ use Rattle.laws.proofs.Digits.{value-digits}
 use Rattle.laws.specs.Split.{before, joinOn, skipOn}
 use Rattle.text.specs.Line.{TAB, LF, hasLine, skip, lineAt, fields}
 use Rattle.plan.specs.Answer.{granted}
-use Rattle.plan.specs.Task.{taskOk}
+use Rattle.plan.specs.Task.{taskOk, editionOk}
 use Rattle.plan.specs.Judged.{tasksAnswer}
 use Rattle.plan.specs.Value.{taskAt, planOf, isAccepted}
 use Rattle.plan.specs.Read.{sizesOk, editionOf, boardsOf, tasksOf, lineTask, textTask, readingOf}
@@ -26,7 +26,7 @@ use Rattle.rounds.proofs.RoundLength.{task-length, texts-length, sizes-
 use Rattle.plan.proofs.ReadOk.{LineOk, TextOk, ok-text, read-answer, read-plan}
 
 fine-at :
-    {d e b c m n : ℕ} {line : List ℕ} {k : ℕ} → d ≡ e → b ≡ c → m ≡ n → LineFine e c n line k → LineFine d b m line k
+    {d e b c m n : ℕ} {line : List ℕ} {k : ℕ} → d ≡ e → b ≡ c → m ≡ n → LineFine false e c n line k → LineFine false d b m line k
 fine-at p q r f = rw (p, q, r) f
 
 module _ (plan : Plan) (ok : isAccepted plan ≡ true) where
@@ -38,6 +38,9 @@ module _ (plan : Plan) (ok : isAccepted plan ≡ true) where
 
   task-ok : (k : ℕ) → k < plan .tasks → taskOk (plan .boards) (plan .tasks) (taskAt plan k) ≡ true
   task-ok k h = task-kept plan k (facts .kept k h) .task
+
+  edition-ok : (k : ℕ) → k < plan .tasks → editionOk edition (taskAt plan k) ≡ true
+  edition-ok k h = task-kept plan k (facts .kept k h) .edition
 
   -- its text may be handed in
   pub text-length : length (textOf plan) ≤ 32768
@@ -93,31 +96,32 @@ module _ (plan : Plan) (ok : isAccepted plan ≡ true) where
     line-fields = ap fields task-line ∙ task-fields edition (k + 1) (taskAt plan k)
 
     -- its tasks
-    pub text-task : textTask (textOf plan) k ≡ taskAt plan k
+    pub text-task : textTask false (textOf plan) k ≡ taskAt plan k
     text-task =
-        ap (λ (e : ℕ). lineTask e (lineAt (textOf plan) (k + 1))) text-edition
+        ap (λ (e : ℕ). lineTask false e (lineAt (textOf plan) (k + 1))) text-edition
         ∙ task-back edition (k + 1) (taskAt plan k) (lineAt (textOf plan) (k + 1)) line-fields (plan .boards) (plan .tasks) (task-ok k h)
-        (task-kept plan k (facts .kept k h) .edition)
+        (edition-ok k h)
 
-    line-kept : LineOk (textOf plan) k
+    line-kept : LineOk false (textOf plan) k
     line-kept = record {
       there = task-has;
       fine = fine-at text-edition text-boards text-tasks
-          (task-fine edition (k + 1) (taskAt plan k) (lineAt (textOf plan) (k + 1)) line-fields (plan .boards) (plan .tasks) (task-ok k h));
+          (task-fine edition (k + 1) (taskAt plan k) (lineAt (textOf plan) (k + 1)) line-fields (plan .boards) (plan .tasks) (task-ok k h)
+          (edition-ok k h));
     }
 
-  text-kept : TextOk (textOf plan)
+  text-kept : TextOk false (textOf plan)
   text-kept = record {
     form = record {
       short = text-length;
       first = first-has;
-      sizes = ap sizesOk first-line
+      sizes = ap (sizesOk false) first-line
           ∙ sizes-read edition (plan .boards) (plan .tasks) (facts .edition) (facts .boards) (facts .tasks);
       lines = λ k h. line-kept k (rw text-tasks at h);
       ends = ap length (ap (λ (n : ℕ). skip (n + 1) (textOf plan)) text-tasks ∙ text-rest (plan .tasks) ∙ none);
     };
-    judged = ap (λ (n : ℕ). tasksAnswer n (textTask (textOf plan))) text-tasks
-        ∙ tasks-same (plan .tasks) (textTask (textOf plan)) (taskAt plan) text-task
+    judged = ap (λ (n : ℕ). tasksAnswer n (textTask false (textOf plan))) text-tasks
+        ∙ tasks-same (plan .tasks) (textTask false (textOf plan)) (taskAt plan) text-task
         ∙ tasks-granted (plan .tasks) (taskAt plan) (accepted-tasks plan ok);
   }
     where
@@ -127,12 +131,12 @@ module _ (plan : Plan) (ok : isAccepted plan ≡ true) where
   -- it reads back as the plan
   pub plan-back : SizedPlan plan → readingOf (textOf plan) ≡ record { answer = granted; plan = plan }
   plan-back size =
-      let z = ok-text (textOf plan) text-kept in
+      let z = ok-text false (textOf plan) text-kept in
       let p =
-      read-plan (textOf plan) (ap (λ (x : Answer). x .code) z)
-      ∙ ap (λ (e : ℕ). planOf e (boardsOf (textOf plan)) (tasksOf (textOf plan)) (textTask (textOf plan))) text-edition
-      ∙ ap (λ (b : ℕ). planOf edition b (tasksOf (textOf plan)) (textTask (textOf plan))) text-boards
-      ∙ ap (λ (n : ℕ). planOf edition (plan .boards) n (textTask (textOf plan))) text-tasks
-      ∙ planOf-same edition (plan .boards) (plan .tasks) (textTask (textOf plan)) (taskAt plan) text-task
+      read-plan false (textOf plan) (ap (λ (x : Answer). x .code) z)
+      ∙ ap (λ (e : ℕ). planOf e (boardsOf (textOf plan)) (tasksOf (textOf plan)) (textTask false (textOf plan))) text-edition
+      ∙ ap (λ (b : ℕ). planOf edition b (tasksOf (textOf plan)) (textTask false (textOf plan))) text-boards
+      ∙ ap (λ (n : ℕ). planOf edition (plan .boards) n (textTask false (textOf plan))) text-tasks
+      ∙ planOf-same edition (plan .boards) (plan .tasks) (textTask false (textOf plan)) (taskAt plan) text-task
       ∙ planOf-own plan size (accepted-ranges plan ok) in
-      λ i. record { answer = (read-answer (textOf plan) ∙ z) i; plan = p i }
+      λ i. record { answer = (read-answer false (textOf plan) ∙ z) i; plan = p i }

@@ -1,5 +1,6 @@
 -- An accepted text is the text of the plan that it reads as, byte for byte.
 use Prim.Native.Nat.{ℕ, zero, suc, _+_, _<_, _≤_}
+use mathlib.Core.Bool.{false}
 use mathlib.Core.List.{List, [], _++_, append-assoc, append-nil}
 use mathlib.Core.Path.{_≡_, refl, sym, ap, _∙_}
 use native.Mathlib.Omega.{arith}
@@ -21,15 +22,15 @@ unfolding taskTexts
 texts-same edition task other zero e = refl
 texts-same edition task other (suc n) e = rw (texts-same edition task other n (λ k h. e k (omega arith)), e n (omega arith))
 
-module _ (s : List ℕ) (z : textAnswer s .code ≡ 0) where
+module _ (s : List ℕ) (z : textAnswer false s .code ≡ 0) where
   -- its task lines are the lines of the text
-  read-lines : (n : ℕ) → n ≤ tasksOf s → taskTexts (editionOf s) (textTask s) n ++ skip (n + 1) s ≡ skip 1 s
+  read-lines : (n : ℕ) → n ≤ tasksOf s → taskTexts (editionOf s) (textTask false s) n ++ skip (n + 1) s ≡ skip 1 s
   unfolding taskTexts
   read-lines zero h = refl
   read-lines (suc n) h =
-      let l = text-ok s z .form .lines n h in
+      let l = text-ok false s z .form .lines n h in
       let e : suc n + 1 ≡ n + 1 + 1 = omega arith in
-      append-assoc (taskTexts (editionOf s) (textTask s) n) (taskText (editionOf s) (n + 1) (textTask s n)) (skip (suc n + 1) s)
+      append-assoc (taskTexts (editionOf s) (textTask false s) n) (taskText (editionOf s) (n + 1) (textTask false s n)) (skip (suc n + 1) s)
       ∙ rw (e, task-spelt (editionOf s) (boardsOf s) (tasksOf s) (lineAt s (n + 1)) (n + 1) (l .fine), line-joined s (n + 1) (l .there))
       (read-lines n (omega arith))
 
@@ -38,11 +39,11 @@ module _ (s : List ℕ) (z : textAnswer s .code ≡ 0) where
   unfolding textOf planOf skipOn
   read-back =
       let n : ℕ = tasksOf s in
-      let none : skip (n + 1) s ≡ [] = sym (take-all 0 (skip (n + 1) s) (omega (arith, text-ok s z .form .ends))) in
-      let lines : taskTexts (editionOf s) (textTask s) n ≡ skip 1 s =
-      sym (append-nil (taskTexts (editionOf s) (textTask s) n))
-      ∙ ap (λ (r : List ℕ). taskTexts (editionOf s) (textTask s) n ++ r) (sym none)
+      let none : skip (n + 1) s ≡ [] = sym (take-all 0 (skip (n + 1) s) (omega (arith, text-ok false s z .form .ends))) in
+      let lines : taskTexts (editionOf s) (textTask false s) n ≡ skip 1 s =
+      sym (append-nil (taskTexts (editionOf s) (textTask false s) n))
+      ∙ ap (λ (r : List ℕ). taskTexts (editionOf s) (textTask false s) n ++ r) (sym none)
       ∙ read-lines n (omega arith) in
-      ap textOf (read-plan s z)
-      ∙ rw (texts-same (editionOf s) (taskAt (textPlan s)) (textTask s) n (form-task s (text-ok s z .form)), lines, sizes-spelt (lineAt s 0) (text-ok s z .form .sizes))
-      (line-joined s 0 (text-ok s z .form .first))
+      ap textOf (read-plan false s z)
+      ∙ rw (texts-same (editionOf s) (taskAt (textPlan false s)) (textTask false s) n (form-task false s (text-ok false s z .form)), lines, sizes-spelt (lineAt s 0) (text-ok false s z .form .sizes))
+      (line-joined s 0 (text-ok false s z .form .first))

@@ -1,12 +1,12 @@
 -- The front of a buffer that the whole log was written into.
 use Prim.Native.Nat.{ℕ, _≤_}
-use mathlib.Core.Path.{_≡_, _∙_, sym, ap}
+use mathlib.Core.Path.{_≡_, _∙_, ap}
 use mathlib.Core.List.{List}
 use native.Mathlib.Omega.{arith}
-use lib.ListN.{length, take, drop}
-use lib.Seq.{sets, take-at}
+use lib.ListN.{length, take}
+use lib.Seq.{sets}
 use borrow.Author.Tests.{le-leb}
-use Rattle.laws.proofs.Blank.{sets-front}
+use Rattle.laws.proofs.Sets.{front-is}
 use Rattle.log.specs.Log.{logOf, logMost, logIn}
 
 module _
@@ -20,6 +20,4 @@ module _
     count-all = count ∙ ap length all
 
     pub ran-front : take r written ≡ logOf plan ends
-    ran-front =
-        ap (take r) (bytes ∙ ap (sets out 0) all ∙ sets-front (logOf plan ends) out (omega (arith, count-all, size, small)))
-        ∙ take-at (logOf plan ends) (drop (length (logOf plan ends)) out) r (sym count-all)
+    ran-front = ap (take r) (bytes ∙ ap (sets out 0) all) ∙ front-is (logOf plan ends) out r count-all (omega (arith, count-all, size, small))

@@ -7,3 +7,4 @@ pub mod Numerals
 pub mod ListFields
 pub mod Lists
 pub mod Answers
+pub mod Shared

@@ -3,7 +3,7 @@ use Prim.Native.Nat.{ℕ, _+_, _*_, _/_, _%_, min}
 use mathlib.Core.Bool.{Bool, false, not, cond, _&&_, _||_}
 use mathlib.Core.List.{List, [], _∷_, map}
 use lib.Dec.{leb, eqb}
-use Rattle.laws.specs.Lists.{allOf, firstNot, rising, same}
+use Rattle.laws.specs.Lists.{allOf, anyOf, firstNot, rising, same}
 use Rattle.laws.specs.Split.{beginOf, splitOn, joinOn}
 use Rattle.laws.specs.Digits.{digitsOf}
 use Rattle.text.specs.Bytes.{bytes}
@@ -39,6 +39,13 @@ driveOf h = h / 2
 
 abbrev pub isShared : ℕ → Bool
 isShared h = eqb (h % 2) 1
+
+unfoldable pub hasShared : List ℕ → Bool
+hasShared holds = anyOf isShared holds
+
+-- `s` made `e`
+abbrev pub exclusive : ℕ → ℕ
+exclusive h = driveOf h * 2
 
 -- each `e` (exclusive) or `s` (shared) and a drive number
 unfoldable pub isHold : List ℕ → Bool

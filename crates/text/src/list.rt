@@ -2,11 +2,12 @@
 // An item is a number, and in a lettered list, that of the holds, a number after its letter `e` or `s`.
 ghost use mathlib.Core.Path.{_≡_};
 ghost use mathlib.Core.Bool.{true, cond};
+ghost use mathlib.Core.List.{map};
 ghost use Prim.Native.Nat.{_≤_};
 ghost use Rattle.laws.specs.Lists.{allOf};
 ghost use Rattle.laws.specs.Split.{splitOn};
 ghost use Rattle.text.specs.Number.{valueOf};
-ghost use Rattle.text.specs.Items.{COMMA, noItems, holdsRead, afterRead};
+ghost use Rattle.text.specs.Items.{COMMA, hasShared, exclusive, noItems, holdsRead, afterRead};
 ghost use Rattle.text.specs.private.Lettered.{startsItem, isItem, itemOf, digitsIn, itemNumber, itemStop, partsStop, itemsRead, listRead};
 use crate::Items;
 use crate::Number;
@@ -162,6 +163,34 @@ fn read_list(s: &[u8], lettered: bool, high: u32) -> Items
         return no_items(0, 1);
     }
     read_items(s, lettered, high)
+}
+
+// Is one of the holds shared? A walk that gathers to its end can use wide instructions.
+pub fn has_shared(holds: &[u8]) -> bool
+    ensures { λ r. ⌜ r ≡ hasShared (now (holds .entry)) ⌝ }
+{
+    let mut seen = false;
+    let mut i = 0;
+    while i < holds.len() {
+        seen = (holds[i] % 2 == 1) | seen;
+        i += 1;
+    }
+    seen
+}
+
+fn exclusive(hold: u8) -> u8
+    ensures { λ r. ⌜ r ≡ exclusive hold ⌝ }
+{
+    hold / 2 * 2
+}
+
+// Each hold exclusive; a place that keeps nothing keeps nothing.
+pub fn make_exclusive(holds: &mut [u8])
+    ensures { λ _. ⌜ now (holds .exit) ≡ map exclusive (now (holds .entry)) ⌝ }
+{
+    for i in 0..holds.len() {
+        holds[i] = exclusive(holds[i]);
+    }
 }
 
 pub fn read_holds(field: &[u8]) -> Items

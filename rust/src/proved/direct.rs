@@ -1,6 +1,6 @@
 //! The library, linked and called over the C ABI. Plans and books cross by value.
 
-use super::{Function, Measured, Register};
+use super::{Function, Measured, Register, REGISTERS};
 use crate::values::{Answer, Book, Dropped, Figure, Opening, Plan, Reading, Reported, Written};
 use std::arch::asm;
 use std::ptr;
@@ -19,6 +19,14 @@ extern "C" {
         plan_length: usize,
         ends: *const u8,
         ends_length: usize,
+        out: *mut u8,
+        length: usize,
+    ) -> usize;
+    fn dispatch_convert(plan: Plan) -> Reading;
+    fn dispatch_read_exclusive(text: *const u8, length: usize) -> Reading;
+    fn dispatch_convert_text(
+        text: *const u8,
+        text_length: usize,
         out: *mut u8,
         length: usize,
     ) -> usize;
@@ -71,6 +79,19 @@ pub fn write_log(plan: &[u8], ends: &[u8], out: &mut [u8]) -> usize {
     }
 }
 
+pub fn convert(plan: &Plan) -> Reading {
+    unsafe { dispatch_convert(*plan) }
+}
+
+pub fn read_exclusive(text: &[u8]) -> Reading {
+    unsafe { dispatch_read_exclusive(text.as_ptr(), text.len()) }
+}
+
+/// Writes what `convert` prints into the buffer and answers its length.
+pub fn write_converted(text: &[u8], out: &mut [u8]) -> usize {
+    unsafe { dispatch_convert_text(text.as_ptr(), text.len(), out.as_mut_ptr(), out.len()) }
+}
+
 /// Larger than any call may take, so that too deep a call is measured and not a crash.
 const OWN_STACK: usize = 524_288;
 const PATTERN: u128 = 0xa5a5_5a5a_c3c3_3c3c_a5a5_5a5a_c3c3_3c3c;
@@ -87,6 +108,9 @@ fn address_of(function: Function) -> *const () {
         Function::Drop => dispatch_drop as *const (),
         Function::MinimumEarly => dispatch_minimum_early as *const (),
         Function::RunLog => dispatch_run_log as *const (),
+        Function::Convert => dispatch_convert as *const (),
+        Function::ReadExclusive => dispatch_read_exclusive as *const (),
+        Function::ConvertText => dispatch_convert_text as *const (),
         Function::Nothing => nothing as *const (),
         Function::KnownFrame => known_frame as *const (),
     }
@@ -99,8 +123,8 @@ unsafe extern "C" fn known_frame() {
     std::hint::black_box(&mut [1u8; 20_000]);
 }
 
-/// Calls the function with one value in memory and three registers, on a stack of our own.
-pub fn measure(function: Function, in_memory: &[u8], registers: [Register; 3]) -> Measured {
+/// Calls the function with one value in memory and these registers, on a stack of our own.
+pub fn measure(function: Function, in_memory: &[u8], registers: [Register; REGISTERS]) -> Measured {
     // No other answer in memory is larger, and each has its code first.
     let mut place = Box::new(Reported {
         answer: Answer::UNSOUND,
@@ -133,7 +157,7 @@ pub fn measure(function: Function, in_memory: &[u8], registers: [Register; 3]) -
 }
 
 /// The result register after a call on the stack that begins below `at`.
-unsafe fn call_on(at: *mut u128, function: *const (), registers: [usize; 3]) -> u64 {
+unsafe fn call_on(at: *mut u128, function: *const (), registers: [usize; REGISTERS]) -> u64 {
     let result: u64;
     // r12 is kept by every C function, so the way back is in it.
     unsafe {
@@ -146,6 +170,7 @@ unsafe fn call_on(at: *mut u128, function: *const (), registers: [usize; 3]) -> 
             in("rdi") registers[0],
             in("rsi") registers[1],
             in("rdx") registers[2],
+            in("rcx") registers[3],
             lateout("rax") result,
             clobber_abi("C"),
         );

@@ -1,7 +1,7 @@
 //! The library, called by a peer: the x86-64 program of `peer/peer.c`, which the
 //! toolchain's emulator runs and which says there how requests and answers look.
 
-use super::{Function, Measured, Register};
+use super::{Function, Measured, Register, REGISTERS};
 use crate::values::{Book, Dropped, Figure, Opening, Plan, Reading, Reported, Written};
 use std::cell::RefCell;
 use std::io::{BufReader, Error, Read, Write};
@@ -54,8 +54,23 @@ pub fn write_log(plan: &[u8], ends: &[u8], out: &mut [u8]) -> usize {
     length as usize
 }
 
-/// Calls the function with one value in memory and three registers, on a stack of its own.
-pub fn measure(function: Function, in_memory: &[u8], registers: [Register; 3]) -> Measured {
+pub fn convert(plan: &Plan) -> Reading {
+    Request::to(Function::Convert).value(plan).answer()
+}
+
+pub fn read_exclusive(text: &[u8]) -> Reading {
+    Request::to(Function::ReadExclusive).slice(text).answer()
+}
+
+/// Writes what `convert` prints into the buffer and answers its length.
+pub fn write_converted(text: &[u8], out: &mut [u8]) -> usize {
+    let request = Request::to(Function::ConvertText).slice(text).slice(out);
+    let length: u64 = request.answer_and_lent(out);
+    length as usize
+}
+
+/// Calls the function with one value in memory and these registers, on a stack of its own.
+pub fn measure(function: Function, in_memory: &[u8], registers: [Register; REGISTERS]) -> Measured {
     let mut request = Request::with(b'?').value(&(function as u8));
     request = request.slice(in_memory);
     for register in registers {

@@ -8,16 +8,30 @@ task\t3\t1\t8\t9\te1\t1,2
 ";
 
 const PLAN_2: &str = "plan\t2\t2\t3
-task\t1\t1\t0\t0\t5\te1,s3\t-
-task\t2\t2\t3\t5\t7\ts3\t1
+task\t1\t1\t0\t0\t5\te1,e3\t-
+task\t2\t2\t3\t5\t7\te3\t1
 task\t3\t1\t8\t8\t9\te1\t1,2
 ";
 
 /// Its last task is ready after its planned start, which faults beside it hide.
 const READY_TOO_LATE: &str = "plan\t2\t2\t3
-task\t1\t1\t0\t0\t5\te1,s3\t-
-task\t2\t2\t3\t5\t7\ts3\t1
+task\t1\t1\t0\t0\t5\te1,e3\t-
+task\t2\t2\t3\t5\t7\te3\t1
 task\t3\t1\t9\t8\t9\te1\t1,2
+";
+
+/// Its last task shares a drive, which faults beside it and in the line before hide.
+const SHARED: &str = "plan\t2\t2\t3
+task\t1\t1\t0\t0\t5\te1,e3\t-
+task\t2\t2\t3\t5\t7\te3\t1
+task\t3\t1\t8\t8\t9\te1,s2\t1,2
+";
+
+/// Its last task shares a drive, which hides that it is ready too late.
+const SHARED_AND_TOO_LATE: &str = "plan\t2\t2\t3
+task\t1\t1\t0\t0\t5\te1,e3\t-
+task\t2\t2\t3\t5\t7\te3\t1
+task\t3\t1\t9\t8\t9\ts1\t1,2
 ";
 
 /// The second line is damaged. On plan A the first is refused and read on from,
@@ -37,6 +51,9 @@ pub fn every_damaged_plan() -> Vec<Vec<u8>> {
     put_damaged(&mut texts, PLAN_2, 2, 1);
     put_damaged(&mut texts, PLAN_2, 3, 2);
     put_damaged(&mut texts, READY_TOO_LATE, 3, 2);
+    put_damaged(&mut texts, SHARED, 2, 1);
+    put_damaged(&mut texts, SHARED, 3, 2);
+    put_damaged(&mut texts, SHARED_AND_TOO_LATE, 3, 2);
     texts
 }
 

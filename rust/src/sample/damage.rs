@@ -1,6 +1,6 @@
 //! Plan and book values with some bytes changed.
 
-use super::faults::late_plan;
+use super::faults::{late_plan, sharing_plan};
 use super::Rng;
 use crate::values::{Book, Plan, DROPPED, ENDED, RUNNING, WAITING};
 
@@ -68,7 +68,7 @@ fn pass_task(book: &mut Book, i: usize, tick: u32) {
 
 fn mutate_plan_once(rng: &mut Rng, plan: &mut Plan) {
     let i = likely_index(rng, plan.task_count());
-    match rng.within(1, 13) {
+    match rng.within(1, 14) {
         1 => plan.boards = rng.pick(&LIKELY_BYTES),
         2 => plan.tasks = rng.pick(&LIKELY_BYTES),
         3 => plan.board[i] = rng.pick(&LIKELY_BYTES),
@@ -81,13 +81,14 @@ fn mutate_plan_once(rng: &mut Rng, plan: &mut Plan) {
         10 => plan.edition = rng.pick(&[0, 1, 2, 2, 3, 255]),
         11 => plan.ready[i] = nearby_tick(rng, plan.ready[i]),
         12 => plan.ready[i] = nearby_tick(rng, plan.begin[i]),
+        13 if plan.task_count() > 0 => *plan = sharing_plan(rng, plan),
         _ => plan.after[64 * i + rng.index(64)] = rng.byte(),
     }
 }
 
 fn mutate_book_once(rng: &mut Rng, book: &mut Book) {
     let i = likely_index(rng, book.tasks.min(64).into());
-    match rng.within(1, 13) {
+    match rng.within(1, 14) {
         1 => book.clock = nearby_tick(rng, book.clock),
         2 => book.start[i] = nearby_tick(rng, book.start[i]),
         3 => book.end[i] = nearby_tick(rng, book.end[i]),
@@ -105,6 +106,7 @@ fn mutate_book_once(rng: &mut Rng, book: &mut Book) {
         11 => *book = late_book(rng, book),
         // As if it were ready, or as if nobody had to be waited for.
         12 => book.start[i] = rng.pick(&[book.clock, book.ready[i]]),
+        13 if (1..=64).contains(&book.tasks) => *book = sharing_book(rng, book),
         _ => mutate_plan_of(rng, book),
     }
 }
@@ -140,6 +142,11 @@ fn mutate_plan_of(rng: &mut Rng, book: &mut Book) {
 /// alike, so that nothing else is wrong with it; never sound.
 pub fn late_book(rng: &mut Rng, book: &Book) -> Book {
     on_other_plan(book, &late_plan(rng, &book.plan()))
+}
+
+/// The same morning on its plan in edition 2 with a hold shared; never sound.
+pub fn sharing_book(rng: &mut Rng, book: &Book) -> Book {
+    on_other_plan(book, &sharing_plan(rng, &book.plan()))
 }
 
 /// The same morning on another plan.

@@ -19,7 +19,7 @@ task\t5\t1\t3\t4\te2\t-
 pub const AWAITED: &[u8] = b"plan\t2\t3\t5
 task\t1\t3\t1\t1\t3\t-\t-
 task\t2\t1\t0\t0\t2\te1\t-
-task\t3\t2\t1\t2\t4\ts2\t-
+task\t3\t2\t1\t2\t4\te2\t-
 task\t4\t1\t3\t3\t4\te1\t-
 task\t5\t3\t2\t4\t6\t-\t4
 ";

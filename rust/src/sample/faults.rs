@@ -1,8 +1,11 @@
-//! Plans with no task at tick 0 or with a faulty pair, and damaged texts.
+//! Plans with no task at tick 0, with a faulty pair or with a shared hold where there
+//! must be none, and damaged texts.
 
 use super::plans::moved_later;
 use super::Rng;
-use crate::values::{Plan, AFTER_PLACES, HOLD_PLACES, LAST_TICK};
+use crate::values::{
+    items, Plan, AFTER_PLACES, EDITION_1, EDITION_2, HOLD_PLACES, LAST_TICK, MOST_DRIVES,
+};
 
 /// The plan with no task at tick 0: all of it later where there is room, else
 /// only what began there, which may then clash with others.
@@ -33,11 +36,29 @@ pub fn faulty_pair_plan(rng: &mut Rng, plan: &Plan) -> Plan {
         2 => {
             copy_times(&mut faulty, from, to);
             set_only_holds(&mut faulty, i, &[2]);
-            set_only_holds(&mut faulty, j, &[rng.pick(&[2, 3])]);
+            // In edition 2 a shared hold would be a fault of its own.
+            let other = if plan.edition == EDITION_1 { 3 } else { 2 };
+            set_only_holds(&mut faulty, j, &[rng.pick(&[2, other])]);
         }
         _ => set_only_after(&mut faulty, i, j as u8 + 1),
     }
     faulty
+}
+
+/// The plan in edition 2 with one hold shared, which makes it a faulty one.
+pub fn sharing_plan(rng: &mut Rng, plan: &Plan) -> Plan {
+    let mut sharing = Plan {
+        edition: EDITION_2,
+        ..*plan
+    };
+    let first = HOLD_PLACES * rng.index(plan.task_count());
+    let places = &mut sharing.holds[first..first + HOLD_PLACES];
+    let held = items(places).len();
+    if held == 0 {
+        places[0] = 2 * rng.within(1, MOST_DRIVES) as u8;
+    }
+    places[rng.index(held.max(1))] |= 1;
+    sharing
 }
 
 /// The text with a few bytes changed, taken out, put in or doubled.

@@ -1,6 +1,7 @@
 //! Texts made wrong in one place, and the answer each must meet.
 
 use super::faults::late_plan;
+use super::plans::exclusively_held;
 use super::Rng;
 use crate::text::plan_text;
 use crate::values::{refusal, Answer, Plan, EDITION_2, LAST_TICK, LONGEST_TEXT};
@@ -44,9 +45,19 @@ const HOLDS_OUT_OF_RULE: [&str; 8] = [
     "e0,e1",
     "s4294967298",
 ];
+/// Right in edition 1.
+const SHARED_HOLDS: [&str; 7] = [
+    "s1",
+    "s32",
+    "s9,s10",
+    "e1,s2",
+    "s1,e2",
+    "e3,s4,e5",
+    "e1,e31,s32",
+];
 const AFTERS_OUT_OF_RULE: [&str; 6] = ["0", "1,1", "2,1", "65", "0,1", "4294967297"];
 
-/// A fault of code 1 to 5, 17 or 18 in the text of an accepted plan.
+/// A fault of code 1 to 5, 17, 18 or 20 in the text of an accepted plan.
 pub fn one_fault(rng: &mut Rng, plan: &Plan) -> OneFault {
     if rng.chance(10) {
         return no_task_at_0(rng, plan);
@@ -69,15 +80,15 @@ fn no_task_at_0(rng: &mut Rng, plan: &Plan) -> OneFault {
 }
 
 fn fault_of_the_text(rng: &mut Rng, plan: &Plan) -> OneFault {
-    match rng.within(1, 12) {
+    match rng.within(1, 14) {
         1 => too_long(rng, plan),
         2 | 3 => first_line_fault(rng, plan),
         4 => bytes_after_the_last_line(rng, plan),
         5 | 6 => out_of_range_fault(rng, plan),
         7 => line_shape_fault(rng, plan),
         8 => cut_short(rng, plan),
-        9 => ready_after_start(rng, plan),
-        10 => other_edition(plan),
+        9..=11 => fault_of_edition_2(rng, plan),
+        12 => other_edition(plan),
         _ => misspelt_fault(rng, plan),
     }
 }
@@ -201,23 +212,59 @@ fn out_of_range_fault(rng: &mut Rng, plan: &Plan) -> OneFault {
     fault_in_line(&lines, 4, at, field)
 }
 
-/// A ready tick after the planned start; a 3 or a 4 in its line goes before it.
-fn ready_after_start(rng: &mut Rng, plan: &Plan) -> OneFault {
-    let awaited = Plan {
+/// A shared hold, a ready tick after the planned start, or both, 20 going before 18;
+/// a 3 or a 4 in the line goes before them, and what later lines hold does not count.
+fn fault_of_edition_2(rng: &mut Rng, plan: &Plan) -> OneFault {
+    let second = Plan {
         edition: EDITION_2,
-        ..*plan
+        ..exclusively_held(plan)
     };
-    let (mut lines, places) = (lines_of(&awaited), Places::of(&awaited));
+    let (mut lines, places) = (lines_of(&second), Places::of(&second));
     let at = 1 + rng.index(plan.task_count());
-    let ready = rng.pick(&[plan.begin[at - 1] + 1, LAST_TICK]);
-    lines[at][READY] = ready.to_string();
-    let (code, field, value): (u32, usize, &str) = match rng.within(1, 6) {
-        1 => (3, places.holds, rng.pick(&MISSPELT_HOLDS)),
-        2 => (4, places.after, rng.pick(&AFTERS_OUT_OF_RULE)),
-        _ => return fault_in_line(&lines, 18, at, READY),
+    if rng.chance(40) && at < lines.len() - 1 {
+        let later = rng.within(at as u32 + 1, u32::from(plan.tasks)) as usize;
+        put_any_fault(rng, &mut lines[later], &places);
+    }
+    let is_shared = rng.chance(60);
+    if is_shared {
+        lines[at][places.holds] = rng.pick(&SHARED_HOLDS).into();
+    }
+    if !is_shared || rng.chance(40) {
+        let ready = rng.pick(&[plan.begin[at - 1] + 1, LAST_TICK]);
+        lines[at][READY] = ready.to_string();
+    }
+    let (code, field) = match rng.within(1, 6) {
+        1 => put_misspelt_list(rng, &mut lines[at], &places),
+        2 => {
+            lines[at][places.after] = rng.pick(&AFTERS_OUT_OF_RULE).into();
+            (4, places.after)
+        }
+        _ if is_shared => (20, places.holds),
+        _ => (18, READY),
     };
-    lines[at][field] = value.into();
     fault_in_line(&lines, code, at, field)
+}
+
+/// A 3 in one of the lists, which takes a shared hold's place or stands beside it.
+fn put_misspelt_list(rng: &mut Rng, line: &mut [String], places: &Places) -> (u32, usize) {
+    let (field, misspelt) = if rng.chance(50) {
+        (places.holds, rng.pick(&MISSPELT_HOLDS))
+    } else {
+        (places.after, rng.pick(&MISSPELT_AFTERS))
+    };
+    line[field] = misspelt.into();
+    (3, field)
+}
+
+/// A 3, 4, 18 or 20 in a line of edition 2.
+fn put_any_fault(rng: &mut Rng, line: &mut [String], places: &Places) {
+    let (field, value) = match rng.within(1, 4) {
+        1 => (0, "Task"),
+        2 => (2, "9"),
+        3 => (READY, "1000000"),
+        _ => (places.holds, rng.pick(&SHARED_HOLDS)),
+    };
+    line[field] = value.into();
 }
 
 /// The text ends inside or just before some task line.

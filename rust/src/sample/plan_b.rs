@@ -7,7 +7,7 @@
 pub const PLAN_B: &[u8] = b"plan\t2\t2\t5
 task\t1\t1\t2\t4\t6\t-\t-
 task\t2\t2\t0\t0\t5\te1\t-
-task\t3\t2\t3\t5\t8\ts2\t-
+task\t3\t2\t3\t5\t8\te2\t-
 task\t4\t1\t9\t9\t12\te2\t-
 task\t5\t2\t0\t12\t14\te1\t2,4
 ";

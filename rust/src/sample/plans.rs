@@ -2,7 +2,10 @@
 
 use super::Rng;
 use crate::judge::{clash, overlap};
-use crate::values::{Plan, AFTER_PLACES, EDITION_1, EDITION_2, HOLD_PLACES, LAST_TICK};
+use crate::values::{
+    drive_of, items, made_exclusive, Plan, AFTER_PLACES, EDITION_1, EDITION_2, HOLD_PLACES,
+    LAST_TICK,
+};
 
 /// How dense the lists are and how wide the times.
 struct Shape {
@@ -45,7 +48,7 @@ pub fn random_plan(rng: &mut Rng) -> Plan {
     in_either_edition(rng, &plan)
 }
 
-/// The plan as it is, or with ready ticks.
+/// The plan as it is, or with ready ticks and exclusive holds.
 pub fn in_either_edition(rng: &mut Rng, plan: &Plan) -> Plan {
     if rng.chance(50) {
         return *plan;
@@ -53,12 +56,22 @@ pub fn in_either_edition(rng: &mut Rng, plan: &Plan) -> Plan {
     with_ready_ticks(rng, plan)
 }
 
-/// The plan in edition 2, with ready ticks for none, some or all of its tasks.
+/// The plan in edition 1, with no ready tick left.
+pub fn first_edition(plan: &Plan) -> Plan {
+    Plan {
+        edition: EDITION_1,
+        ready: [0; 64],
+        ..*plan
+    }
+}
+
+/// The plan in edition 2, where nobody shares a drive, with ready ticks for none,
+/// some or all of its tasks.
 pub fn with_ready_ticks(rng: &mut Rng, plan: &Plan) -> Plan {
     let mut awaited = Plan {
         edition: EDITION_2,
         ready: [0; 64],
-        ..*plan
+        ..exclusively_held(plan)
     };
     let percent = rng.pick(&[0, 50, 100, 100]);
     let late_percent = rng.pick(&[0, 30, 90]);
@@ -76,8 +89,29 @@ pub fn with_even_ready_ticks(plan: &Plan) -> Plan {
     Plan {
         edition: EDITION_2,
         ready: plan.begin.map(|begin| begin - begin / 4),
-        ..*plan
+        ..exclusively_held(plan)
     }
+}
+
+/// The plan with every hold exclusive: of tasks that hold a drive at the same time
+/// the one of lowest number keeps it.
+pub fn exclusively_held(plan: &Plan) -> Plan {
+    let mut alone = Plan {
+        holds: [0; 2048],
+        ..*plan
+    };
+    // Bit n stands for drive n.
+    let mut kept = [0u128; 64];
+    for i in 0..plan.task_count() {
+        let at_once = (0..i).filter(|&j| overlap(plan, i, j));
+        let taken = at_once.fold(0, |drives, j| drives | kept[j]);
+        let free = |hold: &&u8| taken & (1 << drive_of(**hold)) == 0;
+        for (k, &hold) in items(plan.hold_places(i)).iter().filter(free).enumerate() {
+            alone.holds[HOLD_PLACES * i + k] = made_exclusive(hold);
+            kept[i] |= 1 << drive_of(hold);
+        }
+    }
+    alone
 }
 
 /// So often at or just before the planned start; else anywhere before it, or early.

@@ -27,3 +27,45 @@ pub fn program_in(name: &str, folder: &Path) -> Command {
     command.arg(name).current_dir(folder);
     command
 }
+
+/// The folders in that one.
+pub fn folders_below(folder: &Path) -> Vec<PathBuf> {
+    let entries = fs::read_dir(folder).unwrap();
+    entries.map(|entry| entry.unwrap().path()).collect()
+}
+
+/// What a file holds; a missing one counts as empty.
+pub fn contents(file: &Path) -> Vec<u8> {
+    if file.exists() {
+        return fs::read(file).unwrap();
+    }
+    Vec::new()
+}
+
+/// The program printed this, and had nothing else to say.
+pub fn expect_printed(mut program: Command, wanted: &[u8]) {
+    let output = program.output().unwrap();
+    let (printed, said) = (output.stdout, output.stderr);
+    assert!(
+        printed == wanted,
+        "{program:?}: printed\n{}instead of\n{}",
+        String::from_utf8_lossy(&printed),
+        String::from_utf8_lossy(wanted)
+    );
+    assert_eq!(String::from_utf8_lossy(&said), "", "{program:?}");
+    assert!(output.status.success(), "{program:?}");
+}
+
+/// One line on standard error that begins with the name.
+pub fn expect_said(said: &[u8], name: &str) {
+    let said = String::from_utf8_lossy(said);
+    assert!(said.starts_with(&format!("{name}: ")), "said {said:?}");
+    assert_eq!(said.matches('\n').count(), 1, "said {said:?}");
+    assert!(said.ends_with('\n'));
+}
+
+/// Puts a folder in the file's place: it is there, and cannot be read.
+pub fn make_unreadable(folder: &Path, name: &str) {
+    fs::remove_file(folder.join(name)).unwrap();
+    fs::create_dir(folder.join(name)).unwrap();
+}

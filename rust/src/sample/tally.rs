@@ -2,7 +2,7 @@
 
 use super::rng::chosen_seed;
 use super::Rng;
-use crate::values::Answer;
+use crate::values::{refusal, Answer};
 use std::io::Write;
 use std::time::Instant;
 
@@ -11,7 +11,7 @@ pub struct Tally {
     since: Instant,
     compared: u64,
     compared_before: u64,
-    by_code: [u64; 20],
+    by_code: [u64; 21],
 }
 
 impl Tally {
@@ -21,7 +21,7 @@ impl Tally {
             since: Instant::now(),
             compared: 0,
             compared_before: 0,
-            by_code: [0; 20],
+            by_code: [0; 21],
         }
     }
 
@@ -46,6 +46,16 @@ impl Tally {
             Answer::UNSOUND
         };
         self.count(answer);
+    }
+
+    /// Counts one input on which both printed this, by the code its last line names.
+    pub fn count_printed(&mut self, printed: &[u8]) {
+        let printed = std::str::from_utf8(printed).expect("what is printed is plain text");
+        let last = printed.lines().last().expect("a line is printed");
+        let refused = last.strip_prefix("refused\t");
+        let code = refused.and_then(|said| said.split('\t').next());
+        let code = code.map_or(0, |digits| digits.parse().expect("a code is a number"));
+        self.count(refusal(code, 0, 0));
     }
 
     /// Says how many inputs were compared since the last kind was finished.

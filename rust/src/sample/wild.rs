@@ -1,8 +1,8 @@
 //! Plan and book values far from any rule, or breaking just one.
 
-use super::faults::late_plan;
+use super::faults::{late_plan, sharing_plan};
 use super::Rng;
-use crate::values::{items, Book, Plan, AFTER_PLACES, HOLD_PLACES};
+use crate::values::{items, made_exclusive, Book, Plan, AFTER_PLACES, EDITION_2, HOLD_PLACES};
 
 /// A plan of random bytes, in some plans with sizes in range and empty places
 /// past the last task, so that the later checks are met too.
@@ -42,7 +42,7 @@ pub fn wild_book(rng: &mut Rng, sound: &Book) -> Book {
 pub fn one_rule_broken(rng: &mut Rng, plan: &Plan) -> Plan {
     let mut broken = *plan;
     let i = rng.index(plan.task_count());
-    match rng.within(1, 13) {
+    match rng.within(1, 14) {
         1 => broken.boards = rng.pick(&[0, 9, 255]),
         2 => broken.tasks = rng.pick(&[0, 65, 255]),
         3 => broken.tasks = plan.tasks.wrapping_add(rng.pick(&[1, 255])),
@@ -55,6 +55,7 @@ pub fn one_rule_broken(rng: &mut Rng, plan: &Plan) -> Plan {
         10 => broken = late_plan(rng, plan),
         11 => broken.edition = rng.pick(&[0, 1, 3, 255]),
         12 => broken.ready[i] = rng.pick(&[1, plan.begin[i] + 1, 1_000_001, u32::MAX]),
+        13 => broken = sharing_plan(rng, plan),
         _ => put_past_the_last_task(rng, &mut broken),
     }
     broken
@@ -88,6 +89,9 @@ fn tame_places(rng: &mut Rng, plan: &mut Plan) {
         plan.holds[HOLD_PLACES * i + keep..HOLD_PLACES * (i + 1)].fill(0);
         plan.after[AFTER_PLACES * i + keep / 2..AFTER_PLACES * (i + 1)].fill(0);
         plan.after[AFTER_PLACES * i] %= 4;
+    }
+    if plan.edition == EDITION_2 && rng.chance(80) {
+        plan.holds = plan.holds.map(made_exclusive);
     }
     plan.board[count..].fill(0);
     plan.ready[count..].fill(0);

@@ -11,8 +11,7 @@ use Rattle.plan.specs.Value.{at}
 use Rattle.plan.specs.declared.Answer.{Answer}
 use Rattle.entries.specs.declared.Entry.{Entry}
 use Rattle.entries.specs.declared.Entry.the-variants.{End, Drop, Refused}
-use Rattle.lines.specs.Lines.{numbersLine, taskLine, startWord}
-use Rattle.log.specs.Lines.{refusedLine}
+use Rattle.lines.specs.Lines.{numbersLine, taskLine, startWord, refusedLine}
 
 -- task i waited by the old marks and waits no longer by the new ones
 abbrev pub starting : List ℕ → List ℕ → ℕ → Bool

@@ -29,25 +29,26 @@ use Rattle.plan.specs.Answer.{refuse, granted, isGranted, isRefused}
 use Rattle.plan.specs.Judged.{tasksAnswer}
 use Rattle.plan.specs.Value.{at, planOf}
 use Rattle.plan.specs.Read.{ranged, sizesOk, editionOf, boardsOf, tasksOf, startAt, codesFrom, taskCodes, taskFrom, lineTask}
-use Rattle.plan.specs.Read.{lineAnswer, linesAnswer, textTask, formAnswer, textAnswer, textPlan, readAs, readingOf}
+use Rattle.plan.specs.Read.{lineAnswer, linesAnswer, textTask, formAnswer, textAnswer, textPlan, readAs, readIn, readingOf}
 use Rattle.plan.specs.declared.Answer.{Answer}
 use Rattle.plan.specs.declared.Plan.{Plan}
 use Rattle.plan.proofs.TextLines.{number-range, sizes-test}
 use Rattle.promises.specs.Edition1.{sevenSizes, sevenCodes, sevenTask, sevenWorst, sevenFault, sevenLine, sevenLines, sevenForm, sevenAnswer, sevenReading}
-use Rattle.promises.proofs.codes.Columns.{Plain, plain-not, field-plain, first-plain}
+use Rattle.promises.proofs.codes.Columns.{Plain, plain-not, field-plain}
+use Rattle.promises.proofs.codes.TaskLine.{holds-first, first-plain}
 
 -- ---- a line's fault by where 3 and 4 stand
 
--- nothing is 18
-no-eighteen : (codes : List ℕ) → ((n : ℕ) → Plain (at codes n)) → anyOf (eqb 18) codes ≡ false
-no-eighteen codes plain =
-    any-found 18 codes
-    ∙ le-ltb (indexOf 18 codes) (length codes)
-    (by-le (length codes) (indexOf 18 codes) (λ l. l) (λ l. absurd (plain-not (plain (indexOf 18 codes)) (index-found 18 codes 0 l))))
+-- nothing is 18 or 20
+none-over : (codes : List ℕ) → ((n : ℕ) → Plain (at codes n)) → (other : ℕ) → 4 < other → anyOf (eqb other) codes ≡ false
+none-over codes plain other high =
+    any-found other codes
+    ∙ le-ltb (indexOf other codes) (length codes)
+    (by-le (length codes) (indexOf other codes) (λ l. l) (λ l. absurd (plain-not (plain (indexOf other codes)) other high (index-found other codes 0 l))))
 
 fault-seven : (line codes : List ℕ) → ((n : ℕ) → Plain (at codes n)) → faultOf line codes ≡ sevenFault line codes
 unfolding faultOf worst sevenWorst
-fault-seven line codes plain = rw (no-eighteen codes plain)
+fault-seven line codes plain = rw (none-over codes plain 18 (omega arith), none-over codes plain 20 (omega arith))
 
 -- by the number of codes and the places of 3 and 4
 abbrev faultBy : List ℕ → ℕ → ℕ → ℕ → Fault
@@ -108,15 +109,16 @@ misspelt-same low other high s = go (numberOf s)
 
 line-fault :
     (ended : Bool) (boards tasks : ℕ) (line : List ℕ) (k : ℕ)
-    → faultOf line (taskCodes ended 1 boards tasks line k) ≡ sevenFault line (sevenCodes ended boards tasks line k)
+    → faultOf line (taskCodes false ended 1 boards tasks line k) ≡ sevenFault line (sevenCodes ended boards tasks line k)
 unfolding taskCodes codesFrom sevenCodes
 line-fault ended boards tasks line k =
-    fault-seven line (taskCodes ended 1 boards tasks line k) (first-plain line ended 1 boards tasks k (λ z. omega arith))
-    ∙ same-fault line _ _ _ (fieldCode 0 most (field line 3)) _ _ _ (field-plain 0 most (field line 3))
+    fault-seven line (taskCodes false ended 1 boards tasks line k) (first-plain line false ended 1 boards tasks k (λ z. omega arith))
+    ∙ rw (holds-first (field line 5))
+    (same-fault line _ _ _ (fieldCode 0 most (field line 3)) _ _ _ (field-plain 0 most (field line 3))
     (misspelt-same (startAt line 3 + 1) (valueOf (field line 3) + 1) most (field line 4))
     (λ z.
     ap (λ (v : ℕ). fieldCode (v + 1) most (field line 4))
-    (ranged-value 0 most (field line 3) refl z))
+    (ranged-value 0 most (field line 3) refl z)))
 
 -- ---- the first line
 
@@ -149,7 +151,7 @@ read-refused : (x : Answer) (p q : Plan) → isGranted x ≡ false → readAs x 
 read-refused x p q h = rw h
 
 module _ (s : List ℕ) (other : same (field (lineAt s 0) 1) (bytes "2") ≡ false) where
-  sizes-seven : sizesOk (lineAt s 0) ≡ sevenSizes (lineAt s 0)
+  sizes-seven : sizesOk false (lineAt s 0) ≡ sevenSizes (lineAt s 0)
   unfolding sizesOk sevenSizes
   sizes-seven = rw (edition-one (field (lineAt s 0) 1) other)
 
@@ -160,7 +162,7 @@ module _ (s : List ℕ) (other : same (field (lineAt s 0) 1) (bytes "2") ≡ fal
       (cond (not first) (refuse 2 1 0)
       (cond (isRefused lines) lines (cond (ltb 0 (length (skip (tasksOf s + 1) s))) (refuse 5 (tasksOf s + 2) 0) granted)))
 
-  form-is : formAnswer s ≡ formWith (hasLine s && sizesOk (lineAt s 0)) (linesAnswer s)
+  form-is : formAnswer false s ≡ formWith (hasLine s && sizesOk false (lineAt s 0)) (linesAnswer false s)
   unfolding formAnswer
   form-is = refl
 
@@ -169,41 +171,41 @@ module _ (s : List ℕ) (other : same (field (lineAt s 0) 1) (bytes "2") ≡ fal
   seven-is = refl
 
   -- the first line is as stated
-  module _ (h : sizesOk (lineAt s 0) ≡ true) where
+  module _ (h : sizesOk false (lineAt s 0) ≡ true) where
     one : editionOf s ≡ 1
-    one = one-is (field (lineAt s 0) 1) (sym (edition-one (field (lineAt s 0) 1) other) ∙ sizes-test (lineAt s 0) h 2 (omega arith)) .1
+    one = one-is (field (lineAt s 0) 1) (sym (edition-one (field (lineAt s 0) 1) other) ∙ sizes-test false (lineAt s 0) h 2 (omega arith)) .1
 
-    line-seven : (k : ℕ) → lineAnswer s k ≡ sevenLine s k
+    line-seven : (k : ℕ) → lineAnswer false s k ≡ sevenLine s k
     unfolding lineAnswer
     line-seven k =
         ap (λ (f : Fault). refuse (f .code) (k + 1) (f .column))
-        (ap (λ (e : ℕ). faultOf (lineAt s k) (taskCodes (hasLine (skip k s)) e (boardsOf s) (tasksOf s) (lineAt s k) k)) one
+        (ap (λ (e : ℕ). faultOf (lineAt s k) (taskCodes false (hasLine (skip k s)) e (boardsOf s) (tasksOf s) (lineAt s k) k)) one
         ∙ line-fault (hasLine (skip k s)) (boardsOf s) (tasksOf s) (lineAt s k) k)
 
-    lines-seven : linesAnswer s ≡ sevenLines s
+    lines-seven : linesAnswer false s ≡ sevenLines s
     unfolding linesAnswer
     lines-seven = ap (λ (f : ℕ → Answer). scanTo isRefused granted f 1 (tasksOf s + 1)) (fun-ext line-seven)
 
-    tasks-seven : textTask s ≡ sevenTask s
+    tasks-seven : textTask false s ≡ sevenTask s
     unfolding lineTask taskFrom
     tasks-seven = fun-ext (λ k. rw one)
 
-    form-seven : formAnswer s ≡ sevenForm s
+    form-seven : formAnswer false s ≡ sevenForm s
     form-seven = form-is ∙ (λ i. formWith (hasLine s && sizes-seven i) (lines-seven i)) ∙ sym seven-is
 
     stated : readingOf s ≡ sevenReading s
-    unfolding readingOf textAnswer
+    unfolding readIn textAnswer
     stated =
         λ i.
         readAs (cond (isRefused (form-seven i)) (form-seven i) (tasksAnswer (tasksOf s) (tasks-seven i)))
         (planOf (one i) (boardsOf s) (tasksOf s) (tasks-seven i))
 
   -- or not: 1 or 2
-  module _ (h : sizesOk (lineAt s 0) ≡ false) where
+  module _ (h : sizesOk false (lineAt s 0) ≡ false) where
     abbrev short : Answer
     short = cond (ltb 32768 (length s)) (refuse 1 0 0) (refuse 2 1 0)
 
-    short-form : formAnswer s ≡ short
+    short-form : formAnswer false s ≡ short
     short-form = form-is ∙ rw (h, and-no (hasLine s))
 
     short-seven : sevenForm s ≡ short
@@ -216,13 +218,13 @@ module _ (s : List ℕ) (other : same (field (lineAt s 0) 1) (bytes "2") ≡ fal
     short-answer x = rw (short-refused .1)
 
     unstated : readingOf s ≡ sevenReading s
-    unfolding readingOf textAnswer
+    unfolding readIn textAnswer
     unstated =
-        let new : textAnswer s ≡ short = rw short-form (short-answer _) in
+        let new : textAnswer false s ≡ short = rw short-form (short-answer _) in
         let old : sevenAnswer s ≡ short = rw short-seven (short-answer _) in
-        ap (λ (x : Answer). readAs x (textPlan s)) new
-        ∙ read-refused short (textPlan s) _ (short-refused .0)
+        ap (λ (x : Answer). readAs x (textPlan false s)) new
+        ∙ read-refused short (textPlan false s) _ (short-refused .0)
         ∙ ap (λ (x : Answer). readAs x (planOf 1 (boardsOf s) (tasksOf s) (sevenTask s))) (sym old)
 
   pub reading-seven : readingOf s ≡ sevenReading s
-  reading-seven = by-bool (sizesOk (lineAt s 0)) stated unstated
+  reading-seven = by-bool (sizesOk false (lineAt s 0)) stated unstated

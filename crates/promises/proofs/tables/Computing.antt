@@ -8,12 +8,14 @@ use Rattle.laws.specs.Every.{every, any}
 use Rattle.laws.specs.Picked.{latest, least}
 use Rattle.laws.specs.Split.{indexOf, skipOn, splitOn, consFirst, joinOn}
 use Rattle.text.specs.Number.{isNumber, numberStop, numberOf}
-use Rattle.text.specs.Items.{isList, listOf, isHold, holdOf, holdsOk, afterOk}
+use Rattle.text.specs.Items.{hasShared, isList, listOf, isHold, holdOf, holdsOk, afterOk}
 use Rattle.faults.specs.Faults.{rangedRead, wordCode, endCode, worst, faultOf}
 use Rattle.plan.specs.Pairs.{clashByDrive, isListed, pairCode, rowFault, firstFault}
 use Rattle.plan.specs.Judged.{tasksAnswer}
 use Rattle.plan.specs.Value.{planOf, blankFrom, keptOk, rangesOk, judgedAnswer, isAccepted}
-use Rattle.plan.specs.Read.{sizesOk, taskFrom, lineTask, codesFrom, readyCode, taskCodes, lineAnswer, linesAnswer, formAnswer, textAnswer, readingOf}
+use Rattle.plan.specs.Read.{sizesOk, taskFrom, lineTask, holdsCode, codesFrom, readyCode, taskCodes, lineAnswer, linesAnswer, formAnswer, textAnswer, readIn}
+use Rattle.plan.specs.Convert.{exclusivePlan, convertedOf, renewedOf}
+use Rattle.editions.specs.Renewed.{renewedText}
 use Rattle.theory.specs.Book.{allEnded, taskTest, soundTest}
 use Rattle.theory.specs.Report.{nonePast, reportCode, dropCode, goes, skipTimes, next, opened}
 use Rattle.theory.specs.Figure.{minimumEarly}
@@ -39,9 +41,10 @@ unfoldable pub computing : Bool
 unfolding
     valueAfter digitsFrom digitsOf allOf anyOf firstNot rising same scan each rows every any latest least indexOf skipOn splitOn consFirst
     joinOn
-    isNumber numberStop numberOf isList listOf isHold holdOf holdsOk afterOk rangedRead wordCode endCode worst faultOf
+    isNumber numberStop numberOf hasShared isList listOf isHold holdOf holdsOk afterOk rangedRead wordCode endCode worst faultOf
     clashByDrive isListed pairCode rowFault firstFault tasksAnswer planOf blankFrom keptOk rangesOk judgedAnswer isAccepted
-    sizesOk taskFrom lineTask codesFrom readyCode taskCodes lineAnswer linesAnswer formAnswer textAnswer readingOf
+    sizesOk taskFrom lineTask holdsCode codesFrom readyCode taskCodes lineAnswer linesAnswer formAnswer textAnswer readIn
+    exclusivePlan convertedOf renewedOf renewedText
     allEnded taskTest soundTest nonePast reportCode dropCode goes skipTimes next opened minimumEarly
     laid soundOn layOut openedOn openingOf codeOf reportAnswer nextBook reportedOf
     dropCodeOf dropAnswer droppedIn droppedOf figureOf

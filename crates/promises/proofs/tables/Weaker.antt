@@ -1,7 +1,7 @@
 -- Sentences near to the promises are false: on plan A, on two tasks of which the second is planned first, and on plan B.
 use native.Mathlib.Omega.{arith}
 use mathlib.Core.Path.{_≡_, refl}
-use mathlib.Core.Bool.{true}
+use mathlib.Core.Bool.{true, false}
 use mathlib.Core.Logic.{⊎-elim}
 use mathlib.Core.List.{[], _∷_}
 use Rattle.plan.specs.Pairs.{clash}
@@ -19,7 +19,7 @@ use Rattle.promises.proofs.tables.Computing.{computing}
 
 sized-two : SizedPlan planTwo
 unfolding planTwo
-sized-two = reading-sized textTwo
+sized-two = reading-sized false textTwo
 
 two : (isAccepted planTwo ≡ true) × (planTwo .tasks ≡ 2) × (clash (taskAt planTwo) 0 1 ≡ true) × (at (planTwo .finish) 0 ≡ 9) × (at (planTwo .begin) 1 ≡ 0)
 unfolding computing
@@ -32,7 +32,7 @@ not-by-number every =
 
 sized-a : SizedPlan planA
 unfolding planA
-sized-a = reading-sized textA
+sized-a = reading-sized false textA
 
 -- tasks 2 and 3 of plan A, on one board: the first finishes at 4, where the other begins
 plan-a : (isAccepted planA ≡ true) × (planA .tasks ≡ 5) × (clash (taskAt planA) 1 2 ≡ true) × (at (planA .finish) 1 ≡ 4) × (at (planA .begin) 2 ≡ 4) × (at (planA .finish) 2 ≡ 9) × (at (planA .begin) 1 ≡ 0)
@@ -68,7 +68,7 @@ not-later every =
 
 sized-b : SizedPlan planB
 unfolding planB
-sized-b = reading-sized textB
+sized-b = reading-sized false textB
 
 -- end 2 at 3 lets task 3 go, at its ready tick 5; task 4, dropped, starts at 8 and was to await 18
 fourth : (isAccepted planB ≡ true) × (planB .tasks ≡ 5) × (reportedOf (bookB (end 1 1 ∷ [])) 2 3 .answer .code ≡ 0) × (bookB (end 1 1 ∷ []) .tasks ≡ 5) × (at (bookB (end 1 1 ∷ []) .mark) 2 ≡ 0) × (at (reportedOf (bookB (end 1 1 ∷ [])) 2 3 .book .mark) 2 ≡ 1) × (at (reportedOf (bookB (end 1 1 ∷ [])) 2 3 .book .start) 2 ≡ 5)

@@ -1,6 +1,6 @@
 -- The rows of request P2: what a text or a line of ends.txt is answered, with the column; and impostors of the column.
 use Prim.Native.Nat.{ℕ, suc, _+_}
-use mathlib.Core.Bool.{Bool, cond, _&&_}
+use mathlib.Core.Bool.{Bool, false, cond, _&&_}
 use mathlib.Core.List.{List, [], _∷_, _++_}
 use lib.Dec.{eqb}
 use lib.ListN.{length}
@@ -69,7 +69,7 @@ abbrev pub threeFaults : List ℕ
 threeFaults = bytes "task\t1\t1\t1000001\t5\tq1\tz"
 
 abbrev pub threeCodes : List ℕ
-threeCodes = taskCodes (hasLine (threeFaults ++ (LF ∷ []))) 1 1 1 threeFaults 1
+threeCodes = taskCodes false (hasLine (threeFaults ++ (LF ∷ []))) 1 1 1 threeFaults 1
 
 -- the last place of a code
 unfoldable pub lastOf : ℕ → List ℕ → ℕ → ℕ → ℕ

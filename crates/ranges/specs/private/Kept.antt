@@ -1,11 +1,11 @@
 -- Short names for what single functions say of one task's places in lent arrays.
 use Prim.Native.Nat.{ℕ}
-use mathlib.Core.Bool.{Bool, true, false, _&&_, _||_}
+use mathlib.Core.Bool.{Bool, true, false, not, _&&_, _||_}
 use mathlib.Core.List.{List}
 use lib.Dec.{ltb, leb, eqb}
 use Rattle.laws.specs.Lists.{risesFrom}
 use Rattle.text.specs.Number.{most}
-use Rattle.text.specs.Items.{between}
+use Rattle.text.specs.Items.{between, hasShared}
 use Rattle.text.specs.private.Lettered.{keyOf}
 use Rattle.plan.specs.Value.{at, row, items, isTrimmed}
 
@@ -19,5 +19,11 @@ numbersIn edition boards board ready begin finish k =
 abbrev pub listIn : Bool → ℕ → List ℕ → Bool
 listIn drives high l = risesFrom (keyOf drives) high 0 (items l) && isTrimmed l
 
-abbrev pub listsIn : ℕ → List ℕ → List ℕ → ℕ → Bool
-listsIn tasks holds after k = listIn true 32 (row 32 holds k) && listIn false tasks (row 64 after k)
+abbrev pub sharedIn : ℕ → List ℕ → Bool
+sharedIn edition l = not (eqb edition 2) || not (hasShared l)
+
+abbrev pub holdsIn : ℕ → List ℕ → Bool
+holdsIn edition l = listIn true 32 l && sharedIn edition l
+
+abbrev pub listsIn : ℕ → ℕ → List ℕ → List ℕ → ℕ → Bool
+listsIn edition tasks holds after k = holdsIn edition (row 32 holds k) && listIn false tasks (row 64 after k)

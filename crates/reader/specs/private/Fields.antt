@@ -2,14 +2,14 @@
 use Prim.Native.Nat.{ℕ, _+_, _≤_}
 use mathlib.Core.Path.{_≡_}
 use mathlib.Core.Bool.{Bool, true, false, cond, _&&_}
-use mathlib.Core.List.{List}
+use mathlib.Core.List.{List, map}
 use lib.Dec.{ltb, eqb}
 use lib.ListN.{length}
 use Rattle.laws.specs.Lists.{allOf}
 use Rattle.laws.specs.Split.{before}
 use Rattle.text.specs.Number.{valueOf, most}
 use Rattle.text.specs.Line.{LF, hasLine, lineAt, field}
-use Rattle.text.specs.Items.{noItems, holdsRead, afterRead}
+use Rattle.text.specs.Items.{hasShared, exclusive, noItems, holdsRead, afterRead}
 use Rattle.text.specs.declared.Items.{Items}
 use Rattle.faults.specs.Faults.{rangedRead, faultOf}
 use Rattle.faults.specs.declared.Ranged.{Ranged}
@@ -22,9 +22,9 @@ use Rattle.reader.specs.declared.Line.{Line}
 abbrev pub noSizes : Sizes
 noSizes = record { ok = false; edition = 0; boards = 0; tasks = 0 }
 
-unfoldable pub sizesRead : List ℕ → Sizes
-sizesRead line =
-    cond (sizesOk line)
+unfoldable pub sizesRead : Bool → List ℕ → Sizes
+sizesRead mends line =
+    cond (sizesOk mends line)
     (record {
       ok = true;
       edition = valueOf (field line 1);
@@ -60,6 +60,19 @@ readyAt line = rangedRead 0 most (field line 3) .value
 unfoldable pub readyIn : Ranged → ℕ → ℕ
 readyIn ready begin = cond (eqb (ready .code) 0 && ltb begin (ready .value)) 18 (ready .code)
 
+-- the code of the holds as they are read
+unfoldable pub holdsIn : Bool → Items → ℕ
+holdsIn retired holds = cond (eqb (holds .code) 0 && (retired && hasShared (holds .items))) 20 (holds .code)
+
+-- a reading that mends makes `s` into `e`
+unfoldable pub itemsMended : Bool → Items → Items
+itemsMended mends holds =
+    cond mends (record { code = holds .code; stop = holds .stop; count = holds .count; items = map exclusive (holds .items) }) holds
+
+abbrev pub tailMended : Bool → Tail → Tail
+tailMended mends tail =
+    record { begin = tail .begin; finish = tail .finish; holds = itemsMended mends (tail .holds); after = tail .after }
+
 -- what a line says by the codes of its fields, or its fault
 unfoldable pub lineBy : List ℕ → List ℕ → ℕ → ℕ → Tail → Line
 lineBy line codes board ready tail =
@@ -75,20 +88,21 @@ lineBy line codes board ready tail =
     })
     (noLine (faultOf line codes))
 
-unfoldable pub lineRead : Bool → ℕ → ℕ → ℕ → List ℕ → ℕ → Line
-lineRead ended edition boards tasks line k =
+unfoldable pub lineRead : Bool → Bool → ℕ → ℕ → ℕ → List ℕ → ℕ → Line
+lineRead mends ended edition boards tasks line k =
     let board = rangedRead 1 boards (field line 2) .value in
-    let codes = taskCodes ended edition boards tasks line k in
-    cond (eqb edition 2) (lineBy line codes board (readyAt line) (tailRead tasks line 4)) (lineBy line codes board 0 (tailRead tasks line 3))
+    let codes = taskCodes mends ended edition boards tasks line k in
+    cond (eqb edition 2) (lineBy line codes board (readyAt line) (tailMended mends (tailRead tasks line 4)))
+    (lineBy line codes board 0 (tailRead tasks line 3))
 
 -- the line that begins the text
-unfoldable pub nextLine : ℕ → ℕ → ℕ → List ℕ → ℕ → Line
-nextLine edition boards tasks s k = lineRead (hasLine s) edition boards tasks (before LF s) k
+unfoldable pub nextLine : Bool → ℕ → ℕ → ℕ → List ℕ → ℕ → Line
+nextLine mends edition boards tasks s k = lineRead mends (hasLine s) edition boards tasks (before LF s) k
 
 -- the first line is read: the edition, B and T are what it says
-pub record FirstRead (s : List ℕ) (edition boards tasks : ℕ) : Type 0 where
+pub record FirstRead (mends : Bool) (s : List ℕ) (edition boards tasks : ℕ) : Type 0 where
   pub has-line : hasLine s ≡ true
-  pub sizes : sizesOk (lineAt s 0) ≡ true
+  pub sizes : sizesOk mends (lineAt s 0) ≡ true
   pub edition-is : edition ≡ editionOf s
   pub boards-are : boards ≡ boardsOf s
   pub tasks-are : tasks ≡ tasksOf s

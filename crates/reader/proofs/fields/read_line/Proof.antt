@@ -42,7 +42,7 @@ returns : tie.Need-returns
 returns c =
     let cut = head-cut (c .before .before .before .before .before .before .before .before .before .before .before .part-before .ensures) (c .before .before .before .before .before .before .before .before .before .before .past .ensures) (c .before .before .before .before .before .before .before .before .before .part-before2 .ensures) (c .before .before .before .before .before .before .before .before .past2 .ensures) (c .before .before .before .before .before .before .before .part-before3 .ensures) in
     (c .read-second .ensures)
-    ∙ line-second _ _ _ _ _ _ (rw (cut .first) at (c .before .before .before .before .word-code .ensures)) (rw (cut .second) at (c .before .before .before .read-ranged .ensures)) (rw (cut .third) at (c .before .before .read-ranged2 .ensures)) (c .before .if1 .taken)
+    ∙ line-second _ _ _ _ _ _ _ (rw (cut .first) at (c .before .before .before .before .word-code .ensures)) (rw (cut .second) at (c .before .before .before .read-ranged .ensures)) (rw (cut .third) at (c .before .before .read-ranged2 .ensures)) (c .before .if1 .taken)
 
 read-first-requires : tie.Need-read-first-requires
 read-first-requires c κs = ((c .before .before .before .before .before .before .before .before .before .before .before .before .pre), line-rest _ (c .before .before .before .before .before .before .before .before .before .before .part-before .ensures) (c .before .before .before .before .before .before .before .before .before .past .ensures) (c .before .before .before .before .before .before .before .before .part-before2 .ensures) (c .before .before .before .before .before .before .before .past2 .ensures) (c .before .before .before .before .before .before .part-before3 .ensures) (c .before .before .before .before .before .past3 .ensures))
@@ -51,7 +51,7 @@ returns-2 : tie.Need-returns-2
 returns-2 c =
     let cut = head-cut (c .before .before .before .before .before .before .before .before .before .before .before .part-before .ensures) (c .before .before .before .before .before .before .before .before .before .before .past .ensures) (c .before .before .before .before .before .before .before .before .before .part-before2 .ensures) (c .before .before .before .before .before .before .before .before .past2 .ensures) (c .before .before .before .before .before .before .before .part-before3 .ensures) in
     (c .read-first .ensures)
-    ∙ line-first _ _ _ _ _ _ (rw (cut .first) at (c .before .before .before .before .word-code .ensures)) (rw (cut .second) at (c .before .before .before .read-ranged .ensures)) (rw (cut .third) at (c .before .before .read-ranged2 .ensures)) (c .before .if1 .left)
+    ∙ line-first _ _ _ _ _ _ _ (rw (cut .first) at (c .before .before .before .before .word-code .ensures)) (rw (cut .second) at (c .before .before .before .read-ranged .ensures)) (rw (cut .third) at (c .before .before .read-ranged2 .ensures)) (c .before .if1 .left)
 
 pub read-line-spec : {M : Type 1} → statement M
 read-line-spec =

@@ -14,7 +14,7 @@ read-line-requires : tie.Need-read-line-requires
 read-line-requires c κs = search needs
 
 returns : tie.Need-returns
-returns c = c .read-line .ensures ∙ next-is _ _ _ _ _ (c .before .before .before .pre .1)
+returns c = c .read-line .ensures ∙ next-is _ _ _ _ _ _ (c .before .before .before .pre .1)
 
 pub next-line-spec : {M : Type 1} → statement M
 next-line-spec = tie.close (tie.spec slice-aggregate-read-line read-line-requires returns)

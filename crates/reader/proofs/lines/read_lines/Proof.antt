@@ -12,7 +12,7 @@ refused-requires c κs = search needs
 
 returns : tie.Need-returns
 returns c =
-    c .refused .ensures ∙ ap refusedReading (c .before .answer-of .ensures) ∙ reading-long _ (c .before .before .if1 .taken)
+    c .refused .ensures ∙ ap refusedReading (c .before .answer-of .ensures) ∙ reading-long _ _ (c .before .before .if1 .taken)
 
 find-requires : tie.Need-find-requires
 find-requires c κs = search needs
@@ -26,7 +26,7 @@ refused-requires-2 c κs = search needs
 returns-2 : tie.Need-returns-2
 returns-2 c =
     c .refused2 .ensures ∙ ap refusedReading (c .before .answer-of2 .ensures)
-    ∙ reading-no-line _ (c .before .before .before .before .if1 .left) (c .before .before .before .find .ensures) (c .before .before .if2 .taken)
+    ∙ reading-no-line _ _ (c .before .before .before .before .if1 .left) (c .before .before .before .find .ensures) (c .before .before .if2 .taken)
 
 part-before-requires : tie.Need-part-before-requires
 part-before-requires c κs = search needs
@@ -43,12 +43,12 @@ refused-requires-3 c κs = search needs
 returns-3 : tie.Need-returns-3
 returns-3 c =
     c .refused3 .ensures ∙ ap refusedReading (c .before .answer-of3 .ensures)
-    ∙ reading-no-sizes _ (c .before .before .before .before .before .before .before .before .if1 .left) (c .before .before .before .before .before .before .before .find .ensures) (c .before .before .before .before .before .before .if2 .left)
+    ∙ reading-no-sizes _ _ (c .before .before .before .before .before .before .before .before .if1 .left) (c .before .before .before .before .before .before .before .find .ensures) (c .before .before .before .before .before .before .if2 .left)
     (rw (c .before .before .before .before .before .part-before .ensures) at (c .before .before .before .before .read-sizes .ensures)) (c .before .before .if3 .taken)
 
 read-tasks-requires : tie.Need-read-tasks-requires
 read-tasks-requires c κs =
-    first-read _ (c .before .before .before .before .before .before .if1 .left) (c .before .before .before .before .before .find .ensures) (c .before .before .before .before .if2 .left)
+    first-read _ _ (c .before .before .before .before .before .before .if1 .left) (c .before .before .before .before .before .find .ensures) (c .before .before .before .before .if2 .left)
     (rw (c .before .before .before .part-before .ensures) at (c .before .before .read-sizes .ensures)) (c .if3 .left)
 
 returns-4 : tie.Need-returns-4

@@ -9,17 +9,17 @@ use Rattle.reader.proofs.lines.read_tasks.Statement.{statement}
 use Rattle.reader.proofs.lines.read_tasks.Tie as tie
 
 abbrev Inv-loop : tie.InvT-loop
-Inv-loop text edition boards tasks board₀ ready₀ begin₀ finish₀ holds₀ after₀ rest₀ k₀ board ready begin finish holds after rest k =
-    (k ≤ tasks) × Going text k board ready begin finish holds after rest
+Inv-loop text mends edition boards tasks board₀ ready₀ begin₀ finish₀ holds₀ after₀ rest₀ k₀ board ready begin finish holds after rest k =
+    (k ≤ tasks) × Going mends text k board ready begin finish holds after rest
 
 abbrev μ-loop : tie.MeasureT-loop
-μ-loop text edition boards tasks board₀ ready₀ begin₀ finish₀ holds₀ after₀ rest₀ k₀ board ready begin finish holds after rest k = tasks - k
+μ-loop text mends edition boards tasks board₀ ready₀ begin₀ finish₀ holds₀ after₀ rest₀ k₀ board ready begin finish holds after rest k = tasks - k
 
 part-after-requires : tie.Need-part-after-requires Inv-loop μ-loop
 part-after-requires c κs = search needs
 
 loop-holds : tie.Need-loop-holds Inv-loop μ-loop
-loop-holds c = (search needs, going-start _ (c .part-after .ensures))
+loop-holds c = (search needs, going-start _ _ (c .part-after .ensures))
 
 find-requires : tie.Need-find-requires Inv-loop μ-loop
 find-requires c κs = search needs
@@ -37,7 +37,7 @@ add-answer-of : tie.Need-add-answer-of Inv-loop μ-loop
 add-answer-of c = search needs
 
 cast-answer-of-2 : tie.Need-cast-answer-of-2 Inv-loop μ-loop
-cast-answer-of-2 c = record { fits = column-small _ _ ((c .before .before .before .before .before .before .before .before .loop .inv) .1) (c .before .before .before .before .before .before .before .before .before .before .before .pre) (c .before .before .before .before .before .before .before .loop-test .taken) (c .before .before .before .before .before .next-line .ensures) }
+cast-answer-of-2 c = record { fits = column-small _ _ _ ((c .before .before .before .before .before .before .before .before .loop .inv) .1) (c .before .before .before .before .before .before .before .before .before .before .before .pre) (c .before .before .before .before .before .before .before .loop-test .taken) (c .before .before .before .before .before .next-line .ensures) }
 
 answer-of-requires : tie.Need-answer-of-requires Inv-loop μ-loop
 answer-of-requires c κs = search needs
@@ -46,13 +46,13 @@ refused-requires : tie.Need-refused-requires Inv-loop μ-loop
 refused-requires c κs = search needs
 
 returns : tie.Need-returns Inv-loop μ-loop
-returns c = (c .refused .ensures) ∙ ap refusedReading (c .before .answer-of .ensures) ∙ going-refused _ _ ((c .before .before .before .before .before .before .before .before .before .before .loop .inv) .1) (c .before .before .before .before .before .before .before .before .before .before .before .before .before .pre) (c .before .before .before .before .before .before .before .before .before .loop-test .taken) (c .before .before .before .before .before .before .before .next-line .ensures) (c .before .before .before .before .if1 .taken)
+returns c = (c .refused .ensures) ∙ ap refusedReading (c .before .answer-of .ensures) ∙ going-refused _ _ _ ((c .before .before .before .before .before .before .before .before .before .before .loop .inv) .1) (c .before .before .before .before .before .before .before .before .before .before .before .before .before .pre) (c .before .before .before .before .before .before .before .before .before .loop-test .taken) (c .before .before .before .before .before .before .before .next-line .ensures) (c .before .before .before .before .if1 .taken)
 
 cast-i : tie.Need-cast-i Inv-loop μ-loop
 cast-i c = search needs
 
 cast-board : tie.Need-cast-board Inv-loop μ-loop
-cast-board c = record { fits = board-small _ _ ((c .before .before .before .before .before .before .before .loop .inv) .1) (c .before .before .before .before .before .before .before .before .before .before .pre) (c .before .before .before .before .before .before .loop-test .taken) (c .before .before .before .before .next-line .ensures) (c .before .if1 .left) }
+cast-board c = record { fits = board-small _ _ _ ((c .before .before .before .before .before .before .before .loop .inv) .1) (c .before .before .before .before .before .before .before .before .before .before .pre) (c .before .before .before .before .before .before .loop-test .taken) (c .before .before .before .before .next-line .ensures) (c .before .if1 .left) }
 
 array-write-board : tie.Need-array-write-board Inv-loop μ-loop
 array-write-board c = search needs
@@ -76,22 +76,22 @@ array-write-finish : tie.Need-array-write-finish Inv-loop μ-loop
 array-write-finish c = search needs
 
 slice-aggregate-put-items : tie.Need-slice-aggregate-put-items Inv-loop μ-loop
-slice-aggregate-put-items c = holds-whole _ _ ((c .before .before .before .before .before .before .before .before .loop .inv) .1)
+slice-aggregate-put-items c = holds-whole _ _ _ ((c .before .before .before .before .before .before .before .before .loop .inv) .1)
 
 mul-put-items : tie.Need-mul-put-items Inv-loop μ-loop
 mul-put-items c = search needs
 
 put-items-requires : tie.Need-put-items-requires Inv-loop μ-loop
-put-items-requires c κs = holds-room _ _ ((c .before .before .before .before .before .before .before .before .loop .inv) .1) (c .before .before .before .before .before .before .before .before .before .before .before .pre) (c .before .before .before .before .before .before .before .loop-test .taken) (c .before .before .before .before .before .next-line .ensures) (c .before .before .if1 .left)
+put-items-requires c κs = holds-room _ _ _ ((c .before .before .before .before .before .before .before .before .loop .inv) .1) (c .before .before .before .before .before .before .before .before .before .before .before .pre) (c .before .before .before .before .before .before .before .loop-test .taken) (c .before .before .before .before .before .next-line .ensures) (c .before .before .if1 .left)
 
 slice-aggregate-put-items-2 : tie.Need-slice-aggregate-put-items-2 Inv-loop μ-loop
-slice-aggregate-put-items-2 c = after-whole _ _ ((c .before .before .before .before .before .before .before .before .before .before .before .loop .inv) .1)
+slice-aggregate-put-items-2 c = after-whole _ _ _ ((c .before .before .before .before .before .before .before .before .before .before .before .loop .inv) .1)
 
 mul-put-items-2 : tie.Need-mul-put-items-2 Inv-loop μ-loop
 mul-put-items-2 c = search needs
 
 put-items-requires-2 : tie.Need-put-items-requires-2 Inv-loop μ-loop
-put-items-requires-2 c κs = after-room _ _ ((c .before .before .before .before .before .before .before .before .before .before .before .loop .inv) .1) (c .before .before .before .before .before .before .before .before .before .before .before .before .before .before .pre) (c .before .before .before .before .before .before .before .before .before .before .loop-test .taken) (c .before .before .before .before .before .before .before .before .next-line .ensures) (c .before .before .before .before .before .if1 .left)
+put-items-requires-2 c κs = after-room _ _ _ ((c .before .before .before .before .before .before .before .before .before .before .before .loop .inv) .1) (c .before .before .before .before .before .before .before .before .before .before .before .before .before .before .pre) (c .before .before .before .before .before .before .before .before .before .before .loop-test .taken) (c .before .before .before .before .before .before .before .before .next-line .ensures) (c .before .before .before .before .before .if1 .left)
 
 past-requires : tie.Need-past-requires Inv-loop μ-loop
 past-requires c κs = search needs
@@ -103,7 +103,7 @@ loop-less : tie.Need-loop-less Inv-loop μ-loop
 loop-less c = search needs
 
 loop-again : tie.Need-loop-again Inv-loop μ-loop
-loop-again c = (search needs, going-turn _ _ ((c .before .before .before .before .before .before .before .before .before .before .before .before .before .before .loop .inv) .1) (c .before .before .before .before .before .before .before .before .before .before .before .before .before .before .before .before .before .pre) (c .before .before .before .before .before .before .before .before .before .before .before .before .before .loop-test .taken) (c .before .before .before .before .before .before .before .before .before .before .before .next-line .ensures) (c .before .before .before .before .before .before .before .before .if1 .left) (c .before .before .before .before .before .put-items .ensures) (c .before .before .put-items2 .ensures) (past-line _ (c .before .before .before .before .before .before .before .before .before .before .before .before .find .ensures) (c .past .ensures)))
+loop-again c = (search needs, going-turn _ _ _ ((c .before .before .before .before .before .before .before .before .before .before .before .before .before .before .loop .inv) .1) (c .before .before .before .before .before .before .before .before .before .before .before .before .before .before .before .before .before .pre) (c .before .before .before .before .before .before .before .before .before .before .before .before .before .loop-test .taken) (c .before .before .before .before .before .before .before .before .before .before .before .next-line .ensures) (c .before .before .before .before .before .before .before .before .if1 .left) (c .before .before .before .before .before .put-items .ensures) (c .before .before .put-items2 .ensures) (past-line _ (c .before .before .before .before .before .before .before .before .before .before .before .before .find .ensures) (c .past .ensures)))
 
 add-answer-of-2 : tie.Need-add-answer-of-2 Inv-loop μ-loop
 add-answer-of-2 c = record { fits = omega (arith, (c .before .before .before .before .before .pre) .few-tasks) }
@@ -115,22 +115,22 @@ refused-requires-2 : tie.Need-refused-requires-2 Inv-loop μ-loop
 refused-requires-2 c κs = search needs
 
 returns-2 : tie.Need-returns-2 Inv-loop μ-loop
-returns-2 c = (c .refused2 .ensures) ∙ ap refusedReading (c .before .answer-of2 .ensures) ∙ going-more _ _ ((c .before .before .before .before .loop .inv) .1) (c .before .before .before .before .before .before .before .pre) (omega arith) (c .before .before .if2 .taken)
+returns-2 c = (c .refused2 .ensures) ∙ ap refusedReading (c .before .answer-of2 .ensures) ∙ going-more _ _ _ ((c .before .before .before .before .loop .inv) .1) (c .before .before .before .before .before .before .before .pre) (omega arith) (c .before .before .if2 .taken)
 
 answer-of-requires-3 : tie.Need-answer-of-requires-3 Inv-loop μ-loop
 answer-of-requires-3 c κs = search needs
 
-cast-t44 : tie.Need-cast-t44 Inv-loop μ-loop
-cast-t44 c = record { fits = omega (arith, (c .before .before .before .before .before .before .pre) .two) }
-
 cast-t45 : tie.Need-cast-t45 Inv-loop μ-loop
-cast-t45 c = search needs
+cast-t45 c = record { fits = omega (arith, (c .before .before .before .before .before .before .pre) .two) }
 
 cast-t46 : tie.Need-cast-t46 Inv-loop μ-loop
 cast-t46 c = search needs
 
+cast-t47 : tie.Need-cast-t47 Inv-loop μ-loop
+cast-t47 c = search needs
+
 returns-3 : tie.Need-returns-3 Inv-loop μ-loop
-returns-3 c = rw (c .answer-of3 .ensures) (going-end _ _ ((c .before .before .before .loop .inv) .1) (c .before .before .before .before .before .before .pre) (omega arith) (c .before .if2 .left))
+returns-3 c = rw (c .answer-of3 .ensures) (going-end _ _ _ ((c .before .before .before .loop .inv) .1) (c .before .before .before .before .before .before .pre) (omega arith) (c .before .if2 .left))
 
 pub read-tasks-spec : {M : Type 1} → statement M
 read-tasks-spec =
@@ -173,7 +173,7 @@ read-tasks-spec =
     refused-requires-2
     returns-2
     answer-of-requires-3
-    cast-t44
     cast-t45
     cast-t46
+    cast-t47
     returns-3)

@@ -1,0 +1,82 @@
+-- SHARED HOLDS ARE RETIRED. The converter on a plan value, the second call on a text, and a text of either edition made edition 2.
+use Prim.Native.Nat.{ℕ, _≤_}
+use mathlib.Core.Path.{_≡_}
+use mathlib.Core.Logic.{_≢_, _⊎_}
+use mathlib.Core.Bool.{true, false, cond}
+use mathlib.Core.List.{List}
+use Rattle.theory.specs.Events.{Event}
+use Rattle.plan.specs.Answer.{granted, isGranted}
+use Rattle.plan.specs.Value.{taskAt, isAccepted}
+use Rattle.plan.specs.Read.{editionOf, boardsOf, tasksOf, textTask, readingOf, mendedOf}
+use Rattle.plan.specs.Convert.{convertedOf, renewedOf}
+use Rattle.plan.specs.declared.Plan.{Plan}
+use Rattle.book.specs.Early.{figureOf}
+use Rattle.book.specs.Event.{answerTo}
+use Rattle.promises.specs.Runs.{SizedPlan, runOf}
+use Rattle.promises.specs.Says.{ReadingSays}
+use Rattle.promises.specs.Conversion.{MadeOf, Unshared, ConvertedSays, exclusiveBook}
+use Rattle.promises.proofs.codes.Reading as read-codes
+use Rattle.promises.proofs.codes.Conversion as conversion
+use Rattle.promises.proofs.codes.Mended as mended
+
+-- the converter makes an accepted plan of edition 2 with the same boards, times, drives and after lists, ready 0 and no shared hold;
+-- or says 7 with the first pair that clashes by drive now; or 9, to a plan that is not accepted or not of edition 1
+pub converted-code :
+    (plan : Plan)
+    → (convertedOf plan .answer .code ≡ 0) ⊎ ((convertedOf plan .answer .code ≡ 7) ⊎ (convertedOf plan .answer .code ≡ 9))
+converted-code = conversion.converted-code
+
+pub converted-says : (plan : Plan) → ConvertedSays plan (convertedOf plan)
+converted-says = conversion.converted-says
+
+-- where the plan has no shared hold it never refuses an accepted edition 1 plan
+pub unshared-converts :
+    (plan : Plan) → isAccepted plan ≡ true → plan .edition ≡ 1 → Unshared (plan .tasks) (taskAt plan) → convertedOf plan .answer ≡ granted
+unshared-converts = conversion.unshared-converts
+
+-- its arrays have their lengths
+pub converted-sized : (plan : Plan) → SizedPlan plan → SizedPlan (convertedOf plan .plan)
+converted-sized = conversion.converted-sized
+
+-- converted and opened: the same book but for its plan's edition and holds after any reports and drops, so the same starts and ends;
+-- the same answer to any report and drop; the same M
+module _ (plan : Plan) (size : SizedPlan plan) (taken : convertedOf plan .answer .code ≡ 0) (events : List Event) where
+  pub converted-run : runOf (convertedOf plan .plan) events ≡ exclusiveBook (runOf plan events)
+  converted-run = conversion.converted-run plan size taken events
+
+  pub converted-answers : (event : Event) → answerTo (runOf (convertedOf plan .plan) events) event ≡ answerTo (runOf plan events) event
+  converted-answers = conversion.converted-answers plan size taken events
+
+  pub converted-figure : figureOf (runOf (convertedOf plan .plan) events) ≡ figureOf (runOf plan events)
+  converted-figure = conversion.converted-figure plan size taken events
+
+-- the second call reads, or says 1 to 8, 17 or 18 as reading does, and never 20
+pub mended-code :
+    (text : List ℕ)
+    → (mendedOf text .answer .code ≤ 8) ⊎ ((mendedOf text .answer .code ≡ 17) ⊎ (mendedOf text .answer .code ≡ 18))
+mended-code = mended.mended-code
+
+pub mended-says : (text : List ℕ) → ReadingSays true text (mendedOf text)
+mended-says = read-codes.reading-says true
+
+-- what it gives is made of an edition 2 text's own tasks, ready ticks kept
+pub mended-made :
+    (text : List ℕ) → mendedOf text .answer .code ≡ 0
+    → (editionOf text ≡ 2) × MadeOf (boardsOf text) (tasksOf text) (textTask false text) (mendedOf text .plan)
+mended-made text z = (mended.mended-edition text z, mended.mended-made text z)
+
+-- on a text that is not of edition 1 and has no shared hold it is reading
+pub mended-is-reading : (text : List ℕ) → editionOf text ≢ 1 → Unshared (tasksOf text) (textTask false text) → mendedOf text ≡ readingOf text
+mended-is-reading = mended.mended-is-reading
+
+pub mended-sized : (text : List ℕ) → SizedPlan (mendedOf text .plan)
+mended-sized = read-codes.reading-sized true
+
+-- a text of edition 1 is read and converted, any other is the second call's
+pub renewed-first :
+    (text : List ℕ) → editionOf text ≡ 1
+    → renewedOf text ≡ cond (isGranted (readingOf text .answer)) (convertedOf (readingOf text .plan)) (readingOf text)
+renewed-first = mended.renewed-first
+
+pub renewed-second : (text : List ℕ) → editionOf text ≢ 1 → renewedOf text ≡ mendedOf text
+renewed-second = mended.renewed-second
