@@ -1,2 +1,3 @@
 pub mod RangedLaws
 pub mod FaultLaws
+pub mod Alike

@@ -17,10 +17,10 @@ use Rattle.text.specs.Items.{isList, hasShared, holdsOk, afterOk}
 use Rattle.text.proofs.Shared.{none-shared}
 use Rattle.text.proofs.ListFields.{isHolds, holdsOf, isAfter, afterOf}
 use Rattle.faults.specs.Faults.{codeFor, fieldCode, wordCode}
-use Rattle.faults.proofs.RangedLaws.{InRange, field-zero, zero-field, ranged-value}
+use Rattle.faults.proofs.RangedLaws.{InRange, field-zero, zero-field}
 use Rattle.faults.proofs.FaultLaws.{isCode, for-code, field-is-code, word-is-code, end-is-code, eighteen-is-code, twenty-is-code, for-zero, word-zero, zero-word, end-zero, zero-end, zero-at, no-codes, zeros}
 use Rattle.plan.specs.Task.{taskOk, editionOk}
-use Rattle.plan.specs.Read.{startAt, holdsCode, codesFrom, readyCode, taskCodes, taskFrom, lineTask}
+use Rattle.plan.specs.Read.{holdsCode, codesFrom, readyCode, taskCodes, taskFrom, lineTask}
 use Rattle.plan.proofs.PlanTasks.{between-of, exclusive-ok}
 
 -- ---- from the planned start on, which is field n
@@ -44,9 +44,6 @@ listed line m h =
     by-le (length (fields line)) m
     (λ few. let none : field line m ≡ [] = List·getD-eq-default (fields line) [] few in true-false (rw none at h) refl)
     (λ some. some)
-
-start-value : (line : List ℕ) (n : ℕ) → fieldCode 0 most (field line n) ≡ 0 → startAt line n ≡ valueOf (field line n)
-start-value line n z = ranged-value 0 most (field line n) refl z
 
 -- a holds field of code 0
 module _ (retired : Bool) (s : List ℕ) where
@@ -95,7 +92,7 @@ module _ (retired ended : Bool) (tasks : ℕ) (line : List ℕ) (n : ℕ) where
   times-ok all =
       let at = zero-at (codesFrom retired ended tasks line n) all in
       let b = field-zero 0 most (field line n) (omega arith) (at 0 (omega arith)) in
-      let f = field-zero (startAt line n + 1) most (field line (n + 1)) (omega arith) (at 1 (omega arith)) in
+      let f = field-zero (valueOf (field line n) + 1) most (field line (n + 1)) (omega arith) (at 1 (omega arith)) in
       let h = holds-zero retired (field line (n + 2)) (at 2 (omega arith)) in
       let a = for-zero (isAfter (field line (n + 3))) (afterOk tasks (afterOf (field line (n + 3)))) (at 3 (omega arith)) in
       let e = end-zero ended (n + 4) line (at 4 (omega arith)) in (
@@ -103,7 +100,7 @@ module _ (retired ended : Bool) (tasks : ℕ) (line : List ℕ) (n : ℕ) where
         record {
           begin = b .spelt;
           finish = f .spelt;
-          lasts = omega (arith, f .from, start-value line n (at 0 (omega arith)));
+          lasts = omega (arith, f .from);
           to = f .to;
           holds = h .spelt;
           drives = h .fine;
@@ -120,8 +117,8 @@ module _ (retired ended : Bool) (tasks : ℕ) (line : List ℕ) (n : ℕ) where
       let z = zero-field 0 most (field line n) (omega arith) (record { spelt = t .begin; from = omega arith; to = omega (arith, t .lasts, t .to) }) in
       zeros _ _ z
       (zeros _ _
-      (zero-field (startAt line n + 1) most (field line (n + 1)) (omega arith)
-      (record { spelt = t .finish; from = omega (arith, t .lasts, start-value line n z); to = t .to }))
+      (zero-field (valueOf (field line n) + 1) most (field line (n + 1)) (omega arith)
+      (record { spelt = t .finish; from = omega (arith, t .lasts); to = t .to }))
       (zeros _ _ (zero-holds retired (field line (n + 2)) (record { spelt = t .holds; fine = t .drives; exclusive = t .exclusive }))
       (zeros _ _ (rw (t .after, t .order)) (zeros _ [] (zero-end ended (n + 4) line e (omega (arith, t .count))) no-codes))))
 
@@ -151,26 +148,25 @@ pub record LineFine (mends : Bool) (edition boards tasks : ℕ) (line : List ℕ
   pub ready : eqb edition 2 ≡ true → ReadyOk line
 
 module _ (line : List ℕ) where
-  ready-ok : readyCode line ≡ 0 → fieldCode 0 most (field line 4) ≡ 0 → ReadyOk line
+  ready-ok : readyCode line ≡ 0 → ReadyOk line
   unfolding readyCode
-  ready-ok z b =
+  ready-ok z =
       by-eq (fieldCode 0 most (field line 3)) 0
       (λ e.
-      by-bool (ltb (startAt line 4) (valueOf (field line 3)))
+      by-bool (ltb (valueOf (field line 4)) (valueOf (field line 3)))
       (λ l. let q : _≡_ {A = ℕ} 18 0 = rw (eq-eqb (fieldCode 0 most (field line 3)) 0 e, l) at z in absurd (omega arith))
       (λ l. (
         field-zero 0 most (field line 3) (omega arith) e .spelt,
-        omega (arith, ltb-false (startAt line 4) (valueOf (field line 3)) l, start-value line 4 b),
+        ltb-false (valueOf (field line 4)) (valueOf (field line 3)) l,
       )))
       (λ n. absurd (n (rw (ne-eqb (fieldCode 0 most (field line 3)) 0 n) at z)))
 
   ok-ready : ReadyOk line → fieldCode 0 most (field line 4) ≡ 0 → readyCode line ≡ 0
   unfolding readyCode
   ok-ready r b =
-      let start = start-value line 4 b in
       let few = field-zero 0 most (field line 4) (omega arith) b .to in
       let e = zero-field 0 most (field line 3) (omega arith) (record { spelt = r .0; from = omega arith; to = omega (arith, r .1, few) }) in
-      rw (e, le-ltb (startAt line 4) (valueOf (field line 3)) (omega (arith, r .1, start)))
+      rw (e, le-ltb (valueOf (field line 4)) (valueOf (field line 3)) (r .1))
 
 module _ (mends ended : Bool) (edition boards tasks : ℕ) (line : List ℕ) (k : ℕ) (few-boards : boards ≤ most) (few-tasks : k ≤ most) where
   abbrev codes : List ℕ
@@ -208,7 +204,7 @@ module _ (mends ended : Bool) (edition boards tasks : ℕ) (line : List ℕ) (k 
         record {
           head = head-ok all;
           times = rw e (t .1);
-          ready = λ q. ready-ok line (zero-at (readyCode line ∷ codesFrom (not mends) ended tasks line 4) l 0 (omega arith)) (zero-at (codesFrom (not mends) ended tasks line 4) r 0 (omega arith));
+          ready = λ q. ready-ok line (zero-at (readyCode line ∷ codesFrom (not mends) ended tasks line 4) l 0 (omega arith));
         },
       ))
       (λ e.
@@ -246,14 +242,14 @@ module _ (mends ended : Bool) (edition boards tasks : ℕ) (line : List ℕ) (k 
     where
       ready-is-code : isCode (readyCode line) ≡ true
       ready-is-code =
-          by-bool (eqb (fieldCode 0 most (field line 3)) 0 && ltb (startAt line 4) (valueOf (field line 3)))
+          by-bool (eqb (fieldCode 0 most (field line 3)) 0 && ltb (valueOf (field line 4)) (valueOf (field line 3)))
           (λ e. rw e eighteen-is-code)
           (λ e. rw e (field-is-code 0 most (field line 3)))
 
       from-kinds : (retired : Bool) (n : ℕ) → allOf isCode (codesFrom retired ended tasks line n) ≡ true
       from-kinds retired n =
           and-of (field-is-code 0 most (field line n))
-          (and-of (field-is-code (startAt line n + 1) most (field line (n + 1)))
+          (and-of (field-is-code (valueOf (field line n) + 1) most (field line (n + 1)))
           (and-of (holds-is-code retired (field line (n + 2)))
           (and-of (for-code (isAfter (field line (n + 3))) (afterOk tasks (afterOf (field line (n + 3))))) (and-of (end-is-code ended (n + 4) line) refl))))
 

@@ -11,7 +11,7 @@ use Rattle.text.specs.Bytes.{bytes}
 use Rattle.text.specs.Number.{isNumber, valueOf, most}
 use Rattle.text.specs.Line.{hasLine, skip, lineAt, fields, field}
 use Rattle.text.specs.Items.{between, isList, listOf, isHold, holdOf, hasShared, holdsOk, afterOk}
-use Rattle.faults.specs.Faults.{codeFor, fieldCode, rangedRead, wordCode, endCode, faultOf}
+use Rattle.faults.specs.Faults.{codeFor, fieldCode, wordCode, endCode, faultOf}
 use Rattle.plan.specs.Answer.{refuse, granted, isGranted, isRefused}
 use Rattle.plan.specs.Task.{Task, taskOf, exclusiveTask}
 use Rattle.plan.specs.Judged.{tasksAnswer}
@@ -51,10 +51,6 @@ lineTask mends edition line =
     let task = taskFrom line (valueOf (field line 3)) 4 in
     cond (eqb edition 2) (cond mends (exclusiveTask task) task) (taskFrom line 0 3)
 
--- the planned start that is field n; 0 where it is refused by itself
-abbrev pub startAt : List ℕ → ℕ → ℕ
-startAt line n = rangedRead 0 most (field line n) .value
-
 -- 3 or 4 as any list; 20, a shared hold where it is retired
 unfoldable pub holdsCode : Bool → List ℕ → ℕ
 holdsCode retired s =
@@ -65,7 +61,7 @@ holdsCode retired s =
 unfoldable pub codesFrom : Bool → Bool → ℕ → List ℕ → ℕ → List ℕ
 codesFrom retired ended tasks line n =
     fieldCode 0 most (field line n)
-    ∷ fieldCode (startAt line n + 1) most (field line (n + 1))
+    ∷ fieldCode (valueOf (field line n) + 1) most (field line (n + 1))
     ∷ holdsCode retired (field line (n + 2))
     ∷ codeFor (isList isNumber (field line (n + 3))) (afterOk tasks (listOf valueOf (field line (n + 3))))
     ∷ endCode ended (n + 4) line ∷ []
@@ -73,7 +69,8 @@ codesFrom retired ended tasks line n =
 -- Ready is a tick; 18, ready after planned start
 unfoldable pub readyCode : List ℕ → ℕ
 readyCode line =
-    let code = fieldCode 0 most (field line 3) in cond (eqb code 0 && ltb (startAt line 4) (valueOf (field line 3))) 18 code
+    let code = fieldCode 0 most (field line 3) in
+    cond (eqb code 0 && ltb (valueOf (field line 4)) (valueOf (field line 3))) 18 code
 
 -- Then T lines: `task`, number, board, in edition 2 ready, planned start, planned finish, holds, after. The k-th task line
 -- carries number k. Edition 2 no longer takes `s`, unless it is mended

@@ -22,9 +22,9 @@ use Rattle.faults.specs.Faults.{rangedRead, worst, faultOf}
 use Rattle.faults.proofs.RangedLaws.{InRange, zero-field, ranged-value}
 use Rattle.faults.proofs.FaultLaws.{faultless-is}
 use Rattle.plan.specs.Task.{Task, exclusiveTask}
-use Rattle.plan.specs.Read.{startAt, taskCodes, taskFrom, lineTask}
+use Rattle.plan.specs.Read.{taskCodes, taskFrom, lineTask}
 use Rattle.plan.proofs.LineCodes.{TimesOk, LineFine, fine-line, task-kinds}
-use Rattle.reader.specs.private.Fields.{tailRead, itemsMended, tailMended, lineBy, lineRead, nextLine}
+use Rattle.reader.specs.private.Fields.{startAt, tailRead, itemsMended, tailMended, lineBy, lineRead, nextLine}
 use Rattle.reader.specs.declared.Tail.{Tail}
 use Rattle.reader.specs.declared.Line.{Line}
 

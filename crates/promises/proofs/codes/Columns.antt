@@ -12,12 +12,9 @@ use Rattle.laws.proofs.Cases.{by-bool, by-le}
 use Rattle.laws.specs.Lists.{anyOf, same}
 use Rattle.laws.specs.Split.{indexOf}
 use Rattle.laws.proofs.Split.{index-found, index-first, skip-down, skip-beyond}
-use Rattle.text.specs.Number.{numberOf}
 use Rattle.text.specs.Line.{TAB, fields, field}
-use Rattle.text.specs.Items.{between}
-use Rattle.text.specs.declared.Number.{Number}
-use Rattle.text.specs.declared.Number.the-variants.{Value, Over, Misspelt}
-use Rattle.faults.specs.Faults.{codeFor, numberCode, fieldCode, wordCode, endCode, worst, columnOf}
+use Rattle.faults.specs.Faults.{codeFor, wordCode, endCode, worst, columnOf}
+use Rattle.faults.proofs.Alike.{Plain}
 use Rattle.faults.proofs.FaultLaws.{any-found}
 use Rattle.plan.specs.Value.{at}
 use Rattle.promises.specs.Columns.{Names, ColumnSays, beginsAt}
@@ -62,9 +59,6 @@ worst-is codes n =
 
 -- ---- no code but that of a ready tick is 18, and none but that of the holds is 20
 
-abbrev pub Plain : ℕ → Type 0
-Plain code = (code ≡ 0) ⊎ ThreeOrFour code
-
 -- so it is neither
 pub plain-not : {code : ℕ} → Plain code → (other : ℕ) → 4 < other → code ≢ other
 plain-not p other l z = ⊎-elim (λ e. absurd (omega arith)) (λ f. ⊎-elim (λ e. absurd (omega arith)) (λ e. absurd (omega arith)) f) p
@@ -77,14 +71,6 @@ for-plain false fine = inr (inl refl)
 pub word-plain : (word s : List ℕ) → Plain (wordCode word s)
 unfolding wordCode
 word-plain word s = by-bool (same s word) (λ e. rw e (inl refl)) (λ e. rw e (inr (inl refl)))
-
-pub field-plain : (low high : ℕ) (s : List ℕ) → Plain (fieldCode low high s)
-field-plain low high s = go (numberOf s)
-  where
-    go : (r : Number) → Plain (numberCode low high r)
-    go (Value v stop) = by-bool (between low high v) (λ e. rw e (inl refl)) (λ e. rw e (inr (inr refl)))
-    go (Over stop) = inr (inr refl)
-    go (Misspelt stop) = inr (inl refl)
 
 pub end-plain : (ended : Bool) (n : ℕ) (line : List ℕ) → Plain (endCode ended n line)
 unfolding endCode

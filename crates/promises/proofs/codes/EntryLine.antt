@@ -20,7 +20,8 @@ use Rattle.entries.specs.declared.Entry.{Entry}
 use Rattle.entries.specs.declared.Entry.the-variants.{Refused}
 use Rattle.promises.specs.Columns.{ColumnSays}
 use Rattle.promises.specs.Says.{EntrySays}
-use Rattle.promises.proofs.codes.Columns.{Plain, word-plain, field-plain, end-plain, worst-plain, column-says, no-field}
+use Rattle.faults.proofs.Alike.{Plain, field-plain}
+use Rattle.promises.proofs.codes.Columns.{word-plain, end-plain, worst-plain, column-says, no-field}
 
 module _ (line : List ℕ) (ended : Bool) where
   end-missing : (n : ℕ) → n < 3 → length (fields line) ≤ n → at (endCodes ended line) n ≡ 3

@@ -2,39 +2,35 @@
 use Prim.Native.Nat.{ℕ, _+_, _<_}
 use native.Mathlib.Omega.{arith}
 use mathlib.Core.Bool.{Bool, true, false, not, cond, _&&_}
-use mathlib.Core.List.{List, _∷_}
+use mathlib.Core.List.{List}
 use mathlib.Core.Path.{_≡_, refl, sym, ap, fun-ext, _∙_}
-use mathlib.Core.Logic.{⊎-elim}
 use lib.Dec.{eqb, ltb}
 use lib.ListN.{length}
-use borrow.Author.Tests.{lt-ltb, le-ltb}
+use borrow.Author.Tests.{le-ltb}
 use Rattle.laws.proofs.Cases.{by-bool, by-eq, by-le, and-no, same-test, true-false}
 use Rattle.laws.specs.Digits.{valueAfter, digitsOf}
 use Rattle.laws.specs.Lists.{anyOf, same}
 use Rattle.laws.proofs.Lists.{same-eq, same-refl}
 use Rattle.laws.specs.Scan.{scanTo}
-use Rattle.laws.specs.Split.{indexOf, beginOf}
-use Rattle.laws.proofs.Split.{index-found, index-first}
+use Rattle.laws.specs.Split.{indexOf}
+use Rattle.laws.proofs.Split.{index-found}
 use Rattle.text.specs.Bytes.{bytes}
-use Rattle.text.specs.Number.{isNumber, valueOf, most, numberOf}
-use Rattle.text.specs.Line.{TAB, hasLine, skip, lineAt, field}
-use Rattle.text.specs.Items.{between}
-use Rattle.text.specs.declared.Number.{Number}
-use Rattle.text.specs.declared.Number.the-variants.{Value, Over, Misspelt}
-use Rattle.faults.specs.Faults.{numberCode, fieldCode, worst, faultOf}
+use Rattle.text.specs.Number.{isNumber, valueOf}
+use Rattle.text.specs.Line.{hasLine, skip, lineAt, field}
+use Rattle.faults.specs.Faults.{worst, faultOf}
 use Rattle.faults.specs.declared.Fault.{Fault}
-use Rattle.faults.proofs.RangedLaws.{ranged-value}
 use Rattle.faults.proofs.FaultLaws.{any-found}
 use Rattle.plan.specs.Answer.{refuse, granted, isGranted, isRefused}
 use Rattle.plan.specs.Judged.{tasksAnswer}
 use Rattle.plan.specs.Value.{at, planOf}
-use Rattle.plan.specs.Read.{ranged, sizesOk, editionOf, boardsOf, tasksOf, startAt, codesFrom, taskCodes, taskFrom, lineTask}
+use Rattle.plan.specs.Read.{ranged, sizesOk, editionOf, boardsOf, tasksOf, codesFrom, taskCodes, taskFrom, lineTask}
 use Rattle.plan.specs.Read.{lineAnswer, linesAnswer, textTask, formAnswer, textAnswer, textPlan, readAs, readIn, readingOf}
 use Rattle.plan.specs.declared.Answer.{Answer}
 use Rattle.plan.specs.declared.Plan.{Plan}
 use Rattle.plan.proofs.TextLines.{number-range, sizes-test}
 use Rattle.promises.specs.Edition1.{sevenSizes, sevenCodes, sevenTask, sevenWorst, sevenFault, sevenLine, sevenLines, sevenForm, sevenAnswer, sevenReading}
-use Rattle.promises.proofs.codes.Columns.{Plain, plain-not, field-plain}
+use Rattle.faults.proofs.Alike.{Plain}
+use Rattle.promises.proofs.codes.Columns.{plain-not}
 use Rattle.promises.proofs.codes.TaskLine.{holds-first, first-plain}
 
 -- ---- a line's fault by where 3 and 4 stand
@@ -50,63 +46,6 @@ fault-seven : (line codes : List ℕ) → ((n : ℕ) → Plain (at codes n)) →
 unfolding faultOf worst sevenWorst
 fault-seven line codes plain = rw (none-over codes plain 18 (omega arith), none-over codes plain 20 (omega arith))
 
--- by the number of codes and the places of 3 and 4
-abbrev faultBy : List ℕ → ℕ → ℕ → ℕ → Fault
-faultBy line count three four =
-    cond (ltb three count) (record { code = 3; column = beginOf TAB line three + 1 })
-    (cond (ltb four count) (record { code = 4; column = beginOf TAB line four + 1 }) (record { code = 0; column = 0 }))
-
-fault-by : (line codes : List ℕ) → sevenFault line codes ≡ faultBy line (length codes) (indexOf 3 codes) (indexOf 4 codes)
-unfolding sevenWorst
-fault-by line codes =
-    by-bool (anyOf (eqb 3) codes) (λ e. rw (e, sym (any-found 3 codes) ∙ e))
-    (λ e.
-    by-bool (anyOf (eqb 4) codes)
-    (λ f. rw (e, f, sym (any-found 3 codes) ∙ e, sym (any-found 4 codes) ∙ f))
-    (λ f. rw (e, f, sym (any-found 3 codes) ∙ e, sym (any-found 4 codes) ∙ f)))
-
--- two lines of codes that differ after a faulty one, and in no 3
-module _ (line : List ℕ) (a b c d x y : ℕ) (rest : List ℕ) (plain : Plain d) (alike : eqb x 3 ≡ eqb y 3) where
-  abbrev these : List ℕ
-  these = a ∷ b ∷ c ∷ d ∷ x ∷ rest
-
-  abbrev those : List ℕ
-  those = a ∷ b ∷ c ∷ d ∷ y ∷ rest
-
-  by-three : d ≡ 3 → sevenFault line these ≡ sevenFault line those
-  unfolding indexOf
-  by-three e =
-      let here : indexOf 3 these ≡ indexOf 3 those = rw e in
-      let found : indexOf 3 these < length these =
-      by-le (length these) (indexOf 3 these) (λ l. absurd (index-first 3 these 0 3 (omega arith) e)) (λ l. l) in
-      let found′ : indexOf 3 those < length those = omega arith in
-      fault-by line these
-      ∙ rw (lt-ltb (indexOf 3 these) (length these) found, here)
-      (sym (fault-by line those ∙ rw (lt-ltb (indexOf 3 those) (length those) found′)))
-
-  by-four : d ≡ 4 → sevenFault line these ≡ sevenFault line those
-  unfolding indexOf
-  by-four e =
-      let three : indexOf 3 these ≡ indexOf 3 those = rw (e, alike) in
-      let four : indexOf 4 these ≡ indexOf 4 those = rw e in
-      fault-by line these ∙ (λ i. faultBy line (length these) (three i) (four i)) ∙ sym (fault-by line those)
-
-  pub same-fault : (d ≡ 0 → x ≡ y) → sevenFault line these ≡ sevenFault line those
-  same-fault f =
-      ⊎-elim (λ z. ap (λ (v : ℕ). sevenFault line (a ∷ b ∷ c ∷ d ∷ v ∷ rest)) (f z)) (⊎-elim by-three by-four) plain
-
--- a number is misspelt in whatever range
-misspelt-same : (low other high : ℕ) (s : List ℕ) → eqb (fieldCode low high s) 3 ≡ eqb (fieldCode other high s) 3
-misspelt-same low other high s = go (numberOf s)
-  where
-    go : (r : Number) → eqb (numberCode low high r) 3 ≡ eqb (numberCode other high r) 3
-    go (Value v stop) =
-        by-bool (between low high v)
-        (λ e. by-bool (between other high v) (λ f. rw (e, f)) (λ f. rw (e, f)))
-        (λ e. by-bool (between other high v) (λ f. rw (e, f)) (λ f. rw (e, f)))
-    go (Over stop) = refl
-    go (Misspelt stop) = refl
-
 line-fault :
     (ended : Bool) (boards tasks : ℕ) (line : List ℕ) (k : ℕ)
     → faultOf line (taskCodes false ended 1 boards tasks line k) ≡ sevenFault line (sevenCodes ended boards tasks line k)
@@ -114,11 +53,6 @@ unfolding taskCodes codesFrom sevenCodes
 line-fault ended boards tasks line k =
     fault-seven line (taskCodes false ended 1 boards tasks line k) (first-plain line false ended 1 boards tasks k (λ z. omega arith))
     ∙ rw (holds-first (field line 5))
-    (same-fault line _ _ _ (fieldCode 0 most (field line 3)) _ _ _ (field-plain 0 most (field line 3))
-    (misspelt-same (startAt line 3 + 1) (valueOf (field line 3) + 1) most (field line 4))
-    (λ z.
-    ap (λ (v : ℕ). fieldCode (v + 1) most (field line 4))
-    (ranged-value 0 most (field line 3) refl z)))
 
 -- ---- the first line
 

@@ -1,7 +1,7 @@
 -- The codes of a task line, and the column that a refused one names.
 use Prim.Native.Nat.{ℕ, zero, suc, _+_, _≤_, _<_}
 use mathlib.Core.Path.{_≡_, refl, sym, ap, _∙_}
-use mathlib.Core.Logic.{_≢_, _⊎_, inl, ⊎-elim}
+use mathlib.Core.Logic.{_≢_, inl}
 use mathlib.Core.Bool.{Bool, true, false, not, cond, _&&_}
 use mathlib.Core.List.{List, _∷_}
 use native.Mathlib.Omega.{arith}
@@ -17,13 +17,13 @@ use Rattle.text.specs.Number.{isNumber, valueOf, most, numberOf}
 use Rattle.text.specs.Line.{TAB, fields, field}
 use Rattle.text.specs.Items.{isList, listOf, isHold, holdOf, hasShared, holdsOk, afterOk}
 use Rattle.faults.specs.Faults.{codeFor, fieldCode, wordCode, endCode, worst, columnOf}
-use Rattle.faults.proofs.RangedLaws.{ranged-value}
 use Rattle.faults.proofs.FaultLaws.{faultless-is, zero-at}
 use Rattle.plan.specs.Value.{at}
-use Rattle.plan.specs.Read.{startAt, holdsCode, codesFrom, readyCode, taskCodes}
+use Rattle.plan.specs.Read.{holdsCode, codesFrom, readyCode, taskCodes}
 use Rattle.plan.proofs.LineCodes.{task-kinds}
 use Rattle.promises.specs.Columns.{ColumnSays}
-use Rattle.promises.proofs.codes.Columns.{worst-is, Plain, plain-not, for-plain, word-plain, field-plain, end-plain, column-says, no-field}
+use Rattle.faults.proofs.Alike.{Plain, field-plain}
+use Rattle.promises.proofs.codes.Columns.{worst-is, plain-not, for-plain, word-plain, end-plain, column-says, no-field}
 
 -- where nothing is retired a holds field is refused by its spelling and its range alone
 pub holds-first : (s : List ℕ) → holdsCode false s ≡ codeFor (isList isHold s) (holdsOk (listOf holdOf s))
@@ -83,7 +83,7 @@ module _ (line : List ℕ) where
     from-plain : (retired : Bool) (n m : ℕ) → m ≢ 2 → Plain (at (codesFrom retired ended tasks line n) m)
     unfolding codesFrom
     from-plain retired n zero d = field-plain 0 most (field line n)
-    from-plain retired n (suc zero) d = field-plain (startAt line n + 1) most (field line (n + 1))
+    from-plain retired n (suc zero) d = field-plain (valueOf (field line n) + 1) most (field line (n + 1))
     from-plain retired n (suc (suc zero)) d = absurd (d refl)
     from-plain retired n (suc (suc (suc zero))) d = for-plain (isList isNumber (field line (n + 3))) (afterOk tasks (listOf valueOf (field line (n + 3))))
     from-plain retired n (suc (suc (suc (suc zero)))) d = end-plain ended (n + 4) line
@@ -131,29 +131,23 @@ module _ (line : List ℕ) where
     second-plain o (suc (suc (suc zero))) d f = absurd (d refl)
     second-plain o (suc (suc (suc (suc m)))) d f = rw (eq-eqb edition 2 o) (from-plain (not mends) 4 m (λ e. f (ap (λ (x : ℕ). suc (suc (suc (suc x)))) e)))
 
-    places : edition ≡ 2 → (at codes 3 ≡ readyCode line) × (at codes 4 ≡ fieldCode 0 most (field line 4)) × (at codes 6 ≡ holdsCode (not mends) (field line 6))
+    places : edition ≡ 2 → (at codes 3 ≡ readyCode line) × (at codes 6 ≡ holdsCode (not mends) (field line 6))
     unfolding taskCodes codesFrom
-    places o = (rw (eq-eqb edition 2 o), rw (eq-eqb edition 2 o), rw (eq-eqb edition 2 o))
+    places o = (rw (eq-eqb edition 2 o), rw (eq-eqb edition 2 o))
 
-    ready-late : readyCode line ≡ 18 → startAt line 4 < valueOf (field line 3)
+    ready-late : readyCode line ≡ 18 → valueOf (field line 4) < valueOf (field line 3)
     unfolding readyCode
     ready-late z =
-        by-bool (eqb (fieldCode 0 most (field line 3)) 0 && ltb (startAt line 4) (valueOf (field line 3)))
-        (λ e. ltb-true (startAt line 4) (valueOf (field line 3)) (and-r (eqb (fieldCode 0 most (field line 3)) 0) _ e))
+        by-bool (eqb (fieldCode 0 most (field line 3)) 0 && ltb (valueOf (field line 4)) (valueOf (field line 3)))
+        (λ e. ltb-true (valueOf (field line 4)) (valueOf (field line 3)) (and-r (eqb (fieldCode 0 most (field line 3)) 0) _ e))
         (λ e. absurd (plain-not (field-plain 0 most (field line 3)) 18 (omega arith) (rw e at z)))
 
     ready-not : readyCode line ≢ 20
     unfolding readyCode
     ready-not z =
-        by-bool (eqb (fieldCode 0 most (field line 3)) 0 && ltb (startAt line 4) (valueOf (field line 3)))
+        by-bool (eqb (fieldCode 0 most (field line 3)) 0 && ltb (valueOf (field line 4)) (valueOf (field line 3)))
         (λ e. let q : _≡_ {A = ℕ} 18 20 = rw e at z in omega arith)
         (λ e. plain-not (field-plain 0 most (field line 3)) 20 (omega arith) (rw e at z))
-
-    start-said : at codes 4 ≢ 3 → at codes 4 ≢ 4 → edition ≡ 2 → startAt line 4 ≡ valueOf (field line 4)
-    start-said m q o =
-        let p = places o .1 in
-        ⊎-elim (λ z. ranged-value 0 most (field line 4) refl z)
-        (⊎-elim (λ z. absurd (m (p ∙ z))) (λ z. absurd (q (p ∙ z)))) (field-plain 0 most (field line 4))
 
     -- such a code stands where the column is, in a line of edition 2, at the ready field or at the holds
     module _ (other : ℕ) (high : 4 < other) (z : worst codes ≡ other) where
@@ -181,7 +175,7 @@ module _ (line : List ℕ) where
         let high : 4 < 20 = omega arith in
         let o = second 20 high z in
         let here = at-one 20 high z (λ e. ready-not (sym (places o .0) ∙ ap (at codes) (sym e) ∙ stands 20 high z)) in
-        let s = holds-shared (not mends) (field line 6) (sym (places o .2) ∙ ap (at codes) (sym here) ∙ stands 20 high z) in
+        let s = holds-shared (not mends) (field line 6) (sym (places o .1) ∙ ap (at codes) (sym here) ∙ stands 20 high z) in
         (not-true mends (s .0), o, s .1, ap (λ (m : ℕ). beginOf TAB line m + 1) here)
 
     -- 18: the line is one of edition 2, its ready tick is after its planned start, and its ready field is the one named
@@ -196,9 +190,6 @@ module _ (line : List ℕ) where
         by-eq (indexOf (worst codes) codes) 3 (λ e. e)
         (λ d.
         let six = at-one 18 high z d in
-        absurd (holds-not (not mends) (field line 6) (sym (places o .2) ∙ ap (at codes) (sym six) ∙ stands 18 high z))) in
+        absurd (holds-not (not mends) (field line 6) (sym (places o .1) ∙ ap (at codes) (sym six) ∙ stands 18 high z))) in
         let late = ready-late (sym (places o .0) ∙ ap (at codes) (sym here) ∙ stands 18 high z) in
-        let s = task-column (not-zero 18 high z) in
-        let wide : width ≡ 8 = rw (eq-eqb edition 2 o) in
-        let said = start-said (s .no-three (λ e. omega arith) 4 (omega arith)) (s .no-four (λ e. omega arith) (λ e. omega arith) 4 (omega arith)) o in
-        (o, omega arith, ap (λ (m : ℕ). beginOf TAB line m + 1) here)
+        (o, late, ap (λ (m : ℕ). beginOf TAB line m + 1) here)

@@ -14,7 +14,7 @@ use Rattle.text.specs.declared.Items.{Items}
 use Rattle.faults.specs.Faults.{rangedRead, faultOf}
 use Rattle.faults.specs.declared.Ranged.{Ranged}
 use Rattle.faults.specs.declared.Fault.{Fault}
-use Rattle.plan.specs.Read.{sizesOk, editionOf, boardsOf, tasksOf, startAt, taskCodes}
+use Rattle.plan.specs.Read.{sizesOk, editionOf, boardsOf, tasksOf, taskCodes}
 use Rattle.reader.specs.declared.Sizes.{Sizes}
 use Rattle.reader.specs.declared.Tail.{Tail}
 use Rattle.reader.specs.declared.Line.{Line}
@@ -43,6 +43,10 @@ noLine fault = record {
   holds = noItems 0 0;
   after = noItems 0 0;
 }
+
+-- the planned start that is field n, as it is read: 0 where it is refused by itself
+abbrev pub startAt : List ℕ → ℕ → ℕ
+startAt line n = rangedRead 0 most (field line n) .value
 
 -- the fields from the planned start on, which is field n
 unfoldable pub tailRead : ℕ → List ℕ → ℕ → Tail

@@ -1,6 +1,6 @@
 -- `reader::fields::holds_code` meets its contract: each return by the test that led there.
 use borrow.Author.Needs.{needs}
-use Rattle.reader.proofs.LineLaws.{holds-twenty, holds-other}
+use Rattle.reader.proofs.TailLaws.{holds-twenty, holds-other}
 use Rattle.reader.proofs.fields.holds_code.Statement.{statement}
 use Rattle.reader.proofs.fields.holds_code.Tie as tie
 

@@ -1,6 +1,6 @@
 -- `reader::fields::mended` meets its contract: each return by the test that led there.
 use borrow.Author.Needs.{needs}
-use Rattle.reader.proofs.LineLaws.{mended-not, mended-is}
+use Rattle.reader.proofs.TailLaws.{mended-not, mended-is}
 use Rattle.reader.proofs.fields.mended.Statement.{statement}
 use Rattle.reader.proofs.fields.mended.Tie as tie
 

@@ -1,7 +1,8 @@
 -- `reader::fields::read_first` meets its contract: the rest begins with the planned start.
 use borrow.Author.Needs.{needs}
 use mathlib.Core.Path.{_∙_}
-use Rattle.reader.proofs.LineLaws.{first-is, tail-moves}
+use Rattle.reader.proofs.LineLaws.{first-is}
+use Rattle.reader.proofs.TailLaws.{tail-moves}
 use Rattle.reader.proofs.fields.read_first.Statement.{statement}
 use Rattle.reader.proofs.fields.read_first.Tie as tie
 

@@ -1,7 +1,8 @@
 -- `reader::fields::read_line` meets its contract: the edition says which of the two readers goes on past the board.
 use borrow.Author.Needs.{needs}
 use mathlib.Core.Path.{_∙_}
-use Rattle.reader.proofs.LineLaws.{head-cut, line-rest, line-second, line-first}
+use Rattle.reader.proofs.CutLaws.{head-cut, line-rest}
+use Rattle.reader.proofs.LineLaws.{line-second, line-first}
 use Rattle.reader.proofs.fields.read_line.Statement.{statement}
 use Rattle.reader.proofs.fields.read_line.Tie as tie
 

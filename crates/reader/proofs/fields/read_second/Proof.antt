@@ -2,7 +2,9 @@
 use borrow.Author.Needs.{needs}
 use mathlib.Core.Path.{_∙_}
 use Rattle.text.proofs.Parts.{skip-next}
-use Rattle.reader.proofs.LineLaws.{second-is, tail-moves, ready-field}
+use Rattle.reader.proofs.LineLaws.{second-is}
+use Rattle.reader.proofs.TailLaws.{tail-moves}
+use Rattle.reader.proofs.CutLaws.{ready-field}
 use Rattle.reader.proofs.fields.read_second.Statement.{statement}
 use Rattle.reader.proofs.fields.read_second.Tie as tie
 

@@ -1,7 +1,7 @@
 -- `reader::fields::read_sizes` meets its contract: each return by the tests that led there.
 use borrow.Author.Needs.{needs}
 use mathlib.Core.Path.{sym, _∙_}
-use Rattle.reader.proofs.LineLaws.{sizes-count, sizes-word, sizes-off, sizes-in}
+use Rattle.reader.proofs.SizesLaws.{sizes-count, sizes-word, sizes-off, sizes-in}
 use Rattle.reader.proofs.fields.read_sizes.Statement.{statement}
 use Rattle.reader.proofs.fields.read_sizes.Tie as tie
 

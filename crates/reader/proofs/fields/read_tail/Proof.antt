@@ -2,7 +2,8 @@
 use borrow.Author.Needs.{needs}
 use native.Mathlib.Omega.{arith}
 use Rattle.faults.proofs.RangedLaws.{ranged-small}
-use Rattle.reader.proofs.LineLaws.{line-cut, tail-reads}
+use Rattle.reader.proofs.CutLaws.{line-cut}
+use Rattle.reader.proofs.TailLaws.{tail-reads}
 use Rattle.reader.proofs.fields.read_tail.Statement.{statement}
 use Rattle.reader.proofs.fields.read_tail.Tie as tie
 

@@ -1,5 +1,5 @@
 -- `reader::fields::ready_code` meets its contract: each return by the test that led there.
-use Rattle.reader.proofs.LineLaws.{ready-eighteen, ready-other}
+use Rattle.reader.proofs.TailLaws.{ready-eighteen, ready-other}
 use Rattle.reader.proofs.fields.ready_code.Statement.{statement}
 use Rattle.reader.proofs.fields.ready_code.Tie as tie
 
