@@ -1,2 +1,4 @@
 // Writing a plan text into a lent buffer.
+mod measure;
+mod parts;
 pub mod write;
