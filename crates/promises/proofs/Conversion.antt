@@ -12,12 +12,15 @@ use Rattle.plan.specs.Convert.{convertedOf, renewedOf}
 use Rattle.plan.specs.declared.Plan.{Plan}
 use Rattle.book.specs.Early.{figureOf}
 use Rattle.book.specs.Event.{answerTo}
+use Rattle.editions.specs.Renewed.{renewedText}
+use Rattle.log.specs.Log.{logOf}
 use Rattle.promises.specs.Runs.{SizedPlan, runOf}
 use Rattle.promises.specs.Says.{ReadingSays}
 use Rattle.promises.specs.Conversion.{MadeOf, Unshared, ConvertedSays, exclusiveBook}
 use Rattle.promises.proofs.codes.Reading as read-codes
 use Rattle.promises.proofs.codes.Conversion as conversion
 use Rattle.promises.proofs.codes.Mended as mended
+use Rattle.promises.proofs.codes.ConvertedLog as same-log
 
 -- the converter makes an accepted plan of edition 2 with the same boards, times, drives and after lists, ready 0 and no shared hold;
 -- or says 7 with the first pair that clashes by drive now; or 9, to a plan that is not accepted or not of edition 1
@@ -80,3 +83,8 @@ renewed-first = mended.renewed-first
 
 pub renewed-second : (text : List ℕ) → editionOf text ≢ 1 → renewedOf text ≡ mendedOf text
 renewed-second = mended.renewed-second
+
+-- an edition 1 text that is made edition 2 gives the same log with the same ends.txt
+pub converted-log :
+    (text ends : List ℕ) → editionOf text ≡ 1 → renewedOf text .answer .code ≡ 0 → logOf (renewedText text) ends ≡ logOf text ends
+converted-log = same-log.converted-log

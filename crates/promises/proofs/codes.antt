@@ -9,3 +9,4 @@ pub mod Writing
 pub mod Exclusive
 pub mod Conversion
 pub mod Mended
+pub mod ConvertedLog

@@ -166,7 +166,7 @@ module _ (book : Book) (ok : isAccepted (planIn book) ≡ true) (anew : isAccept
   answer-same (Event.ends task tick) = report-answer-same task tick
   answer-same (Event.drops task) = drop-answer-same task
 
-  told-same : (event : Event) → bookTold (exclusiveBook book) event ≡ exclusiveBook (bookTold book event)
+  pub told-same : (event : Event) → bookTold (exclusiveBook book) event ≡ exclusiveBook (bookTold book event)
   unfolding reportedOf nextBook droppedOf droppedIn layOut exclusivePlan
   told-same (Event.ends task tick) =
       by-bool (isGranted (reportAnswer book task tick))

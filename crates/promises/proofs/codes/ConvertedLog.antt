@@ -1,0 +1,169 @@
+-- A text of edition 1 that is made edition 2 gives the same log with the same ends.
+use Prim.Native.Nat.{ℕ, zero, suc, _+_}
+use mathlib.Core.Bool.{true, false, cond}
+use mathlib.Core.List.{List, [], _++_}
+use mathlib.Core.Path.{_≡_, refl, sym, ap, _∙_}
+use lib.Dec.{eqb}
+use lib.ListN.{length}
+use borrow.Author.Tests.{eq-eqb, ne-eqb}
+use Rattle.laws.proofs.Cases.{by-eq}
+use Rattle.laws.specs.Split.{after}
+use Rattle.text.specs.Line.{LF}
+use Rattle.theory.specs.Events.{Event}
+use Rattle.plan.specs.Answer.{granted, isGranted}
+use Rattle.plan.specs.Value.{isAccepted}
+use Rattle.plan.specs.Read.{editionOf, readingOf}
+use Rattle.plan.specs.Convert.{exclusivePlan, convertedOf, renewedOf}
+use Rattle.plan.specs.Write.{textOf}
+use Rattle.plan.specs.declared.Answer.{Answer}
+use Rattle.plan.specs.declared.Plan.{Plan}
+use Rattle.plan.specs.declared.Reading.{Reading}
+use Rattle.plan.proofs.ReadOk.{read-answer, read-accepted, read-sized}
+use Rattle.plan.proofs.Converted.{exclusive-sized, converted-plan, converted-accepted}
+use Rattle.rounds.proofs.RoundPlan.{plan-back}
+use Rattle.book.specs.View.{planIn, layOut}
+use Rattle.book.specs.Open.{blankBook, openedOn}
+use Rattle.book.specs.Early.{figureOf}
+use Rattle.book.specs.Event.{answerTo, bookTold}
+use Rattle.book.specs.Sized.{SizedPlan}
+use Rattle.book.specs.declared.Book.{Book}
+use Rattle.book.specs.declared.Figure.{Figure}
+use Rattle.book.proofs.Reports.{event-plan}
+use Rattle.entries.specs.Entries.{entryCode, nextEntry}
+use Rattle.entries.specs.declared.Entry.{Entry}
+use Rattle.entries.specs.declared.Entry.the-variants.{End, Drop, Refused}
+use Rattle.lines.specs.Lines.{refusedLine}
+use Rattle.log.specs.Lines.{runLine, endLine, startLines, hasStarted, startLine, earlyLine}
+use Rattle.log.specs.Log.{shownAfter, openLog, toldOf, linesOf, toldLog, endsLog, logOf}
+use Rattle.log.specs.declared.Shown.{Shown}
+use Rattle.editions.specs.Renewed.{renewedText}
+use Rattle.promises.specs.Conversion.{exclusiveBook}
+use Rattle.promises.proofs.RunView.{Good, good-event, opened-good, opened-is, opened-plan}
+use Rattle.promises.proofs.codes.Conversion.{answer-same, told-same, figure-same}
+use Rattle.promises.proofs.codes.Mended.{renewed-first}
+
+-- ---- the lines of a book look at neither its plan's edition nor its holds
+
+starts-same : (old new : Book) (n : ℕ) → startLines (exclusiveBook old) (exclusiveBook new) n ≡ startLines old new n
+unfolding startLines
+starts-same old new zero = refl
+starts-same old new (suc n) = ap (λ (l : List ℕ). l ++ cond (hasStarted old new n) (startLine new n) []) (starts-same old new n)
+
+lines-same : (book : Book) (entry : Entry) (told : Book) → linesOf (exclusiveBook book) entry (exclusiveBook told) ≡ linesOf book entry told
+lines-same book (End task tick) told = ap (λ (l : List ℕ). endLine told task ++ l) (starts-same book told (book .tasks))
+lines-same book (Drop task) told = refl
+lines-same book (Refused code column) told = refl
+
+-- what is shown, on the converted plan
+abbrev exclusiveShown : Shown → Shown
+exclusiveShown shown = record { answer = shown .answer; book = exclusiveBook (shown .book); early = shown .early }
+
+told-log-same : (book : Book) (entry : Entry) (told : Shown) → toldLog (exclusiveBook book) entry (exclusiveShown told) ≡ toldLog book entry told
+unfolding toldLog
+told-log-same book entry told =
+    ap (λ (l : List ℕ). cond (isGranted (told .answer)) (l ++ earlyLine told) (refusedLine (told .answer))) (lines-same book entry (told .book))
+
+-- a sound book on a plan that is accepted both ways
+pub record Both (book : Book) : Type 0 where
+  pub good : Good book
+  pub ok : isAccepted (planIn book) ≡ true
+  pub anew : isAccepted (exclusivePlan (planIn book)) ≡ true
+
+both-event : (book : Book) (event : Event) → Both book → Both (bookTold book event)
+both-event book event b =
+    let p = event-plan book (b .good .sound) event in
+    record {
+      good = good-event book event (b .good);
+      ok = ap isAccepted p ∙ b .ok;
+      anew = ap (λ (x : Plan). isAccepted (exclusivePlan x)) p ∙ b .anew;
+    }
+
+shown-same :
+    (book : Book) → Both book → (event : Event)
+    → shownAfter (answerTo (exclusiveBook book) event) (bookTold (exclusiveBook book) event) ≡ exclusiveShown (shownAfter (answerTo book event) (bookTold book event))
+shown-same book b event =
+    let a = answer-same book (b .ok) (b .anew) event in
+    let t = told-same book (b .ok) (b .anew) event in
+    let n = both-event book event b in
+    let f = ap (λ (x : Figure). x .early) (figure-same (bookTold book event) (n .ok) (n .anew)) in
+    (λ i. shownAfter (a i) (t i))
+    ∙ (λ i. record { answer = answerTo book event; book = exclusiveBook (bookTold book event); early = cond (isGranted (answerTo book event)) (f i) 0 })
+
+told-of-same : (n : ℕ) (book : Book) → Both book → (entry : Entry) → toldOf n (exclusiveBook book) entry ≡ exclusiveShown (toldOf n book entry)
+unfolding toldOf
+told-of-same n book b (End task tick) = shown-same book b (Event.ends task tick)
+told-of-same n book b (Drop task) = shown-same book b (Event.drops task)
+told-of-same n book b (Refused code column) = refl
+
+told-both : (n : ℕ) (book : Book) → Both book → (entry : Entry) → Both (toldOf n book entry .book)
+unfolding toldOf
+told-both n book b (End task tick) = both-event book (Event.ends task tick) b
+told-both n book b (Drop task) = both-event book (Event.drops task) b
+told-both n book b (Refused code column) = b
+
+ends-same : (fuel : ℕ) (book : Book) (n : ℕ) (ends : List ℕ) → Both book → endsLog fuel (exclusiveBook book) n ends ≡ endsLog fuel book n ends
+unfolding endsLog
+ends-same zero book n ends b = refl
+ends-same (suc fuel) book n ends b =
+    let entry = nextEntry ends in
+    let t = told-of-same n book b entry in
+    let rest = ends-same fuel (toldOf n book entry .book) (n + 1) (after LF ends) (told-both n book b entry) in
+    (λ i.
+    cond (eqb (length ends) 0) []
+    (toldLog (exclusiveBook book) entry (t i) ++ cond (eqb (entryCode entry) 0) (endsLog fuel (t i .book) (n + 1) (after LF ends)) []))
+    ∙ (λ i. cond (eqb (length ends) 0) [] (told-log-same book entry (toldOf n book entry) i ++ cond (eqb (entryCode entry) 0) (rest i) []))
+
+-- ---- the whole log
+
+module _ (plan : Plan) (ok : isAccepted plan ≡ true) (size : SizedPlan plan) (anew : isAccepted (exclusivePlan plan) ≡ true) where
+  opened-both : Both (openedOn plan)
+  opened-both =
+      let p = ap planIn (sym (opened-is plan ok)) ∙ opened-plan plan ok in
+      record {
+        good = rw (opened-is plan ok) at (opened-good plan ok size);
+        ok = ap isAccepted p ∙ ok;
+        anew = ap (λ (x : Plan). isAccepted (exclusivePlan x)) p ∙ anew;
+      }
+
+  on-same : openedOn (exclusivePlan plan) ≡ exclusiveBook (openedOn plan)
+  unfolding openedOn layOut exclusivePlan
+  on-same = refl
+
+  blank-same : blankBook (exclusivePlan plan) ≡ exclusiveBook (blankBook plan)
+  unfolding layOut exclusivePlan
+  blank-same = refl
+
+  open-same : openLog (exclusivePlan plan) ≡ openLog plan
+  unfolding openLog exclusivePlan
+  open-same =
+      let book = openedOn plan in
+      let f = ap (λ (x : Figure). x .early) (figure-same book (opened-both .ok) (opened-both .anew)) in
+      ap (λ (x : Book). runLines x (startLines (blankBook (exclusivePlan plan)) x (plan .tasks)) (figureOf x .early)) on-same
+      ∙ ap (λ (x : Book). runLines (exclusiveBook book) (startLines x (exclusiveBook book) (plan .tasks)) (figureOf (exclusiveBook book) .early)) blank-same
+      ∙ (λ i. runLines book (starts-same (blankBook plan) book (plan .tasks) i) (f i))
+    where
+      runLines : Book → List ℕ → ℕ → List ℕ
+      runLines book starts early = runLine book ++ (starts ++ earlyLine (record { answer = granted; book = book; early = early }))
+
+  -- read from their texts
+  text-same : (text ends : List ℕ) → readingOf text .answer .code ≡ 0 → readingOf text .plan ≡ plan → logOf (textOf (exclusivePlan plan)) ends ≡ logOf text ends
+  unfolding logOf
+  text-same text ends z p =
+      let q = plan-back (exclusivePlan plan) anew (exclusive-sized plan size) in
+      rw (q, eq-eqb (readingOf text .answer .code) 0 z, p, open-same, on-same, ends-same (length ends) (openedOn plan) 1 ends opened-both)
+
+pub converted-log : (text ends : List ℕ) → editionOf text ≡ 1 → renewedOf text .answer .code ≡ 0 → logOf (renewedText text) ends ≡ logOf text ends
+unfolding renewedText
+converted-log text ends one z =
+    by-eq (readingOf text .answer .code) 0
+    (λ y.
+    let r : renewedOf text ≡ convertedOf (readingOf text .plan) = renewed-first text one ∙ rw (eq-eqb (readingOf text .answer .code) 0 y) in
+    let c : convertedOf (readingOf text .plan) .answer .code ≡ 0 = ap (λ (x : Reading). x .answer .code) (sym r) ∙ z in
+    let plan = readingOf text .plan in
+    let p : renewedOf text .plan ≡ exclusivePlan plan = ap (λ (x : Reading). x .plan) r ∙ converted-plan plan c in
+    let said = ap (λ (x : Answer). x .code) (sym (read-answer false text)) ∙ y in
+    let new = ap isAccepted (sym (converted-plan plan c)) ∙ converted-accepted plan c in
+    rw (eq-eqb (renewedOf text .answer .code) 0 z, p) (text-same plan (read-accepted false text said) (read-sized false text said) new text ends y refl))
+    (λ n.
+    let r : renewedOf text ≡ readingOf text = renewed-first text one ∙ rw (ne-eqb (readingOf text .answer .code) 0 n) in
+    absurd (n (ap (λ (x : Reading). x .answer .code) (sym r) ∙ z)))
