@@ -21,6 +21,7 @@ use Rattle.promises.specs.Runs.{SizedPlan, Sized, acceptedOf, Running, E
 use Rattle.promises.proofs.InRange as in-range
 use Rattle.promises.proofs.Judged as judged
 use Rattle.promises.proofs.SoundBook as sound-book
+use Rattle.promises.proofs.SoundRun as sound-run
 
 -- on one board the tasks that i waits for are a first run: with j it waits for every k of j's board that is planned before j
 pub first-run :
@@ -32,7 +33,7 @@ first-run = judged.first-run
 -- The sound books are exactly the books that an accepted plan and accepted reports and drops give
 pub sound-is-reached : (book : Book) → Sized book → (isSound book ≡ true) ↔ Reached book
 sound-is-reached book size =
-    (λ h. sound-book.sound-reached book (record { sized = size; sound = h }), sound-book.reached-sound book)
+    (λ h. sound-run.sound-reached book (record { sized = size; sound = h }), sound-run.reached-sound book)
 
 module _ (book : Book) (size : Sized book) (sound : isSound book ≡ true) where
   -- the running task of least limit is accepted at its limit
@@ -52,7 +53,7 @@ module _ (book : Book) (size : Sized book) (sound : isSound book ≡ true) where
 
 pub every-run-finishes :
     (plan : Plan) → SizedPlan plan → isAccepted plan ≡ true → (events : List Event) → Finishes (runOf plan events)
-every-run-finishes plan size ok events = sound-book.finishes (runOf plan events) (sound-book.on-run plan size ok events .good)
+every-run-finishes plan size ok events = sound-book.finishes (runOf plan events) (sound-run.on-run plan size ok events .good)
 
 -- what is accepted on a sound book can be handed to the functions: tasks up to 64, ticks up to 1,000,000
 pub accepted-in-range :

@@ -23,6 +23,7 @@ use Rattle.book.specs.declared.Book.{Book}
 use Rattle.promises.specs.Runs.{SizedPlan, Sized, openedBook, runOf, Waiting, Ended, Started, Dropped, startOf, endOf}
 use Rattle.promises.specs.Runs.{WaitsFor, dueOf, startDueOf, AllEnded, StartsExactly, Term}
 use Rattle.promises.proofs.SoundBook as sound-book
+use Rattle.promises.proofs.SoundRun as sound-run
 use Rattle.promises.proofs.Told as told
 use Rattle.promises.proofs.codes.Book as book-codes
 use Rattle.promises.proofs.Figures as figures
@@ -66,60 +67,60 @@ module _ (plan : Plan) (size : SizedPlan plan) (ok : isAccepted plan ≡ true) w
       (i : ℕ) → i < openedBook plan .tasks
       → (Started (openedBook plan) i ↔ ((j : ℕ) → j < openedBook plan .tasks → WaitsFor (openedBook plan) i j → ⊥))
       × (Started (openedBook plan) i → startOf (openedBook plan) i ≡ at (plan .ready) i)
-  opening-starts = sound-book.opened-starts plan size ok
+  opening-starts = sound-run.opened-starts plan size ok
 
   module _ (events : List Event) where
     -- the plan stays, the book is sound, the arrays keep their lengths
     pub run-plan : planIn (runOf plan events) ≡ plan
-    run-plan = sound-book.on-run plan size ok events .same
+    run-plan = sound-run.on-run plan size ok events .same
 
     pub run-sound : isSound (runOf plan events) ≡ true
-    run-sound = sound-book.on-run plan size ok events .good .sound
+    run-sound = sound-run.on-run plan size ok events .good .sound
 
     pub run-sized : Sized (runOf plan events)
-    run-sized = sound-book.on-run plan size ok events .good .sized
+    run-sized = sound-run.on-run plan size ok events .good .sized
 
     -- its start is the later of its ready tick and the latest of the ends of those it waits for
     pub start-is-due :
         (i : ℕ) → i < runOf plan events .tasks → Started (runOf plan events) i → (Dropped (runOf plan events) i → ⊥)
         → startOf (runOf plan events) i ≡ startDueOf (runOf plan events) i
-    start-is-due = sound-book.start-due (runOf plan events) (sound-book.on-run plan size ok events .good)
+    start-is-due = sound-book.start-due (runOf plan events) (sound-run.on-run plan size ok events .good)
 
     -- a dropped task's ready tick is ignored
     pub dropped-is-due :
         (i : ℕ) → i < runOf plan events .tasks → Started (runOf plan events) i → Dropped (runOf plan events) i
         → startOf (runOf plan events) i ≡ dueOf (runOf plan events) i
-    dropped-is-due = sound-book.skip-due (runOf plan events) (sound-book.on-run plan size ok events .good)
+    dropped-is-due = sound-book.skip-due (runOf plan events) (sound-run.on-run plan size ok events .good)
 
     -- a start that lies past the clock is the ready tick
     pub ahead-at-ready :
         (i : ℕ) → i < runOf plan events .tasks → Started (runOf plan events) i
         → runOf plan events .clock < startOf (runOf plan events) i
         → startOf (runOf plan events) i ≡ at (runOf plan events .ready) i
-    ahead-at-ready = sound-book.ahead-ready (runOf plan events) (sound-book.on-run plan size ok events .good)
+    ahead-at-ready = sound-book.ahead-ready (runOf plan events) (sound-run.on-run plan size ok events .good)
 
     -- a task has started exactly when all it waits for have ended
     pub started-when-free :
         (i : ℕ) → i < runOf plan events .tasks → Started (runOf plan events) i ↔ AllEnded (runOf plan events) i
-    started-when-free = sound-book.started-free (runOf plan events) (sound-book.on-run plan size ok events .good)
+    started-when-free = sound-book.started-free (runOf plan events) (sound-run.on-run plan size ok events .good)
 
     -- every waiting task has one it waits for that has not ended
     pub waiting-for-one :
         (i : ℕ) → i < runOf plan events .tasks → Waiting (runOf plan events) i
         → (j : ℕ) × (j < runOf plan events .tasks) × WaitsFor (runOf plan events) i j × (Ended (runOf plan events) j → ⊥)
-    waiting-for-one = sound-book.waiting-for (runOf plan events) (sound-book.on-run plan size ok events .good)
+    waiting-for-one = sound-book.waiting-for (runOf plan events) (sound-run.on-run plan size ok events .good)
 
     -- a dropped task takes no time: once its start is known it has ended, its end being its start
     pub dropped-at-once :
         (i : ℕ) → i < runOf plan events .tasks → Dropped (runOf plan events) i → Started (runOf plan events) i
         → Ended (runOf plan events) i × (endOf (runOf plan events) i ≡ startOf (runOf plan events) i)
-    dropped-at-once = told.dropped-at-once (runOf plan events) (sound-book.on-run plan size ok events .good)
+    dropped-at-once = told.dropped-at-once (runOf plan events) (sound-run.on-run plan size ok events .good)
 
     -- and is one that waits for somebody
     pub dropped-waits :
         (i : ℕ) → i < runOf plan events .tasks → Dropped (runOf plan events) i
         → (j : ℕ) × (j < runOf plan events .tasks) × WaitsFor (runOf plan events) i j
-    dropped-waits = told.dropped-waits (runOf plan events) (sound-book.on-run plan size ok events .good)
+    dropped-waits = told.dropped-waits (runOf plan events) (sound-run.on-run plan size ok events .good)
 
 -- of any sound book and an accepted report
 module _ (book : Book) (size : Sized book) (sound : isSound book ≡ true) where

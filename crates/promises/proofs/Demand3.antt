@@ -13,7 +13,7 @@ use Rattle.book.specs.Early.{figureOf}
 use Rattle.promises.specs.Runs.{SizedPlan, openedBook, runOf, acceptedOf, SameEvents, Running, Ended, Started, Dropped, startOf, NotBegun}
 use Rattle.promises.specs.Runs.{InOrder, EarlyBy}
 use Rattle.promises.proofs.RunView as run-view
-use Rattle.promises.proofs.SoundBook as sound-book
+use Rattle.promises.proofs.SoundRun as sound-run
 
 module _ (plan : Plan) (size : SizedPlan plan) (ok : isAccepted plan ≡ true) where
   module _ (events : List Event) where
@@ -21,38 +21,38 @@ module _ (plan : Plan) (size : SizedPlan plan) (ok : isAccepted plan ≡ true) w
     pub clashing-in-order :
         (a b : ℕ) → a < plan .tasks → b < plan .tasks → a ≢ b → clash (taskAt plan) a b ≡ true
         → InOrder plan (runOf plan events) a b ⊎ InOrder plan (runOf plan events) b a
-    clashing-in-order = sound-book.clash-order plan size ok (runOf plan events) (sound-book.on-run plan size ok events)
+    clashing-in-order = sound-run.clash-order plan size ok (runOf plan events) (sound-run.on-run plan size ok events)
 
     -- and never run at once
     pub clashing-never-at-once :
         (a b : ℕ) → a < plan .tasks → b < plan .tasks → a ≢ b → clash (taskAt plan) a b ≡ true
         → Running (runOf plan events) a → Running (runOf plan events) b → ⊥
-    clashing-never-at-once = sound-book.never-both plan size ok (runOf plan events) (sound-book.on-run plan size ok events)
+    clashing-never-at-once = sound-run.never-both plan size ok (runOf plan events) (sound-run.on-run plan size ok events)
 
     -- no task starts after its planned start
     pub nobody-late :
         (i : ℕ) → i < plan .tasks → Started (runOf plan events) i → startOf (runOf plan events) i ≤ at (plan .begin) i
-    nobody-late = sound-book.not-late plan size ok (runOf plan events) (sound-book.on-run plan size ok events)
+    nobody-late = sound-run.not-late plan size ok (runOf plan events) (sound-run.on-run plan size ok events)
 
     -- and none before its ready tick unless dropped
     pub never-unready :
         (i : ℕ) → i < plan .tasks → Started (runOf plan events) i → (Dropped (runOf plan events) i → ⊥)
         → at (plan .ready) i ≤ startOf (runOf plan events) i
-    never-unready = sound-book.not-unready plan size ok (runOf plan events) (sound-book.on-run plan size ok events)
+    never-unready = sound-run.not-unready plan size ok (runOf plan events) (sound-run.on-run plan size ok events)
 
     -- the figure shown is kept: every task not ended then, so every one not started then, starts and ends at least that early,
     -- and so does one that is dropped later
     pub figure-kept :
         (later : List Event) (i : ℕ) → i < plan .tasks → (Ended (runOf plan events) i → ⊥)
         → EarlyBy plan (figureOf (runOf plan events) .early) (runOf plan (events ++ later)) i
-    figure-kept = sound-book.kept-run plan size ok events
+    figure-kept = sound-run.kept-run plan size ok events
 
     -- among them every task whose start is not known then or lies past the clock: it counts as not started until the clock
     -- reaches its start
     pub figure-kept-unbegun :
         (later : List Event) (i : ℕ) → i < plan .tasks → NotBegun (runOf plan events) i
         → EarlyBy plan (figureOf (runOf plan events) .early) (runOf plan (events ++ later)) i
-    figure-kept-unbegun = sound-book.kept-unbegun plan size ok events
+    figure-kept-unbegun = sound-run.kept-unbegun plan size ok events
 
   -- the same accepted reports and the same accepted drops, in whatever order, leave the same book
   pub same-book :

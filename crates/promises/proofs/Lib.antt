@@ -1,6 +1,7 @@
 pub mod RunView
 pub mod InRange
 pub mod SoundBook
+pub mod SoundRun
 pub mod Told
 pub mod codes
 pub mod Judged

@@ -1,6 +1,7 @@
 pub mod Columns
 pub mod TaskLine
 pub mod EntryLine
+pub mod Pairs
 pub mod Reading
 pub mod Seven
 pub mod SevenValue

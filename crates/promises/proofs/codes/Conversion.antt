@@ -39,7 +39,8 @@ use Rattle.promises.specs.Conversion.{Unshared, ConvertedSays, exclusive
 use Rattle.promises.proofs.RunView.{Good, good-event, plan-run, opened-good, opened-is, opened-plan}
 use Rattle.promises.proofs.Unmoved.{edition-unready}
 use Rattle.promises.proofs.codes.Exclusive.{same-exclusive, unshared-task}
-use Rattle.promises.proofs.codes.Reading.{named, zero-sized}
+use Rattle.promises.proofs.codes.Pairs.{named}
+use Rattle.promises.proofs.codes.Reading.{zero-sized}
 
 -- a pair that was not faulty is so now by 7 alone
 pair-anew : (task : ℕ → Task) (a b : ℕ) → pairCode task a b ≡ 0 → (pairCode (λ k. exclusiveTask (task k)) a b ≡ 0) ⊎ (pairCode (λ k. exclusiveTask (task k)) a b ≡ 7)

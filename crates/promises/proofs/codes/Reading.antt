@@ -1,32 +1,32 @@
 -- What a reading answers, case by case.
-use Prim.Native.Nat.{ℕ, _+_, _-_, _<_, _≤_}
+use Prim.Native.Nat.{ℕ, _+_, _<_, _≤_}
 use native.Mathlib.Omega.{arith}
-use mathlib.Core.Bool.{Bool, true, false, not, _&&_, _||_}
+use mathlib.Core.Bool.{Bool, true, false, not, _&&_}
 use mathlib.Core.List.{List}
 use mathlib.Core.Path.{_≡_, refl, sym, ap, _∙_}
 use mathlib.Core.Logic.{_≢_, _⊎_, inl, inr, ⊎-elim, _↔_}
-use lib.Dec.{eqb, ltb}
+use lib.Dec.{ltb}
 use lib.ListN.{length}
-use borrow.Author.Tests.{eq-eqb, ne-eqb, not-true, not-false, ltb-true}
+use borrow.Author.Tests.{ne-eqb, not-true, not-false, ltb-true}
 use Rattle.laws.proofs.Cases.{by-bool, by-eq, and-r}
 use Rattle.laws.proofs.Scan.{Found, Nothing, scan-cases}
 use Rattle.text.specs.Line.{hasLine, skip, lineAt, field}
 use Rattle.faults.specs.Faults.{worst, columnOf, faultOf}
 use Rattle.plan.specs.Answer.{refuse, granted, isGranted, isRefused}
-use Rattle.plan.specs.Task.{Task}
-use Rattle.plan.specs.Pairs.{overlap, sameBoard, clashByDrive, breaksAfter, pairCode, firstFault}
+use Rattle.plan.specs.Pairs.{firstFault}
 use Rattle.plan.specs.Judged.{beginsAtZero, leastStart, tasksAnswer}
 use Rattle.plan.specs.Value.{at, zeroPlan}
 use Rattle.plan.specs.Read.{sizesOk, editionOf, boardsOf, tasksOf, lineAnswer, linesAnswer, textTask, formAnswer, textAnswer, readIn}
 use Rattle.plan.specs.declared.Answer.{Answer}
 use Rattle.plan.specs.declared.Reading.{Reading}
-use Rattle.plan.proofs.FirstFault.{FirstPair, refused-code, passed-code, fault-first, fault-granted}
+use Rattle.plan.proofs.FirstFault.{refused-code, passed-code, fault-first, fault-granted}
 use Rattle.plan.proofs.Judged.{begins-none, none-begins, start-under, start-met, tasks-late, tasks-pairs}
 use Rattle.plan.proofs.PlanTasks.{planOf-sized}
 use Rattle.plan.proofs.TextLines.{number-range, sizes-test}
 use Rattle.plan.proofs.ReadOk.{form-ok, form-tasks, read-answer, read-accepted}
 use Rattle.book.specs.Sized.{SizedPlan}
 use Rattle.promises.specs.Says.{FirstFaulty, BeginsLate, codesOf, SharedHold, ReadyLate, FirstFaultyLine, LineCode, ReadingSays}
+use Rattle.promises.proofs.codes.Pairs.{pair-number, named}
 use Rattle.promises.proofs.codes.Columns.{plain-not, worst-kind}
 use Rattle.promises.proofs.codes.TaskLine.{task-column, task-faultless, first-plain, task-shared, task-unready}
 
@@ -39,53 +39,6 @@ line-says mends s k = refl
 line-column : (mends : Bool) (s : List ℕ) (k : ℕ) → worst (codesOf mends s k) ≢ 0 → faultOf (lineAt s k) (codesOf mends s k) .column ≡ columnOf (lineAt s k) (codesOf mends s k) (worst (codesOf mends s k))
 unfolding faultOf
 line-column mends s k n = rw (ne-eqb (worst (codesOf mends s k)) 0 n)
-
-abbrev pub PairNumber : ℕ → Type 0
-PairNumber code = (code ≡ 0) ⊎ ((6 ≤ code) × (code ≤ 8))
-
-pub pair-number : (task : ℕ → Task) (a b : ℕ) → PairNumber (pairCode task a b)
-unfolding pairCode
-pair-number task a b =
-    by-bool ((not (eqb a b) && overlap (task a) (task b)) && sameBoard (task a) (task b))
-    (λ e. rw e (inr (omega arith, omega arith)))
-    (λ e.
-    by-bool ((not (eqb a b) && overlap (task a) (task b)) && clashByDrive (task a .holds) (task b .holds))
-    (λ f. rw (e, f) (inr (omega arith, omega arith)))
-    (λ f.
-    by-bool (breaksAfter task a b || breaksAfter task b a)
-    (λ h. rw (e, f, h) (inr (omega arith, omega arith)))
-    (λ h. rw (e, f, h) (inl refl))))
-
--- a pair (a, a) has code 8 or none
-self-number : (task : ℕ → Task) (a : ℕ) → (pairCode task a a ≡ 0) ⊎ (pairCode task a a ≡ 8)
-unfolding pairCode
-self-number task a =
-    let same = eq-eqb a a refl in
-    by-bool (breaksAfter task a a || breaksAfter task a a) (λ h. rw (same, h) (inr refl)) (λ h. rw (same, h) (inl refl))
-
--- what the search finds, with tasks counted from 1
-pub named :
-    (tasks : ℕ) (task : ℕ → Task) (f : FirstPair tasks task) → (6 ≤ pairCode task (f .a) (f .b)) × (pairCode task (f .a) (f .b) ≤ 8)
-    → FirstFaulty tasks task (pairCode task (f .a) (f .b)) (f .a + 1) (f .b + 1)
-named tasks task f c =
-    let a : f .a + 1 - 1 ≡ f .a = omega arith in
-    let b : f .b + 1 - 1 ≡ f .b = omega arith in
-    record {
-      from = omega arith;
-      ordered = omega (arith, f .ordered);
-      to = omega (arith, f .below);
-      number = c;
-      faulty = rw (a, b);
-      first = λ x y p h l w.
-          f .earlier (x - 1) (y - 1) (omega (arith, h)) (omega (arith, l, h, p))
-          (⊎-elim (λ m. inl (omega (arith, m, p))) (λ m. inr (omega (arith, m .0), omega (arith, m .1, h, p))) w);
-      two = λ n.
-          by-eq (f .a) (f .b)
-          (λ same.
-          let code : pairCode task (f .a) (f .a) ≡ pairCode task (f .a) (f .b) = ap (pairCode task (f .a)) same in
-          ⊎-elim (λ z. absurd (f .faulty (sym code ∙ z))) (λ z. absurd (n (sym code ∙ z))) (self-number task (f .a)))
-          (λ differ. omega (arith, f .ordered, differ));
-    }
 
 module _ (mends : Bool) (s : List ℕ) where
   refused-reading : (x : Answer) → textAnswer mends s ≡ x → x .code ≢ 0 → readIn mends s ≡ record { answer = x; plan = zeroPlan }

@@ -13,7 +13,7 @@ use Rattle.promises.specs.tables.PlanA.{textA, planA, end, drop, bookA}
 use Rattle.promises.specs.tables.Impostors.{toSix}
 use Rattle.promises.specs.tables.Weaker.{ByNumber, StrictOrder, KeptByEnded, StartsLater, StartsAtOnce, DroppedReady, textTwo, planTwo}
 use Rattle.promises.specs.tables.Ready.{textB, planB, bookB, toEight}
-use Rattle.promises.proofs.SoundBook.{on-run}
+use Rattle.promises.proofs.SoundRun.{on-run}
 use Rattle.promises.proofs.codes.Reading.{reading-sized}
 use Rattle.promises.proofs.tables.Computing.{computing}
 
