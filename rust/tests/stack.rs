@@ -132,7 +132,7 @@ fn no_call_on_a_plan_takes_more_than_32_kib() {
     check_opening("a refused opening", &Plan::ZERO, 9);
 }
 
-/// `convert_text` is a whole program's work, as `run_log` is, and takes 50,688 bytes.
+/// `convert_text` is a whole program's work, as `run_log` is, and stands under no such limit.
 #[test]
 fn no_conversion_takes_more_than_32_kib() {
     let [sharing, awaited] = full_plans();

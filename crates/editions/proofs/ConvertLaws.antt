@@ -1,6 +1,6 @@
 -- The answers of the converter and of the text made edition 2, by the tests that lead to them.
 use Prim.Native.Nat.{ℕ, _≤_, _<_}
-use mathlib.Core.Path.{_≡_, refl, sym, ap, _∙_}
+use mathlib.Core.Path.{_≡_, sym, ap, _∙_}
 use mathlib.Core.Logic.{_≢_}
 use mathlib.Core.Bool.{Bool, true, false, not, _&&_}
 use mathlib.Core.List.{List, map}
@@ -9,7 +9,11 @@ use lib.Dec.{eqb}
 use lib.ListN.{length}
 use lib.Seq.{sets}
 use borrow.Author.Tests.{eq-eqb, ne-eqb, not-true, not-false, lt-leb, le-leb, le-ltb}
-use Rattle.laws.proofs.Cases.{by-eq}
+use Rattle.laws.proofs.Cases.{by-bool, by-eq}
+use Rattle.laws.specs.Lists.{same}
+use Rattle.laws.specs.Split.{before, skipOn}
+use Rattle.text.specs.Bytes.{bytes}
+use Rattle.text.specs.Line.{LF, lineAt, field}
 use Rattle.text.specs.Items.{exclusive}
 use Rattle.plan.specs.Answer.{refuse, granted}
 use Rattle.plan.specs.Value.{planWith, zeroPlan, judgedAnswer, isAccepted}
@@ -61,45 +65,43 @@ module _ (plan : Plan) {accepted : Bool} (a : accepted ≡ isAccepted plan) wher
 
 -- ---- a text made edition 2
 
-module _ (s : List ℕ) {mended : Reading} (m : mended ≡ mendedOf s) where
-  pub renew-mended : mended .answer .code ≢ 2 → mended ≡ renewedOf s
+module _ (s : List ℕ) {first : Bool} (f : first ≡ same (field (before LF s) 1) (bytes "1")) where
+  its-first : first ≡ same (field (lineAt s 0) 1) (bytes "1")
+  unfolding skipOn
+  its-first = f
+
+  pub renew-mended : not first ≡ true → {mended : Reading} → mended ≡ mendedOf s → mended ≡ renewedOf s
   unfolding renewedOf
-  renew-mended n = let n′ : mendedOf s .answer .code ≢ 2 = rw m at n in m ∙ rw (ne-eqb (mendedOf s .answer .code) 2 n′)
+  renew-mended n m = m ∙ rw (sym its-first ∙ not-true first n)
 
-  module _ (two : mended .answer .code ≡ 2) {read : Reading} (r : read ≡ readingOf s) where
-    its-two : mendedOf s .answer .code ≡ 2
-    its-two = rw m at two
-
+  module _ (one : not first ≡ false) {read : Reading} (r : read ≡ readingOf s) where
     pub renew-refused : read .answer .code ≢ 0 → read ≡ renewedOf s
     unfolding renewedOf
     renew-refused n =
         let n′ : readingOf s .answer .code ≢ 0 = rw r at n in
-        r ∙ rw (eq-eqb (mendedOf s .answer .code) 2 its-two, ne-eqb (readingOf s .answer .code) 0 n′)
+        r ∙ rw (sym its-first ∙ not-false first one, ne-eqb (readingOf s .answer .code) 0 n′)
 
     pub renew-converted : read .answer .code ≡ 0 → {made : Reading} → made ≡ convertedOf (read .plan) → made ≡ renewedOf s
     unfolding renewedOf
     renew-converted z e =
         let z′ : readingOf s .answer .code ≡ 0 = rw r at z in
         e ∙ ap (λ (x : Reading). convertedOf (x .plan)) r
-        ∙ rw (eq-eqb (mendedOf s .answer .code) 2 its-two, eq-eqb (readingOf s .answer .code) 0 z′)
+        ∙ rw (sym its-first ∙ not-false first one, eq-eqb (readingOf s .answer .code) 0 z′)
 
 -- what it gives is accepted
 pub renewed-accepted : (s : List ℕ) → renewedOf s .answer .code ≡ 0 → isAccepted (renewedOf s .plan) ≡ true
+unfolding renewedOf
 renewed-accepted s z =
-    by-eq (mendedOf s .answer .code) 2
-    (λ two.
+    by-bool (same (field (lineAt s 0) 1) (bytes "1"))
+    (λ one.
     by-eq (readingOf s .answer .code) 0
     (λ y.
-    let c = renew-converted s refl two refl y refl in
-    ap (λ (x : Reading). isAccepted (x .plan)) (sym c)
-    ∙ converted-accepted (readingOf s .plan) (ap (λ (x : Reading). x .answer .code) c ∙ z))
-    (λ n.
-    let c = renew-refused s refl two refl n in
-    absurd (n (ap (λ (x : Reading). x .answer .code) c ∙ z))))
-    (λ n.
-    let c = renew-mended s refl n in
-    ap (λ (x : Reading). isAccepted (x .plan)) (sym c)
-    ∙ read-accepted true s (ap (λ (x : Answer). x .code) (sym (read-answer true s)) ∙ ap (λ (x : Reading). x .answer .code) c ∙ z))
+    let c : convertedOf (readingOf s .plan) .answer .code ≡ 0 = rw (one, eq-eqb (readingOf s .answer .code) 0 y) at z in
+    rw (one, eq-eqb (readingOf s .answer .code) 0 y) (converted-accepted (readingOf s .plan) c))
+    (λ n. absurd (n (rw (one, ne-eqb (readingOf s .answer .code) 0 n) at z))))
+    (λ other.
+    let c : mendedOf s .answer .code ≡ 0 = rw other at z in
+    rw other (read-accepted true s (ap (λ (x : Answer). x .code) (sym (read-answer true s)) ∙ c)))
 
 -- ---- its bytes
 

@@ -16,6 +16,10 @@ use plan::Plan;
 use plan::Reading;
 use reader::lines::refused;
 use text::list::make_exclusive;
+use text::part::LF;
+use text::part::field;
+use text::part::part_before;
+use text::part::same;
 use writer::write::write_plan;
 
 // A buffer of this length is always long enough.
@@ -73,14 +77,12 @@ pub fn convert(mut plan: Plan) -> Reading
     }
 }
 
-// A text that is not of edition 2 is 2 to the second call.
+// The first line says which of the two calls is the text's.
 fn renew(text: &[u8]) -> Reading
     ensures { λ r. ⌜ r ≡ renewedOf (now (text .entry)) ⌝ }
 {
-    let mended = read_exclusive(text);
-    let said = mended.answer;
-    if said.code != 2 {
-        return mended;
+    if !same(field(part_before(text, LF), 1), b"1") {
+        return read_exclusive(text);
     }
     let read = read_plan(text);
     let first = read.answer;

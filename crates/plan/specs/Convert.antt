@@ -3,6 +3,9 @@ use mathlib.Core.Bool.{cond, _&&_}
 use mathlib.Core.List.{List, map}
 use Prim.Native.Nat.{ℕ}
 use lib.Dec.{eqb}
+use Rattle.laws.specs.Lists.{same}
+use Rattle.text.specs.Bytes.{bytes}
+use Rattle.text.specs.Line.{lineAt, field}
 use Rattle.text.specs.Items.{exclusive}
 use Rattle.plan.specs.Answer.{refuse, isGranted}
 use Rattle.plan.specs.Value.{planWith, judgedAnswer, isAccepted}
@@ -22,9 +25,9 @@ convertedOf plan =
     let may = isAccepted plan && eqb (plan .edition) 1 in
     readAs (cond may (judgedAnswer (exclusivePlan plan)) (refuse 9 0 0)) (exclusivePlan plan)
 
--- a text of either edition made edition 2: by the second call; what it calls 2, as an edition 1 text, is read and converted
+-- a text of either edition made edition 2: one whose first line says edition `1` is read and converted, any other is the second call's
 unfoldable pub renewedOf : List ℕ → Reading
 renewedOf s =
     let read = readingOf s in
     let converted = cond (isGranted (read .answer)) (convertedOf (read .plan)) read in
-    cond (eqb (mendedOf s .answer .code) 2) converted (mendedOf s)
+    cond (same (field (lineAt s 0) 1) (bytes "1")) converted (mendedOf s)

@@ -2,10 +2,13 @@
 use Prim.Native.Nat.{ℕ, _≤_}
 use mathlib.Core.Path.{_≡_}
 use mathlib.Core.Logic.{_≢_, _⊎_}
-use mathlib.Core.Bool.{true, false, cond}
+use mathlib.Core.Bool.{true, false}
 use mathlib.Core.List.{List}
+use Rattle.laws.specs.Lists.{same}
+use Rattle.text.specs.Bytes.{bytes}
+use Rattle.text.specs.Line.{lineAt, field}
 use Rattle.theory.specs.Events.{Event}
-use Rattle.plan.specs.Answer.{granted, isGranted}
+use Rattle.plan.specs.Answer.{granted}
 use Rattle.plan.specs.Value.{taskAt, isAccepted}
 use Rattle.plan.specs.Read.{editionOf, boardsOf, tasksOf, textTask, readingOf, mendedOf}
 use Rattle.plan.specs.Convert.{convertedOf, renewedOf}
@@ -75,16 +78,7 @@ mended-is-reading = mended.mended-is-reading
 pub mended-sized : (text : List ℕ) → SizedPlan (mendedOf text .plan)
 mended-sized = read-codes.reading-sized true
 
--- a text of edition 1 is read and converted, any other is the second call's
-pub renewed-first :
-    (text : List ℕ) → editionOf text ≡ 1
-    → renewedOf text ≡ cond (isGranted (readingOf text .answer)) (convertedOf (readingOf text .plan)) (readingOf text)
-renewed-first = mended.renewed-first
-
-pub renewed-second : (text : List ℕ) → editionOf text ≢ 1 → renewedOf text ≡ mendedOf text
-renewed-second = mended.renewed-second
-
 -- an edition 1 text that is made edition 2 gives the same log with the same ends.txt
 pub converted-log :
-    (text ends : List ℕ) → editionOf text ≡ 1 → renewedOf text .answer .code ≡ 0 → logOf (renewedText text) ends ≡ logOf text ends
+    (text ends : List ℕ) → same (field (lineAt text 0) 1) (bytes "1") ≡ true → renewedOf text .answer .code ≡ 0 → logOf (renewedText text) ends ≡ logOf text ends
 converted-log = same-log.converted-log

@@ -10,7 +10,7 @@ use lib.ListN.{length, take, drop, set, replicate, length-replicate, length-take
 use lib.Seq.{sets, take-at, length-take-le}
 use borrow.Author.Tests.{le-ltb, lt-ltb, le-leb, ne-eqb}
 use Rattle.laws.specs.Each.{each, rows}
-use Rattle.laws.proofs.Each.{each-turn, rows-turn, length-each, length-rows}
+use Rattle.laws.proofs.Each.{each-turn, rows-turn, length-rows}
 use Rattle.laws.specs.Scan.{scanTo}
 use Rattle.laws.proofs.Scan.{scan-turn, scan-hit, scan-end}
 use Rattle.laws.specs.Split
@@ -52,10 +52,6 @@ column-start f = refl
 pub column-turn : (f : ℕ → ℕ) (n v : ℕ) → v ≡ f n → set (column f n) n v ≡ column f (n + 1)
 unfolding column
 column-turn f n v e = ap (set (each n f (replicate 64 0)) n) e ∙ sym (each-turn n f (replicate 64 0))
-
-pub column-length : (f : ℕ → ℕ) (n : ℕ) → length (column f n) ≡ 64
-unfolding column
-column-length f n = length-each n f (replicate 64 0) ∙ length-replicate {A = ℕ} 64 0
 
 pub grid-start : (width places : ℕ) (f : ℕ → List ℕ) → replicate places 0 ≡ grid width places f 0
 unfolding grid rows

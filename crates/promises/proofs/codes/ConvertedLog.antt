@@ -8,11 +8,13 @@ use lib.ListN.{length}
 use borrow.Author.Tests.{eq-eqb, ne-eqb}
 use Rattle.laws.proofs.Cases.{by-eq}
 use Rattle.laws.specs.Split.{after}
-use Rattle.text.specs.Line.{LF}
+use Rattle.laws.specs.Lists.{same}
+use Rattle.text.specs.Bytes.{bytes}
+use Rattle.text.specs.Line.{LF, lineAt, field}
 use Rattle.theory.specs.Events.{Event}
 use Rattle.plan.specs.Answer.{granted, isGranted}
 use Rattle.plan.specs.Value.{isAccepted}
-use Rattle.plan.specs.Read.{editionOf, readingOf}
+use Rattle.plan.specs.Read.{readingOf}
 use Rattle.plan.specs.Convert.{exclusivePlan, convertedOf, renewedOf}
 use Rattle.plan.specs.Write.{textOf}
 use Rattle.plan.specs.declared.Answer.{Answer}
@@ -40,7 +42,6 @@ use Rattle.editions.specs.Renewed.{renewedText}
 use Rattle.promises.specs.Conversion.{exclusiveBook}
 use Rattle.promises.proofs.RunView.{Good, good-event, opened-good, opened-is, opened-plan}
 use Rattle.promises.proofs.codes.Conversion.{answer-same, told-same, figure-same}
-use Rattle.promises.proofs.codes.Mended.{renewed-first}
 
 -- ---- the lines of a book look at neither its plan's edition nor its holds
 
@@ -152,12 +153,12 @@ module _ (plan : Plan) (ok : isAccepted plan ≡ true) (size : SizedPlan plan) (
       let q = plan-back (exclusivePlan plan) anew (exclusive-sized plan size) in
       rw (q, eq-eqb (readingOf text .answer .code) 0 z, p, open-same, on-same, ends-same (length ends) (openedOn plan) 1 ends opened-both)
 
-pub converted-log : (text ends : List ℕ) → editionOf text ≡ 1 → renewedOf text .answer .code ≡ 0 → logOf (renewedText text) ends ≡ logOf text ends
-unfolding renewedText
+pub converted-log : (text ends : List ℕ) → same (field (lineAt text 0) 1) (bytes "1") ≡ true → renewedOf text .answer .code ≡ 0 → logOf (renewedText text) ends ≡ logOf text ends
+unfolding renewedText renewedOf
 converted-log text ends one z =
     by-eq (readingOf text .answer .code) 0
     (λ y.
-    let r : renewedOf text ≡ convertedOf (readingOf text .plan) = renewed-first text one ∙ rw (eq-eqb (readingOf text .answer .code) 0 y) in
+    let r : renewedOf text ≡ convertedOf (readingOf text .plan) = rw (one, eq-eqb (readingOf text .answer .code) 0 y) in
     let c : convertedOf (readingOf text .plan) .answer .code ≡ 0 = ap (λ (x : Reading). x .answer .code) (sym r) ∙ z in
     let plan = readingOf text .plan in
     let p : renewedOf text .plan ≡ exclusivePlan plan = ap (λ (x : Reading). x .plan) r ∙ converted-plan plan c in
@@ -165,5 +166,5 @@ converted-log text ends one z =
     let new = ap isAccepted (sym (converted-plan plan c)) ∙ converted-accepted plan c in
     rw (eq-eqb (renewedOf text .answer .code) 0 z, p) (text-same plan (read-accepted false text said) (read-sized false text said) new text ends y refl))
     (λ n.
-    let r : renewedOf text ≡ readingOf text = renewed-first text one ∙ rw (ne-eqb (readingOf text .answer .code) 0 n) in
+    let r : renewedOf text ≡ readingOf text = rw (one, ne-eqb (readingOf text .answer .code) 0 n) in
     absurd (n (ap (λ (x : Reading). x .answer .code) (sym r) ∙ z)))

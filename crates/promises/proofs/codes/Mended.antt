@@ -7,27 +7,25 @@ use mathlib.Core.Path.{_≡_, refl, sym, ap, _∙_}
 use mathlib.Core.Logic.{_≢_, _⊎_, inl, inr, ⊎-elim}
 use lib.Dec.{leb, ltb}
 use lib.ListN.{length}
-use borrow.Author.Tests.{eq-eqb, ne-eqb, lt-leb, le-leb}
-use Rattle.laws.proofs.Cases.{by-bool, by-eq, by-le, and-r, and-no, true-false}
+use borrow.Author.Tests.{eq-eqb, lt-leb, le-leb}
+use Rattle.laws.proofs.Cases.{by-bool, by-le, and-no, true-false}
 use Rattle.laws.proofs.Scan.{scan-same}
 use Rattle.text.specs.Number.{isNumber, valueOf}
 use Rattle.text.specs.Items.{hasShared, listOf, holdOf}
 use Rattle.text.specs.Line.{hasLine, lineAt, field}
-use Rattle.plan.specs.Answer.{granted, isGranted, isRefused}
+use Rattle.plan.specs.Answer.{granted, isRefused}
 use Rattle.plan.specs.Task.{exclusiveTask}
 use Rattle.plan.specs.Value.{at, taskAt, planOf}
 use Rattle.plan.specs.Read.{ranged, sizesOk, editionOf, boardsOf, tasksOf, holdsCode, codesFrom, taskCodes, taskFrom, lineTask, lineAnswer, linesAnswer, textTask, formAnswer, textAnswer, readAs, readIn, readingOf, mendedOf}
-use Rattle.plan.specs.Convert.{convertedOf, renewedOf}
 use Rattle.plan.specs.declared.Answer.{Answer}
 use Rattle.plan.specs.declared.Plan.{Plan}
-use Rattle.plan.specs.declared.Reading.{Reading}
 use Rattle.plan.proofs.Judged.{tasks-same}
 use Rattle.plan.proofs.PlanTasks.{planOf-same}
 use Rattle.plan.proofs.ReadOk.{FormOk, text-ok, form-task, read-answer, read-plan, read-accepted, two-editions}
-use Rattle.promises.specs.Says.{noPlan, ReadingSays}
+use Rattle.promises.specs.Says.{noPlan}
 use Rattle.promises.specs.Conversion.{MadeOf, Unshared}
 use Rattle.promises.proofs.codes.Exclusive.{same-exclusive, unshared-task}
-use Rattle.promises.proofs.codes.Reading.{reading-says, reading-code, reading-shared}
+use Rattle.promises.proofs.codes.Reading.{reading-code, reading-shared}
 
 -- what it gives is made of the text's tasks
 module _ (text : List ℕ) (z : mendedOf text .answer .code ≡ 0) where
@@ -149,57 +147,3 @@ module _ (text : List ℕ) (other : editionOf text ≢ 1) (none : Unshared (task
   mended-is-reading =
       by-bool (sizesOk false (lineAt text 0)) read-same
       (λ e. unstated-same text other (ap (λ (b : Bool). hasLine text && b) e ∙ and-no (hasLine text)))
-
--- ---- a text of either edition made edition 2
-
--- 2 is said of the first line alone
-two-unstated : (mends : Bool) (text : List ℕ) → readIn mends text .answer .code ≡ 2 → stated text mends ≡ false
-two-unstated mends text two = go (readIn mends text) (reading-says mends text) two
-  where
-    go : (r : Reading) → ReadingSays mends text r → r .answer .code ≡ 2 → stated text mends ≡ false
-    go r (ReadingSays.read e a) z = let q : _≡_ {A = ℕ} 0 2 = rw e at z in absurd (omega arith)
-    go r (ReadingSays.too-long l e) z = let q : _≡_ {A = ℕ} 1 2 = rw e at z in absurd (omega arith)
-    go r (ReadingSays.first-line l e) z = l
-    go r (ReadingSays.task-line code k column c l e) z =
-        let q : code ≡ 2 = rw e at z in
-        ⊎-elim (λ d. absurd (omega arith)) (⊎-elim (λ d. absurd (omega arith)) (⊎-elim (λ d. absurd (omega arith)) (λ d. absurd (omega arith)))) c
-    go r (ReadingSays.more-bytes l e) z = let q : _≡_ {A = ℕ} 5 2 = rw e at z in absurd (omega arith)
-    go r (ReadingSays.late start l e) z = let q : _≡_ {A = ℕ} 17 2 = rw e at z in absurd (omega arith)
-    go r (ReadingSays.faulty-pair code a b f e) z = let q : code ≡ 2 = rw e at z in absurd (omega (arith, f .number .0))
-
-module _ (text : List ℕ) where
-  abbrev converted : Reading
-  converted = cond (isGranted (readingOf text .answer)) (convertedOf (readingOf text .plan)) (readingOf text)
-
-  -- one that is not of edition 1, by the second call
-  pub renewed-second : editionOf text ≢ 1 → renewedOf text ≡ mendedOf text
-  unfolding renewedOf
-  renewed-second other =
-      by-eq (mendedOf text .answer .code) 2
-      (λ two.
-      let same = unstated-same text other (sym (stated-same text other) ∙ two-unstated true text two) in
-      let code : readingOf text .answer .code ≡ 2 = ap (λ (x : Reading). x .answer .code) (sym same) ∙ two in
-      rw (eq-eqb (mendedOf text .answer .code) 2 two, ne-eqb (readingOf text .answer .code) 0 (λ z. omega arith)) (sym same))
-      (λ n. rw (ne-eqb (mendedOf text .answer .code) 2 n))
-
-  -- one of edition 1, read and converted
-  pub renewed-first : editionOf text ≡ 1 → renewedOf text ≡ converted
-  unfolding renewedOf
-  renewed-first one =
-      by-bool (ltb 32768 (length text))
-      (λ l.
-      let mended = long-read text true l in
-      let read = long-read text false l in
-      let m : mendedOf text .answer .code ≡ 1 = ap (λ (x : Reading). x .answer .code) mended in
-      let r : readingOf text .answer .code ≡ 1 = ap (λ (x : Reading). x .answer .code) read in
-      rw (ne-eqb (mendedOf text .answer .code) 2 (λ z. omega arith), ne-eqb (readingOf text .answer .code) 0 (λ z. omega arith)) (mended ∙ sym read))
-      (λ l.
-      let m : mendedOf text .answer .code ≡ 2 = ap (λ (x : Reading). x .answer .code) (unstated-read text true l not-stated) in
-      rw (eq-eqb (mendedOf text .answer .code) 2 m))
-    where
-      not-stated : stated text true ≡ false
-      not-stated =
-          by-bool (stated text true)
-          (λ e.
-          let t = two-editions true text (and-r (hasLine text) (sizesOk true (lineAt text 0)) e) in absurd (omega (arith, t .0)))
-          (λ e. e)
