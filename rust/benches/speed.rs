@@ -4,7 +4,7 @@
 //! `cargo bench` takes the times; `cargo test` only calls everything once, and
 //! so does `cargo bench` where the proved implementation runs under an emulator.
 
-use dispatcher::sample::events::{droppable_tasks, event_line, must_take, passed_tasks, Event};
+use dispatcher::sample::events::{droppable_tasks, ends_text, must_take, passed_tasks, Event};
 use dispatcher::sample::mornings::random_morning;
 use dispatcher::sample::old_texts::with_all_shared;
 use dispatcher::sample::plans::{exclusively_held, full_plan, with_even_ready_ticks};
@@ -13,7 +13,8 @@ use dispatcher::sample::{announced_seed, Rng};
 use dispatcher::text::plan_text;
 use dispatcher::values::LONGEST_TEXT;
 use dispatcher::{accepted, convert, convert_text, drop_task, minimum_early, open_book, proved};
-use dispatcher::{read_exclusive, read_plan, report, run_log, write_plan, Answer, Book, Plan};
+use dispatcher::{read_exclusive, read_plan, report, run_log, write_plan};
+use dispatcher::{Answer, Book, Plan, Rule};
 use std::fs;
 use std::hint::black_box;
 use std::time::{Duration, Instant};
@@ -22,17 +23,18 @@ use std::time::{Duration, Instant};
 const ROUND: Duration = Duration::from_millis(2);
 const ROUNDS: u32 = 250;
 
-/// Prints the best times of both, their rounds taken in turn, and the ratio.
+/// Prints the best times of both, their rounds taken in turn, and the ratio; answers the
+/// proved one's, where times are taken.
 fn time_both<T: PartialEq>(
     rounds: u32,
     what: &str,
     mut proved: impl FnMut() -> T,
     mut rust: impl FnMut() -> T,
-) {
+) -> Option<f64> {
     assert!(proved() == rust(), "{what}: the answers differ");
     if rounds == 0 {
         println!("{what:<28}the answers agree");
-        return;
+        return None;
     }
     let (mut best_proved, mut best_rust) = (f64::MAX, f64::MAX);
     for _ in 0..rounds {
@@ -41,6 +43,7 @@ fn time_both<T: PartialEq>(
     }
     let ratio = best_proved / best_rust;
     println!("{what:<28}{best_proved:>12.0}{best_rust:>12.0}{ratio:>10.2}");
+    Some(best_proved)
 }
 
 /// Nanoseconds a call, over calls in tens until the round is over.
@@ -112,9 +115,9 @@ fn time_conversions(rounds: u32, plan: &Plan) {
     );
 }
 
-/// A book half way through its morning, and a report it accepts.
-fn half_a_morning(rng: &mut Rng, plan: &Plan) -> (Book, Report) {
-    let mut book = open_book(plan).book;
+/// A book half way through its morning by the rule, and a report it accepts.
+fn half_a_morning(rng: &mut Rng, plan: &Plan, rule: Rule) -> (Book, Report) {
+    let mut book = open_book(plan, rule).book;
     for _ in 0..plan.tasks / 2 {
         let (task, tick) = accepted_report(rng, &book).expect("half the tasks have not ended");
         book = report(&book, task, tick).book;
@@ -123,11 +126,12 @@ fn half_a_morning(rng: &mut Rng, plan: &Plan) -> (Book, Report) {
     (book, next)
 }
 
-fn time_book(rounds: u32, rng: &mut Rng, plan: &Plan) {
+/// A report and M; answers the proved report's time.
+fn time_book(rounds: u32, rng: &mut Rng, plan: &Plan, rule: Rule) -> Option<f64> {
     let tasks = plan.tasks;
-    let (book, (task, tick)) = half_a_morning(rng, plan);
+    let (book, (task, tick)) = half_a_morning(rng, plan, rule);
     assert_eq!(report(&book, task, tick).answer, Answer::ACCEPTED);
-    time_both(
+    let time_of_report = time_both(
         rounds,
         &format!("report, {tasks} tasks"),
         || proved::report(black_box(&book), task, tick),
@@ -139,6 +143,27 @@ fn time_book(rounds: u32, rng: &mut Rng, plan: &Plan) {
         || proved::minimum_early(black_box(&book)),
         || minimum_early(black_box(&book)),
     );
+    time_of_report
+}
+
+/// One plan by both rules: opening, report, M and drops, and what the clash rule costs.
+fn time_rules(rounds: u32, rng: &mut Rng, plan: &Plan) {
+    let times = Rule::BOTH.map(|rule| {
+        println!("by {rule:?}");
+        time_both(
+            rounds,
+            &format!("open, {} tasks", plan.tasks),
+            || proved::open_book(black_box(plan), rule),
+            || open_book(black_box(plan), rule),
+        );
+        let time_of_report = time_book(rounds, rng, plan, rule);
+        time_drops(rounds, rng, plan, rule);
+        time_of_report
+    });
+    if let [Some(early_start), Some(clash)] = times {
+        let ratio = clash / early_start;
+        println!("proved report by the clash rule to one by Early Start: {ratio:.2}");
+    }
 }
 
 fn text_of_morning(name: &str) -> Vec<u8> {
@@ -160,15 +185,15 @@ fn time_run(rounds: u32, what: &str, plan: &[u8], ends: &[u8]) {
 }
 
 fn time_random_morning(rounds: u32, rng: &mut Rng, plan: &Plan) {
-    let events = random_morning(rng, plan).events.into_iter();
-    let ends: Vec<u8> = events.flat_map(event_line).collect();
+    let events = random_morning(rng, plan, Rule::EarlyStart).events;
+    let ends = ends_text(Rule::EarlyStart, &events);
     time_run(rounds, "whole run, 64 tasks", &plan_text(plan), &ends);
 }
 
 /// A fresh book with a quarter of its tasks dropped, those that follow each
 /// other by the plan from its middle on.
-fn with_a_quarter_dropped(plan: &Plan) -> Book {
-    let mut book = open_book(plan).book;
+fn with_a_quarter_dropped(plan: &Plan, rule: Rule) -> Book {
+    let mut book = open_book(plan, rule).book;
     let mut droppable = droppable_tasks(&book);
     droppable.sort_by_key(|&task| plan.begin[task as usize - 1]);
     let from = droppable.len() / 2;
@@ -180,8 +205,8 @@ fn with_a_quarter_dropped(plan: &Plan) -> Book {
 
 /// The report of a morning that lets the most dropped tasks pass, the book
 /// before it, and how many they are.
-fn report_with_most_passing(rng: &mut Rng, plan: &Plan) -> (Book, Report, usize) {
-    let mut book = with_a_quarter_dropped(plan);
+fn report_with_most_passing(rng: &mut Rng, plan: &Plan, rule: Rule) -> (Book, Report, usize) {
+    let mut book = with_a_quarter_dropped(plan, rule);
     let mut best = (book, (0, 0), 0);
     while let Some((task, tick)) = accepted_report(rng, &book) {
         let next = must_take(&book, Event::End(task, tick));
@@ -194,8 +219,8 @@ fn report_with_most_passing(rng: &mut Rng, plan: &Plan) -> (Book, Report, usize)
     best
 }
 
-fn time_drops(rounds: u32, rng: &mut Rng, plan: &Plan) {
-    let (book, (task, tick), passed) = report_with_most_passing(rng, plan);
+fn time_drops(rounds: u32, rng: &mut Rng, plan: &Plan, rule: Rule) {
+    let (book, (task, tick), passed) = report_with_most_passing(rng, plan, rule);
     assert!(passed >= 3, "no chain of dropped tasks");
     time_both(
         rounds,
@@ -228,15 +253,14 @@ fn main() {
     time_texts(rounds, &full_plan(&mut rng, 64));
     for tasks in [8, 16, 32, 64] {
         let plan = full_plan(&mut rng, tasks);
-        time_book(rounds, &mut rng, &plan);
+        time_book(rounds, &mut rng, &plan, Rule::EarlyStart);
     }
     let plan = full_plan(&mut rng, 64);
-    time_drops(rounds, &mut rng, &plan);
+    time_rules(rounds, &mut rng, &plan);
     time_conversions(rounds, &plan);
     println!("edition 2");
     let awaited = with_even_ready_ticks(&plan);
     time_random_morning(rounds, &mut rng, &awaited);
     time_texts(rounds, &awaited);
-    time_book(rounds, &mut rng, &awaited);
-    time_drops(rounds, &mut rng, &awaited);
+    time_rules(rounds, &mut rng, &awaited);
 }

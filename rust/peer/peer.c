@@ -33,7 +33,7 @@ struct written { struct answer answer; u32 length; };
 struct reading dispatch_read_plan(const u8 *text, usize length);
 u32 dispatch_is_accepted(struct plan plan);
 struct written dispatch_write_plan(struct plan plan, u8 *out, usize length);
-struct opening dispatch_open_book(struct plan plan);
+struct opening dispatch_open_book(struct plan plan, _Bool clash);
 u32 dispatch_is_sound(struct book book);
 struct reported dispatch_report(struct book book, u32 task, u32 tick);
 struct dropped dispatch_drop(struct book book, u32 task);
@@ -123,7 +123,8 @@ static void write_plan(void) {
 
 static void open_book(void) {
     TAKE(struct plan, plan);
-    ANSWER(struct opening, dispatch_open_book(plan), NONE);
+    TAKE(u8, clash);
+    ANSWER(struct opening, dispatch_open_book(plan, clash != 0), NONE);
 }
 
 static void is_sound(void) {

@@ -5,58 +5,70 @@
 //! past the clock.
 //!
 //! Settled here where the document is silent: a mark other than waiting,
-//! running and ended makes a book unsound, and so does a `dropped` other than
-//! 0 and 1; a report's tick above 1,000,000 is no fault of its own and meets
-//! codes 11 to 14 like any other tick.
+//! running and ended makes a book unsound, and so does a `dropped` or a `rule`
+//! other than 0 and 1; a report's tick above 1,000,000 is no fault of its own
+//! and meets codes 11 to 14 like any other tick.
 
-use crate::judge::accepted;
+use crate::judge::clashes_if_accepted;
 use crate::values::{
-    refusal, Answer, Book, Dropped, Figure, Opening, Plan, Reported, DROPPED, ENDED, RUNNING,
+    refusal, Answer, Book, Dropped, Figure, Opening, Plan, Reported, Rule, DROPPED, ENDED, RUNNING,
     WAITING,
 };
+use crate::waits::Waits;
 
-/// A fresh book on the plan, or refusal 9 and a book of zeros.
-pub fn open_book(plan: &Plan) -> Opening {
-    if !accepted(plan) {
+/// A fresh book on the plan by that rule, or refusal 9 and a book of zeros.
+pub fn open_book(plan: &Plan, rule: Rule) -> Opening {
+    let Some(clashes) = clashes_if_accepted(plan) else {
         return Opening {
             answer: Answer::UNSOUND,
             book: Book::ZERO,
         };
-    }
-    let mut book = Book::on(plan);
-    let_go_all_that_can(&mut book);
+    };
+    let mut book = Book::on(plan, rule);
+    let_go_all_that_can(&mut book, &Waits::by(rule, plan, &clashes));
     Opening {
         answer: Answer::ACCEPTED,
         book,
     }
 }
 
-/// Whether an accepted plan and accepted reports and drops give this book.
+/// Whether an accepted plan, a rule and accepted reports and drops give this book.
 pub fn sound(book: &Book) -> bool {
-    if !accepted(&book.plan()) {
-        return false;
-    }
+    waits_if_sound(book).is_some()
+}
+
+/// Whom each task waits for by the book's rule, where the book is sound.
+fn waits_if_sound(book: &Book) -> Option<Waits> {
+    let plan = book.plan();
+    let rule = Rule::of_byte(book.rule)?;
+    let waits = Waits::by(rule, &plan, &clashes_if_accepted(&plan)?);
+    let ended = ended_tasks(book);
     let count = usize::from(book.tasks);
-    (count..64).all(|i| nothing_known(book, i) && book.mark[i] == 0 && book.dropped[i] == 0)
-        && (0..count).all(|i| task_is_sound(book, i))
-        && book.clock == greatest_end(book)
+    let sound = (count..64).all(|i| place_is_empty(book, i))
+        && (0..count).all(|i| task_is_sound(book, &waits, ended, i))
+        && book.clock == greatest_end(book);
+    sound.then_some(waits)
 }
 
 /// The book after the report, or the very book given and why it was refused.
 pub fn report(book: &Book, task: u32, tick: u32) -> Reported {
+    let refused = |answer| Reported {
+        answer,
+        book: *book,
+    };
+    let Some(waits) = waits_if_sound(book) else {
+        return refused(Answer::UNSOUND);
+    };
     let answer = report_answer(book, task, tick);
     if !answer.is_accepted() {
-        return Reported {
-            answer,
-            book: *book,
-        };
+        return refused(answer);
     }
     let mut next = *book;
     let i = task as usize - 1;
     next.mark[i] = ENDED;
     next.end[i] = tick;
     next.clock = tick;
-    let_go_all_that_can(&mut next);
+    let_go_all_that_can(&mut next, &waits);
     Reported { answer, book: next }
 }
 
@@ -100,10 +112,8 @@ fn early_term(book: &Book, i: usize) -> Option<u32> {
     }
 }
 
+/// What a report on a sound book meets.
 fn report_answer(book: &Book, task: u32, tick: u32) -> Answer {
-    if !sound(book) {
-        return Answer::UNSOUND;
-    }
     if task == 0 || task > u32::from(book.tasks) {
         return refusal(10, task, tick);
     }
@@ -148,12 +158,14 @@ fn other_limit_passed(book: &Book, i: usize, tick: u32) -> bool {
 /// Gives a start to every waiting task whose awaited tasks have all ended, the
 /// last of them at the clock: there or, if that is later, at its ready tick. A
 /// dropped one starts and ends at the clock, and those it held back may follow.
-fn let_go_all_that_can(book: &mut Book) {
+fn let_go_all_that_can(book: &mut Book, waits: &Waits) {
+    let mut ended = ended_tasks(book);
     for i in waiting_by_planned_start(book) {
-        if !all_awaited_ended(book, i) {
+        if !waits.are_all_in(i, ended) {
             continue;
         }
         if book.dropped[i] == DROPPED {
+            ended |= 1 << i;
             book.mark[i] = ENDED;
             book.start[i] = book.clock;
             book.end[i] = book.clock;
@@ -172,13 +184,10 @@ fn waiting_by_planned_start(book: &Book) -> Vec<usize> {
     waiting
 }
 
-/// The task indices i waits for: planned to finish by i's planned start.
-fn awaited(book: &Book, i: usize) -> impl Iterator<Item = usize> + '_ {
-    (0..usize::from(book.tasks)).filter(move |&j| book.finish[j] <= book.begin[i])
-}
-
-fn all_awaited_ended(book: &Book, i: usize) -> bool {
-    awaited(book, i).all(|j| book.mark[j] == ENDED)
+/// The task indices that have ended, as a set.
+fn ended_tasks(book: &Book) -> u64 {
+    let ended = (0..usize::from(book.tasks)).filter(|&i| book.mark[i] == ENDED);
+    ended.fold(0, |set, i| set | 1 << i)
 }
 
 /// Start plus length, of a task that is not dropped; wide enough for any start
@@ -199,23 +208,31 @@ fn nothing_known(book: &Book, i: usize) -> bool {
     book.start[i] == 0 && book.end[i] == 0
 }
 
-fn task_is_sound(book: &Book, i: usize) -> bool {
+fn place_is_empty(book: &Book, i: usize) -> bool {
+    nothing_known(book, i) && book.mark[i] == 0 && book.dropped[i] == 0
+}
+
+fn task_is_sound(book: &Book, waits: &Waits, ended: u64, i: usize) -> bool {
+    let all_ended = waits.are_all_in(i, ended);
     match (book.mark[i], book.dropped[i]) {
-        (WAITING, 0 | DROPPED) => nothing_known(book, i) && !all_awaited_ended(book, i),
+        (WAITING, 0 | DROPPED) => nothing_known(book, i) && !all_ended,
         (RUNNING, 0) => {
-            started_by_the_rule(book, i)
+            all_ended
+                && started_by_the_rule(book, waits, i)
                 && book.end[i] == 0
                 && limit(book, i) >= u64::from(book.clock)
         }
         (ENDED, 0) => {
-            started_by_the_rule(book, i)
+            all_ended
+                && started_by_the_rule(book, waits, i)
                 && book.start[i] < book.end[i]
                 && u64::from(book.end[i]) <= limit(book, i)
                 && book.end[i] <= book.clock
         }
         (ENDED, DROPPED) => {
-            awaited(book, i).next().is_some()
-                && started_by_the_rule(book, i)
+            waits.of(i).next().is_some()
+                && all_ended
+                && started_by_the_rule(book, waits, i)
                 && book.end[i] == book.start[i]
                 && book.end[i] <= book.clock
         }
@@ -224,14 +241,11 @@ fn task_is_sound(book: &Book, i: usize) -> bool {
 }
 
 /// The start is the later of the ready tick, which counts for nothing in a
-/// dropped task, and the latest awaited end, if any is awaited.
-fn started_by_the_rule(book: &Book, i: usize) -> bool {
+/// dropped task, and the latest awaited end, if any is awaited; all have ended.
+fn started_by_the_rule(book: &Book, waits: &Waits, i: usize) -> bool {
     let is_dropped = book.dropped[i] == DROPPED;
     let mut start = if is_dropped { 0 } else { book.ready[i] };
-    for j in awaited(book, i) {
-        if book.mark[j] != ENDED {
-            return false;
-        }
+    for j in waits.of(i) {
         start = start.max(book.end[j]);
     }
     book.start[i] == start

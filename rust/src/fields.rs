@@ -18,6 +18,12 @@ pub fn split_line(text: &[u8]) -> Option<(&[u8], &[u8])> {
     Some((line, rest))
 }
 
+/// The line up to its first tab.
+pub fn first_field(line: &[u8]) -> &[u8] {
+    let end = line.iter().position(|&byte| byte == b'\t');
+    &line[..end.unwrap_or(line.len())]
+}
+
 /// The line's fields, when there are exactly N.
 pub fn split_fields<const N: usize>(line: &[u8]) -> Option<[&[u8]; N]> {
     let mut parts = line.split(|&byte| byte == b'\t');

@@ -11,7 +11,16 @@ use crate::values::{
 
 /// Whether the plan is accepted.
 pub fn accepted(plan: &Plan) -> bool {
-    keeps_ranges(plan) && late_beginning(plan).is_none() && first_faulty_pair(plan).is_none()
+    clashes_if_accepted(plan).is_some()
+}
+
+/// The plan's clashes, which are looked at to judge it, where it is accepted.
+pub fn clashes_if_accepted(plan: &Plan) -> Option<Clashes<'_>> {
+    if !keeps_ranges(plan) || late_beginning(plan).is_some() {
+        return None;
+    }
+    let clashes = Clashes::of(plan);
+    clashes.first_faulty_pair().is_none().then_some(clashes)
 }
 
 /// Refusal 17 with the least planned start, when that is not tick 0.
@@ -22,20 +31,7 @@ pub fn late_beginning(plan: &Plan) -> Option<Answer> {
 
 /// The first faulty pair by a, then b, as its refusal; None when there is none.
 pub fn first_faulty_pair(plan: &Plan) -> Option<Answer> {
-    let count = plan.task_count();
-    let mut sets = [Sets::NONE; 64];
-    for (i, set) in sets[..count].iter_mut().enumerate() {
-        *set = sets_of(plan, i);
-    }
-    for a in 0..count {
-        for b in a..count {
-            let code = pair_fault(plan, &sets, a, b);
-            if code != 0 {
-                return Some(refusal(code, a as u32 + 1, b as u32 + 1));
-            }
-        }
-    }
-    None
+    Clashes::of(plan).first_faulty_pair()
 }
 
 /// Numbers and lists keep their ranges and rules, and nothing is kept past
@@ -124,8 +120,44 @@ pub fn clash_by_drive(plan: &Plan, a: usize, b: usize) -> bool {
 
 /// Same board, a drive, or after: the two may never be at work at once.
 pub fn clash(plan: &Plan, a: usize, b: usize) -> bool {
-    let (one, other) = (sets_of(plan, a), sets_of(plan, b));
-    plan.board[a] == plan.board[b] || one.clash_by_drive(&other) || one.lists(b) || other.lists(a)
+    clash_by_sets(plan, (a, &sets_of(plan, a)), (b, &sets_of(plan, b)))
+}
+
+fn clash_by_sets(plan: &Plan, (a, one): (usize, &Sets), (b, other): (usize, &Sets)) -> bool {
+    plan.board[a] == plan.board[b] || one.clash_by_drive(other) || one.lists(b) || other.lists(a)
+}
+
+/// The lists of all tasks of a plan as sets, for who asks about many pairs.
+pub struct Clashes<'a> {
+    plan: &'a Plan,
+    sets: [Sets; 64],
+}
+
+impl Clashes<'_> {
+    pub fn of(plan: &Plan) -> Clashes<'_> {
+        let mut sets = [Sets::NONE; 64];
+        for (i, set) in sets[..plan.task_count()].iter_mut().enumerate() {
+            *set = sets_of(plan, i);
+        }
+        Clashes { plan, sets }
+    }
+
+    fn first_faulty_pair(&self) -> Option<Answer> {
+        let count = self.plan.task_count();
+        for a in 0..count {
+            for b in a..count {
+                let code = pair_fault(self.plan, &self.sets, a, b);
+                if code != 0 {
+                    return Some(refusal(code, a as u32 + 1, b as u32 + 1));
+                }
+            }
+        }
+        None
+    }
+
+    pub fn between(&self, a: usize, b: usize) -> bool {
+        clash_by_sets(self.plan, (a, &self.sets[a]), (b, &self.sets[b]))
+    }
 }
 
 /// One task's lists as sets: bit n stands for drive n, or for task number n.

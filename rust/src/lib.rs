@@ -11,10 +11,11 @@ pub mod sample;
 pub mod task_line;
 pub mod text;
 pub mod values;
+pub mod waits;
 
 pub use book::{drop_task, minimum_early, open_book, report, sound};
 pub use convert::{convert, convert_text, read_exclusive};
 pub use judge::{accepted, first_faulty_pair};
 pub use runlog::run_log;
 pub use text::{read_plan, write_plan};
-pub use values::{Answer, Book, Dropped, Figure, Opening, Plan, Reading, Reported, Written};
+pub use values::{Answer, Book, Dropped, Figure, Opening, Plan, Reading, Reported, Rule, Written};

@@ -4,24 +4,36 @@
 //! both malformed and out of range is 3; a task number over 1,000,000 is 4 as
 //! a tick over it is, in a `drop` line too; after a 3 or 4 nothing more is
 //! printed; with a refused plan `ends.txt` is not looked at, however long; the
-//! `run` line has its 1 for plans of both editions.
+//! `run` line has its 1 or 2 by the rule, for plans of both editions; a first
+//! line whose word is `rule` and that is no rule line is 3, the book being
+//! opened by Early Start before it.
 
 use crate::book::{drop_task, minimum_early, open_book, report};
 use crate::fields::{
-    field_column, first_line, is_number, line_of, malformed_column, read_number, split_fields,
-    split_line, Spelling,
+    field_column, first_field, first_line, is_number, line_of, malformed_column, read_number,
+    split_fields, split_line, Spelling,
 };
 use crate::text::read_plan;
-use crate::values::{refusal, Answer, Book, DROPPED, LAST_TICK, LONGEST_TEXT, WAITING};
+use crate::values::{refusal, Answer, Book, Rule, DROPPED, LAST_TICK, LONGEST_TEXT, WAITING};
 
 /// How each field of a line of `ends.txt` is spelt, by its kind.
 const END_LINE: [Spelling; 3] = [|word| word == b"end", is_number, is_number];
 const DROP_LINE: [Spelling; 2] = [|word| word == b"drop", is_number];
+const RULE_LINE: [Spelling; 2] = [|word| word == b"rule", |rule| rule == b"clash"];
 
 /// A well formed line of `ends.txt`, its numbers not yet held to any range.
 enum EndsLine {
     End { task: u32, tick: u32 },
     Drop { task: u32 },
+}
+
+/// What the first line of `ends.txt` says of the rule.
+enum RuleLine<'a> {
+    Absent,
+    /// The clash rule, and the text from the next line on.
+    Clash(&'a [u8]),
+    /// Refusal 3 at this column.
+    Malformed(u32),
 }
 
 /// All that `runlog` prints. A missing file counts as empty.
@@ -33,23 +45,52 @@ pub fn run_log(plan_text: &[u8], ends_text: &[u8]) -> Vec<u8> {
     if ends_text.len() > LONGEST_TEXT {
         return refused_line(refusal(1, 0, 0));
     }
-    let book = open_book(&reading.plan).book;
-    let mut log = line_of("run", &[1, book.boards.into(), book.tasks.into()]);
+    let rule_line = read_rule_line(ends_text);
+    let rule = match rule_line {
+        RuleLine::Clash(_) => Rule::Clash,
+        RuleLine::Absent | RuleLine::Malformed(_) => Rule::EarlyStart,
+    };
+    let book = open_book(&reading.plan, rule).book;
+    let mut log = run_line(&book, rule);
     let nobody_yet = Book {
         mark: [WAITING; 64],
         ..book
     };
     log_starts(&mut log, &nobody_yet, &book);
     log_early(&mut log, &book);
-    log_ends(&mut log, book, ends_text);
+    match rule_line {
+        RuleLine::Absent => log_ends(&mut log, book, ends_text, 1),
+        RuleLine::Clash(rest) => log_ends(&mut log, book, rest, 2),
+        RuleLine::Malformed(column) => log.extend(refused_line(refusal(3, 1, column))),
+    }
     log
 }
 
-fn log_ends(log: &mut Vec<u8>, mut book: Book, ends_text: &[u8]) {
-    let mut rest = ends_text;
-    let mut line_number = 0;
+fn read_rule_line(ends_text: &[u8]) -> RuleLine<'_> {
+    let line = first_line(ends_text);
+    if first_field(line) != b"rule" {
+        return RuleLine::Absent;
+    }
+    match split_line(ends_text) {
+        Some((b"rule\tclash", rest)) => RuleLine::Clash(rest),
+        _ => RuleLine::Malformed(malformed_column(line, &RULE_LINE)),
+    }
+}
+
+fn run_line(book: &Book, rule: Rule) -> Vec<u8> {
+    let (boards, tasks) = (book.boards, book.tasks);
+    let line = match rule {
+        Rule::EarlyStart => format!("run\t1\t{boards}\t{tasks}\n"),
+        Rule::Clash => format!("run\t2\t{boards}\t{tasks}\tclash\n"),
+    };
+    line.into_bytes()
+}
+
+/// Goes through the lines of the text, the first of which has that number.
+fn log_ends(log: &mut Vec<u8>, mut book: Book, text: &[u8], first_number: u32) {
+    let mut rest = text;
+    let mut line_number = first_number;
     while !rest.is_empty() {
-        line_number += 1;
         let Some((line, next)) = read_ends_line(rest) else {
             let column = malformed_ends_column(first_line(rest));
             log.extend(refused_line(refusal(3, line_number, column)));
@@ -64,6 +105,7 @@ fn log_ends(log: &mut Vec<u8>, mut book: Book, ends_text: &[u8]) {
             EndsLine::End { task, tick } => log_report(log, &book, task, tick),
             EndsLine::Drop { task } => log_drop(log, &book, task),
         };
+        line_number += 1;
         rest = next;
     }
 }
@@ -78,8 +120,7 @@ fn read_ends_line(text: &[u8]) -> Option<(EndsLine, &[u8])> {
 /// Where a line that is neither stops being what its first field makes it: only
 /// the word `drop` itself makes a drop of it.
 fn malformed_ends_column(line: &[u8]) -> u32 {
-    let word = line.split(|&byte| byte == b'\t').next();
-    if word == Some(b"drop") {
+    if first_field(line) == b"drop" {
         return malformed_column(line, &DROP_LINE);
     }
     malformed_column(line, &END_LINE)

@@ -25,6 +25,25 @@ pub const ENDED: u8 = 2;
 /// What `dropped` holds for a dropped task; for any other task it holds 0.
 pub const DROPPED: u8 = 1;
 
+/// Whom a task waits for, chosen when a book is opened.
+#[repr(u8)]
+#[derive(Clone, Copy, PartialEq, Eq, Debug)]
+pub enum Rule {
+    /// Each task planned to finish by its planned start.
+    EarlyStart = 0,
+    /// Those of them that clash with it.
+    Clash = 1,
+}
+
+impl Rule {
+    pub const BOTH: [Rule; 2] = [Rule::EarlyStart, Rule::Clash];
+
+    /// The rule for which a book holds that byte.
+    pub fn of_byte(byte: u8) -> Option<Rule> {
+        Rule::BOTH.into_iter().find(|&rule| rule as u8 == byte)
+    }
+}
+
 #[repr(C)]
 #[derive(Clone, Copy, PartialEq, Eq, Debug)]
 pub struct Answer {
@@ -53,6 +72,7 @@ pub struct Book {
     pub edition: u8,
     pub boards: u8,
     pub tasks: u8,
+    pub rule: u8,
     pub clock: u32,
     pub board: [u8; 64],
     pub ready: [u32; 64],
@@ -161,6 +181,7 @@ impl Book {
         edition: 0,
         boards: 0,
         tasks: 0,
+        rule: Rule::EarlyStart as u8,
         clock: 0,
         board: [0; 64],
         ready: [0; 64],
@@ -174,12 +195,13 @@ impl Book {
         after: [0; 4096],
     };
 
-    /// A book on the plan in which nothing is known yet.
-    pub fn on(plan: &Plan) -> Book {
+    /// A book on the plan by that rule, in which nothing is known yet.
+    pub fn on(plan: &Plan, rule: Rule) -> Book {
         Book {
             edition: plan.edition,
             boards: plan.boards,
             tasks: plan.tasks,
+            rule: rule as u8,
             board: plan.board,
             ready: plan.ready,
             begin: plan.begin,

@@ -1,19 +1,20 @@
-//! "Both sides of each line": the starred items and the run-only ones.
+//! "Both sides of each line": the starred items and the run-only ones. In plan A the two
+//! rules let the same tasks go on the same ticks, so each item holds by both.
 
 use dispatcher::sample::plan_a::{PLAN_A, REPORTS_A};
 use dispatcher::values::refusal;
-use dispatcher::{minimum_early, open_book, read_plan, report, Answer, Book};
+use dispatcher::{minimum_early, open_book, read_plan, report, Answer, Book, Rule};
 
-fn fresh_book() -> Book {
+fn fresh_book(rule: Rule) -> Book {
     let reading = read_plan(PLAN_A);
     assert!(reading.answer.is_accepted());
-    let opening = open_book(&reading.plan);
+    let opening = open_book(&reading.plan, rule);
     assert!(opening.answer.is_accepted());
     opening.book
 }
 
-fn after_end_of_2() -> Book {
-    let reported = report(&fresh_book(), 2, 3);
+fn after_end_of_2(rule: Rule) -> Book {
+    let reported = report(&fresh_book(rule), 2, 3);
     assert!(reported.answer.is_accepted());
     reported.book
 }
@@ -57,28 +58,32 @@ fn one_task(begin: u32, finish: u32) -> Vec<u8> {
 
 #[test]
 fn reports_on_a_fresh_book() {
-    let book = fresh_book();
-    check_report(&book, 2, 4, 0);
-    check_report(&book, 2, 5, 14);
-    check_report(&book, 2, 0, 13);
-    check_report(&book, 1, 4, 0);
-    check_report(&book, 1, 5, 15);
-    check_report(&book, 1, 7, 14);
-    check_report(&book, 3, 3, 11);
-    check_report(&book, 6, 3, 10);
+    for rule in Rule::BOTH {
+        let book = fresh_book(rule);
+        check_report(&book, 2, 4, 0);
+        check_report(&book, 2, 5, 14);
+        check_report(&book, 2, 0, 13);
+        check_report(&book, 1, 4, 0);
+        check_report(&book, 1, 5, 15);
+        check_report(&book, 1, 7, 14);
+        check_report(&book, 3, 3, 11);
+        check_report(&book, 6, 3, 10);
+    }
 }
 
 #[test]
 fn reports_after_the_end_of_task_2() {
-    let book = after_end_of_2();
-    check_report(&book, 1, 2, 12);
-    check_report(&book, 3, 3, 13);
-    check_report(&book, 2, 4, 11);
+    for rule in Rule::BOTH {
+        let book = after_end_of_2(rule);
+        check_report(&book, 1, 2, 12);
+        check_report(&book, 3, 3, 13);
+        check_report(&book, 2, 4, 11);
+    }
 }
 
 /// M of the fresh book and after each report, all of which must be accepted.
-fn figures_along(text: &[u8], reports: &[(u32, u32)]) -> Vec<u32> {
-    let mut book = open_book(&read_plan(text).plan).book;
+fn figures_along(rule: Rule, text: &[u8], reports: &[(u32, u32)]) -> Vec<u32> {
+    let mut book = open_book(&read_plan(text).plan, rule).book;
     let mut figures = vec![minimum_early(&book).early];
     for &(task, tick) in reports {
         check_report(&book, task, tick, 0);
@@ -92,24 +97,36 @@ fn figures_along(text: &[u8], reports: &[(u32, u32)]) -> Vec<u32> {
 
 #[test]
 fn the_figures_of_the_run() {
-    assert_eq!(figures_along(PLAN_A, &REPORTS_A), [0, 0, 1, 3, 3, 0]);
+    for rule in Rule::BOTH {
+        assert_eq!(figures_along(rule, PLAN_A, &REPORTS_A), [0, 0, 1, 3, 3, 0]);
+    }
 }
 
 #[test]
 fn a_board_with_no_work_does_not_pin_the_figure() {
-    let eight_boards = plan_a_with(1, "plan\t1\t8\t5");
-    assert_eq!(figures_along(&eight_boards, &REPORTS_A), [0, 0, 1, 3, 3, 0]);
+    for rule in Rule::BOTH {
+        let eight_boards = plan_a_with(1, "plan\t1\t8\t5");
+        assert_eq!(
+            figures_along(rule, &eight_boards, &REPORTS_A),
+            [0, 0, 1, 3, 3, 0]
+        );
+    }
 }
 
 #[test]
 fn a_board_done_for_the_day_does_not_freeze_the_figure() {
-    let text = b"plan\t1\t2\t3
+    for rule in Rule::BOTH {
+        let text = b"plan\t1\t2\t3
 task\t1\t1\t0\t4\t-\t-
 task\t2\t2\t0\t2\t-\t-
 task\t3\t1\t4\t8\t-\t-
 ";
-    // Board 2 is done at 2, on time; task 3 starts then, two ticks early.
-    assert_eq!(figures_along(text, &[(2, 2), (1, 2), (3, 6)]), [0, 0, 2, 0]);
+        // Board 2 is done at 2, on time; task 3 starts then, two ticks early.
+        assert_eq!(
+            figures_along(rule, text, &[(2, 2), (1, 2), (3, 6)]),
+            [0, 0, 2, 0]
+        );
+    }
 }
 
 #[test]

@@ -1,7 +1,9 @@
 //! Request P2: the column that refusals 3 and 4 name. First by hand, row by row
 //! of its table; then against its sentences, said once more over whole texts.
 
-use dispatcher::sample::columns::{every_damaged_ends, every_damaged_plan};
+use dispatcher::sample::columns::{
+    every_damaged_ends, every_damaged_plan, every_damaged_rule_line,
+};
 use dispatcher::sample::faults::damaged_text;
 use dispatcher::sample::mixtures::{every_mixture, READING, SECOND_CALL};
 use dispatcher::sample::plan_a::PLAN_A;
@@ -177,6 +179,7 @@ const TASK_2_SHARING: [&str; 8] = [
 ];
 const END: [&str; 3] = ["end", "any", "any"];
 const DROP: [&str; 2] = ["drop", "any"];
+const RULE: [&str; 2] = ["rule", "clash"];
 
 /// A line's fault as (code, column); where it has several, the first by code and then by column is the one.
 type Fault = (u32, usize);
@@ -288,11 +291,14 @@ fn number_code(
     }
 }
 
-/// The first fault of a line of `ends.txt`.
-fn ends_fault(line: &[u8]) -> Option<Fault> {
+/// The first fault of a line of `ends.txt`; as the first line it may choose the rule.
+fn ends_fault(line: &[u8], is_first: bool) -> Option<Fault> {
     let end_of_word = line.iter().position(|byte| b"\t\n".contains(byte));
-    let is_drop = &line[..end_of_word.unwrap_or(line.len())] == b"drop";
-    let form: &[&str] = if is_drop { &DROP } else { &END };
+    let form: &[&str] = match &line[..end_of_word.unwrap_or(line.len())] {
+        b"drop" => &DROP,
+        b"rule" if is_first => &RULE,
+        _ => &END,
+    };
     first_fault(line, form, |name, field| match (name, number_of(field)) {
         ("any", Some(value)) => (value > 1_000_000).then_some(4),
         ("any", None) => Some(3),
@@ -381,7 +387,7 @@ fn every_damaged_line_of_ends_is_refused_by_its_first_fault() {
     let mut by_code = [0; 5];
     for text in every_damaged_ends() {
         let mut lines = text.split_inclusive(|&byte| byte == b'\n').skip(1);
-        let fault = lines.next().and_then(ends_fault);
+        let fault = lines.next().and_then(|line| ends_fault(line, false));
         let log = String::from_utf8(run_log(PLAN_A, &text)).unwrap();
         let shown = String::from_utf8_lossy(&text);
         let Some((code, column)) = fault else {
@@ -395,6 +401,31 @@ fn every_damaged_line_of_ends_is_refused_by_its_first_fault() {
     }
     println!("{} refused by 3, {} by 4", by_code[3], by_code[4]);
     assert!(by_code[3] > 1_500 && by_code[4] > 10);
+}
+
+#[test]
+fn every_damaged_rule_line_is_refused_by_its_first_fault() {
+    let (mut refused, mut chosen) = (0, 0);
+    for text in every_damaged_rule_line() {
+        let Some(first) = text.split_inclusive(|&byte| byte == b'\n').next() else {
+            continue; // nothing is left of it
+        };
+        let fault = ends_fault(first, true);
+        let log = String::from_utf8(run_log(PLAN_A, &text)).unwrap();
+        let shown = String::from_utf8_lossy(&text);
+        let Some((code, column)) = fault else {
+            assert!(log.starts_with("run\t2\t2\t5\tclash\n"), "{shown:?}: {log}");
+            assert!(!log.contains("refused"), "{shown:?}: {log}");
+            chosen += 1;
+            continue;
+        };
+        let last = format!("early\t0\t0\nrefused\t{code}\t1\t{column}\n");
+        assert!(log.starts_with("run\t1\t2\t5\n"), "{shown:?}: {log}");
+        assert!(log.ends_with(&last), "{shown:?}: {log}");
+        refused += 1;
+    }
+    println!("{refused} refused, {chosen} not");
+    assert!(refused > 150 && chosen == 2);
 }
 
 #[test]

@@ -1,13 +1,17 @@
 //! Opening, reporting, dropping, M and soundness: the proved implementation
 //! must answer every input as the second dispatcher does, to the last byte.
 
-use dispatcher::sample::damage::{mutated_book, mutated_plan, sharing_book, wrongly_dropped_book};
+use dispatcher::sample::damage::{
+    by_the_other_rule, mutated_book, mutated_plan, ruleless_book, sharing_book,
+    wrongly_dropped_book,
+};
 use dispatcher::sample::events::{
     accepted_event, any_drop, any_event, first_drops, is_chain_over_boards, must_take,
     passed_tasks, random_book, starts_past_the_clock, Event,
 };
 use dispatcher::sample::every_book::{every_book, every_event, AWAITED, CHAIN};
 use dispatcher::sample::faults::{late_plan, sharing_plan};
+use dispatcher::sample::pairs::every_pair;
 use dispatcher::sample::plan_a::{PLAN_A, REPORTS_A};
 use dispatcher::sample::plan_b::{PLAN_B, REPORTS_B};
 use dispatcher::sample::plans::{full_plan, in_either_edition, random_plan};
@@ -15,14 +19,15 @@ use dispatcher::sample::reports::{
     accepted_report, any_report, last_moment_report, one_tick_reports, running_tasks, Report,
 };
 use dispatcher::sample::tally::Tally;
+use dispatcher::sample::waiting::either_rule;
 use dispatcher::sample::wild::{one_rule_broken, wild_book, wild_plan};
 use dispatcher::sample::Rng;
 use dispatcher::{drop_task, minimum_early, open_book, proved, read_plan, report, sound};
-use dispatcher::{Book, Plan};
+use dispatcher::{Book, Plan, Rule};
 
-fn compare_opening(tally: &mut Tally, plan: &Plan) -> Book {
-    let wanted = open_book(plan);
-    let got = proved::open_book(plan);
+fn compare_opening(tally: &mut Tally, plan: &Plan, rule: Rule) -> Book {
+    let wanted = open_book(plan, rule);
+    let got = proved::open_book(plan, rule);
     assert_eq!(got.answer, wanted.answer, "{plan:?}");
     assert!(got.book == wanted.book, "{plan:?}");
     tally.count(wanted.answer);
@@ -61,10 +66,12 @@ fn compare_judging(tally: &mut Tally, book: &Book) {
     tally.count_judged(wanted);
 }
 
-/// A whole morning, wrong reports before each right one; the number of reports.
+/// A whole morning by either rule, wrong reports before each right one; the number of
+/// reports.
 fn compare_morning(rng: &mut Rng, tally: &mut Tally, plan: &Plan, wrong_ones: u32) -> u64 {
     let mut reports = 0;
-    let mut book = compare_opening(tally, plan);
+    let rule = either_rule(rng);
+    let mut book = compare_opening(tally, plan, rule);
     for _ in 0..=plan.tasks {
         compare_figure(tally, &book);
         for _ in 0..wrong_ones {
@@ -111,7 +118,8 @@ fn take_full_mornings(rng: &mut Rng, tally: &mut Tally) -> u64 {
 fn take_mornings_without_gain(rng: &mut Rng, tally: &mut Tally) -> u64 {
     let mut reports = 0;
     for _ in 0..300 {
-        let mut book = compare_opening(tally, &random_plan(rng));
+        let (plan, rule) = (random_plan(rng), either_rule(rng));
+        let mut book = compare_opening(tally, &plan, rule);
         for _ in 0..book.tasks {
             let last_moment = last_moment_report(&book).expect("some task has not ended");
             book = compare_report(tally, &book, last_moment);
@@ -125,17 +133,24 @@ fn take_mornings_without_gain(rng: &mut Rng, tally: &mut Tally) -> u64 {
 
 /// Every tick from 0 to 15 reported of every task 0 to 6, all along plans A and B.
 fn take_every_report_on_plans_a_and_b(tally: &mut Tally) -> u64 {
-    let mut reports = take_every_report_along(tally, PLAN_A, &REPORTS_A);
-    reports += take_every_report_along(tally, PLAN_B, &REPORTS_B);
+    let mut reports = 0;
+    for rule in Rule::BOTH {
+        reports += take_every_report_along(tally, (PLAN_A, rule), &REPORTS_A);
+        reports += take_every_report_along(tally, (PLAN_B, rule), &REPORTS_B);
+    }
     tally.finish_kind("reports of every task and tick along plans A and B");
     reports
 }
 
-fn take_every_report_along(tally: &mut Tally, text: &[u8], right_ones: &[Report]) -> u64 {
+fn take_every_report_along(
+    tally: &mut Tally,
+    (text, rule): (&[u8], Rule),
+    right_ones: &[Report],
+) -> u64 {
     let any_tick = |task| (0..=15).map(move |tick| (task, tick));
     let near_ones: Vec<Report> = (0..=6).flat_map(any_tick).collect();
     let mut reports = 0;
-    let mut book = compare_opening(tally, &read_plan(text).plan);
+    let mut book = compare_opening(tally, &read_plan(text).plan, rule);
     for next in 0..=right_ones.len() {
         for &near in &near_ones {
             compare_report(tally, &book, near);
@@ -172,7 +187,8 @@ fn take_five_ends_in_every_order(rng: &mut Rng, tally: &mut Tally) -> u64 {
     let mut groups = 0;
     while groups < 40 {
         let tasks = rng.pick(&[8, 12, 20, 40]);
-        let mut book = open_book(&full_plan_of_either(rng, tasks)).book;
+        let (plan, rule) = (full_plan_of_either(rng, tasks), either_rule(rng));
+        let mut book = open_book(&plan, rule).book;
         for _ in 0..rng.index(tasks as usize - 5) {
             let right = accepted_report(rng, &book).expect("some task has not ended");
             book = report(&book, right.0, right.1).book;
@@ -218,10 +234,13 @@ fn take_reports_on_changed_books(rng: &mut Rng, tally: &mut Tally) -> u64 {
             reports += 1;
         }
         let sharing = sharing_book(rng, &book);
-        let any = any_report(rng, &book);
-        compare_report(tally, &sharing, any);
-        compare_figure(tally, &sharing);
-        reports += 1;
+        let ruleless = ruleless_book(rng, &book);
+        for changed in [sharing, ruleless, by_the_other_rule(&book)] {
+            let any = any_report(rng, &book);
+            compare_report(tally, &changed, any);
+            compare_figure(tally, &changed);
+            reports += 1;
+        }
     }
     tally.finish_kind("reports and figures of changed books");
     reports
@@ -231,15 +250,32 @@ fn open_changed_plans(rng: &mut Rng, tally: &mut Tally) {
     for _ in 0..1000 {
         let plan = random_plan(rng);
         for _ in 0..5 {
-            compare_opening(tally, &mutated_plan(rng, &plan));
-            compare_opening(tally, &one_rule_broken(rng, &plan));
-            compare_opening(tally, &late_plan(rng, &plan));
-            compare_opening(tally, &sharing_plan(rng, &plan));
-            compare_opening(tally, &wild_plan(rng));
+            let rule = either_rule(rng);
+            compare_opening(tally, &mutated_plan(rng, &plan), rule);
+            compare_opening(tally, &one_rule_broken(rng, &plan), rule);
+            compare_opening(tally, &late_plan(rng, &plan), rule);
+            compare_opening(tally, &sharing_plan(rng, &plan), rule);
+            compare_opening(tally, &wild_plan(rng), rule);
         }
     }
-    compare_opening(tally, &Plan::ZERO);
+    for rule in Rule::BOTH {
+        compare_opening(tally, &Plan::ZERO, rule);
+    }
     tally.finish_kind("openings of changed plans");
+}
+
+/// Two tasks by both rules, and the report that ends the first of them.
+fn open_every_pair(tally: &mut Tally) -> u64 {
+    let mut reports = 0;
+    for pair in every_pair() {
+        for rule in Rule::BOTH {
+            let book = compare_opening(tally, &pair.plan, rule);
+            compare_report(tally, &book, (pair.first as u32 + 1, 2));
+            reports += 1;
+        }
+    }
+    tally.finish_kind("openings of pairs with every sort of clash, and reports on them");
+    reports
 }
 
 #[test]
@@ -251,6 +287,7 @@ fn mornings_are_answered_alike() {
     reports += take_every_report_on_plans_a_and_b(&mut tally);
     reports += take_five_ends_in_every_order(&mut rng, &mut tally);
     reports += take_reports_on_changed_books(&mut rng, &mut tally);
+    reports += open_every_pair(&mut tally);
     open_changed_plans(&mut rng, &mut tally);
     tally.finish(200_000, &[0, 9, 10, 11, 12, 13, 14, 15]);
     tally.say_part(reports, "reports");
@@ -290,7 +327,8 @@ impl Dropping {
 /// A whole morning, its drops before and between the reports, and any other
 /// drops and reports before each right one.
 fn compare_dropping_morning(rng: &mut Rng, dropping: &mut Dropping, plan: &Plan) {
-    let mut book = open_book(plan).book;
+    let rule = either_rule(rng);
+    let mut book = open_book(plan, rule).book;
     for task in first_drops(rng, &book) {
         book = compare_drop(&mut dropping.drops, &book, task);
     }
@@ -325,10 +363,11 @@ fn take_dropping_mornings(rng: &mut Rng, dropping: &mut Dropping) {
 }
 
 fn take_every_event_on_every_book(dropping: &mut Dropping) {
-    for text in [CHAIN, AWAITED] {
+    let by_both = |text| Rule::BOTH.map(|rule| (text, rule));
+    for (text, rule) in [CHAIN, AWAITED].into_iter().flat_map(by_both) {
         let plan = read_plan(text).plan;
         let events = every_event(&plan);
-        for book in every_book(&plan) {
+        for book in every_book(&plan, rule) {
             compare_figure(&mut dropping.reports, &book);
             for &event in &events {
                 dropping.compare(&book, event);
@@ -340,7 +379,7 @@ fn take_every_event_on_every_book(dropping: &mut Dropping) {
 }
 
 fn take_every_drop_on_every_book_of_plan_a(tally: &mut Tally) {
-    for book in every_book(&read_plan(PLAN_A).plan) {
+    for book in every_book(&read_plan(PLAN_A).plan, Rule::EarlyStart) {
         for task in 0..=6 {
             compare_drop(tally, &book, task);
         }
@@ -356,7 +395,7 @@ fn take_events_on_changed_books(rng: &mut Rng, dropping: &mut Dropping) {
             let changed = mutated_book(rng, &book);
             let wrong = wrongly_dropped_book(rng, &book);
             let sharing = sharing_book(rng, &book);
-            for unsound in [changed, wrong, sharing] {
+            for unsound in [changed, wrong, sharing, by_the_other_rule(&book)] {
                 let any = any_drop(rng, &book);
                 compare_drop(&mut dropping.drops, &unsound, any);
                 let any = any_event(rng, &book);
@@ -398,7 +437,8 @@ fn drops_are_answered_alike() {
 /// All books of a morning, and for each some with one to three places changed.
 fn judge_books_of_mornings(rng: &mut Rng, tally: &mut Tally) {
     for _ in 0..1200 {
-        let mut book = open_book(&random_plan(rng)).book;
+        let (plan, rule) = (random_plan(rng), either_rule(rng));
+        let mut book = open_book(&plan, rule).book;
         for task in first_drops(rng, &book) {
             book = must_take(&book, Event::Drop(task));
         }
@@ -411,6 +451,8 @@ fn judge_books_of_mornings(rng: &mut Rng, tally: &mut Tally) {
                 compare_judging(tally, &wrongly_dropped_book(rng, &book));
             }
             compare_judging(tally, &sharing_book(rng, &book));
+            compare_judging(tally, &ruleless_book(rng, &book));
+            compare_judging(tally, &by_the_other_rule(&book));
             book = must_take(&book, event);
         }
         compare_judging(tally, &book);
@@ -430,13 +472,14 @@ fn judge_wild_books(rng: &mut Rng, tally: &mut Tally) {
 }
 
 /// Every small clock, start, end, mark and drop of every task along plan A, with
-/// nobody dropped and with task 3, and on the first books of plan B, with task 4.
+/// nobody dropped and with task 3, and on the first books of plan B by the clash rule,
+/// with task 4.
 fn judge_every_change_along_plans_a_and_b(tally: &mut Tally) {
-    let fresh = open_book(&read_plan(PLAN_A).plan).book;
+    let fresh = open_book(&read_plan(PLAN_A).plan, Rule::EarlyStart).book;
     judge_every_change_along(tally, &fresh, &REPORTS_A);
     let without_3 = must_take(&fresh, Event::Drop(3));
     judge_every_change_along(tally, &without_3, &[(2, 3), (1, 4), (4, 6)]);
-    let awaited = open_book(&read_plan(PLAN_B).plan).book;
+    let awaited = open_book(&read_plan(PLAN_B).plan, Rule::Clash).book;
     let without_4 = must_take(&awaited, Event::Drop(4));
     judge_every_change_along(tally, &without_4, &REPORTS_B[..3]);
     tally.finish_kind("books along plans A and B with one task changed");

@@ -2,7 +2,9 @@
 //! fault at the same column as the second dispatcher.
 
 use dispatcher::proved;
-use dispatcher::sample::columns::{every_damaged_ends, every_damaged_plan};
+use dispatcher::sample::columns::{
+    every_damaged_ends, every_damaged_plan, every_damaged_rule_line,
+};
 use dispatcher::sample::mixtures::every_mixture;
 use dispatcher::sample::plan_a::PLAN_A;
 use dispatcher::sample::tally::Tally;
@@ -55,7 +57,7 @@ fn every_mixture_of_3_4_18_and_20_is_answered_alike() {
 fn damaged_lines_of_ends_are_answered_alike() {
     let mut tally = Tally::new("compare_columns");
     let mut out = vec![0; proved::LONGEST_LOG];
-    for text in every_damaged_ends() {
+    for text in [every_damaged_ends(), every_damaged_rule_line()].concat() {
         let wanted = run_log(PLAN_A, &text);
         let length = proved::write_log(PLAN_A, &text, &mut out);
         let shown = String::from_utf8_lossy(&text);

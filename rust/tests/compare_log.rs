@@ -2,22 +2,28 @@
 
 use dispatcher::proved::{write_log, LONGEST_LOG};
 use dispatcher::sample::events::{
-    accepted_event, any_event, event_line, first_drops, must_take, Event,
+    accepted_event, any_event, event_line, first_drops, must_take, rule_line, Event,
 };
 use dispatcher::sample::faults::{damaged_text, late_plan, sharing_plan};
-use dispatcher::sample::lines::{damaged_lines, noise, with_odd_ends_line};
+use dispatcher::sample::lines::{
+    damaged_lines, damaged_rule_lines, noise, rule_lines_with_one_byte_wrong, with_odd_ends_line,
+    with_odd_rule_line,
+};
 use dispatcher::sample::one_fault::one_fault;
+use dispatcher::sample::plan_a::{ENDS_A, PLAN_A};
 use dispatcher::sample::plans::{full_plan, in_either_edition, random_plan};
+use dispatcher::sample::waiting::either_rule;
 use dispatcher::sample::{announced_seed, Rng};
 use dispatcher::text::plan_text;
-use dispatcher::{open_book, run_log, Plan};
+use dispatcher::{open_book, run_log, Plan, Rule};
 
 const FILL: u8 = 0xa5;
 
-/// The ends and drops of a morning to its end, wrong ones among them.
+/// The rule, ends and drops of a morning to its end, wrong ones among them.
 fn morning_ends(rng: &mut Rng, plan: &Plan) -> Vec<u8> {
-    let mut book = open_book(plan).book;
-    let mut ends = Vec::new();
+    let rule = either_rule(rng);
+    let mut book = open_book(plan, rule).book;
+    let mut ends = rule_line(rule).to_vec();
     for task in first_drops(rng, &book) {
         ends.extend(event_line(Event::Drop(task)));
         book = must_take(&book, Event::Drop(task));
@@ -58,7 +64,7 @@ fn logs_are_the_same() {
     let mut rng = Rng::new(announced_seed("logs"));
     let mut out = vec![FILL; LONGEST_LOG];
     let (mut refused, mut late, mut unready, mut shared) = (0, 0, 0, 0);
-    let (mut skipped, mut longest) = (0, 0);
+    let (mut skipped, mut longest, mut clash, mut misruled) = (0, 0, 0, 0);
     for round in 0..21_000u32 {
         let plan = if round % 100 == 0 {
             let full = full_plan(&mut rng, 64);
@@ -70,7 +76,9 @@ fn logs_are_the_same() {
         let mut ends = morning_ends(&mut rng, &plan);
         match round % 7 {
             0 => text = damaged_text(&mut rng, &text),
-            1 | 2 => ends = damaged_text(&mut rng, &ends),
+            1 => ends = damaged_text(&mut rng, &ends),
+            2 if round % 3 == 0 => ends = with_odd_rule_line(&mut rng, &ends),
+            2 => ends = damaged_text(&mut rng, &ends),
             3 => ends = damaged_lines(&mut rng, &ends),
             4 if round % 3 == 0 => ends = noise(&mut rng),
             4 => ends = with_odd_ends_line(&mut rng, &ends),
@@ -86,12 +94,38 @@ fn logs_are_the_same() {
         unready += u32::from(has_line(&log, "refused\t18"));
         shared += u32::from(has_line(&log, "refused\t20"));
         skipped += u32::from(has_line(&log, "skip"));
+        clash += u32::from(log.starts_with(b"run\t2\t"));
+        misruled += u32::from(ends.starts_with(b"rule") && log.starts_with(b"run\t1\t"));
     }
     println!("21000 pairs of texts, {refused} logs with a refusal, {skipped} with a skip");
+    println!("{clash} by the clash rule, {misruled} with a rule line that is none");
     println!("the longest has {longest} bytes");
     assert!(refused > 5_000 && refused < 20_000);
     assert!(late >= 600 && unready >= 20 && shared >= 200);
     assert!(skipped > 4_000 && skipped < 20_000);
+    assert!(clash > 4_000 && clash < 10_000 && misruled > 300);
+}
+
+/// Each first line damaged in every way, alone, before other lines and on a refused plan.
+#[test]
+fn damaged_rule_lines_are_answered_alike() {
+    let mut out = vec![FILL; LONGEST_LOG];
+    let (mut early_start, mut clash) = (0, 0);
+    for line in damaged_rule_lines() {
+        for rest in [b"".as_slice(), ENDS_A, b"rule\tclash\n"] {
+            let ends = [&line, rest].concat();
+            let log = compare(&mut out, PLAN_A, &ends);
+            early_start += u32::from(log.starts_with(b"run\t1\t"));
+            clash += u32::from(log.starts_with(b"run\t2\t"));
+            compare(&mut out, b"plan\t1\t1\t0\n", &ends);
+        }
+    }
+    for ends in rule_lines_with_one_byte_wrong() {
+        let log = compare(&mut out, PLAN_A, &ends);
+        assert!(log.starts_with(b"run\t1\t"));
+    }
+    println!("{early_start} logs by Early Start, {clash} by the clash rule");
+    assert!(early_start > 100 && clash >= 3);
 }
 
 #[test]
@@ -99,8 +133,11 @@ fn ends_of_the_greatest_length() {
     let plan = plan_text(&full_plan(&mut Rng::new(announced_seed("long ends")), 64));
     let mut out = vec![FILL; LONGEST_LOG];
     for line in ["end\t0\t0\n", "drop\t0\n", "drop\t64\n"] {
-        let lines = 32_768 / line.len();
-        assert!(compare(&mut out, &plan, line.repeat(lines).as_bytes()).len() > 60_000);
+        for rule in Rule::BOTH {
+            let lines = (32_768 - rule_line(rule).len()) / line.len();
+            let ends = [rule_line(rule), line.repeat(lines).as_bytes()].concat();
+            assert!(compare(&mut out, &plan, &ends).len() > 60_000);
+        }
     }
     let mut ends = b"end\t0\t0\n".repeat(32_768 / 8);
     ends.push(b'\n');

@@ -4,15 +4,16 @@
 use dispatcher::judge::overlap;
 use dispatcher::proved::{self, CONVERTED_ROOM, LONGEST_LOG};
 use dispatcher::sample::damage::mutated_plan;
-use dispatcher::sample::events::{any_event, event_line, Event};
+use dispatcher::sample::events::{any_event, ends_text, Event};
 use dispatcher::sample::lent::shown;
 use dispatcher::sample::mornings::random_morning;
 use dispatcher::sample::old_texts::{old_text, second_edition, with_shared_holds};
 use dispatcher::sample::plans::{exclusively_held, random_plan};
+use dispatcher::sample::waiting::either_rule;
 use dispatcher::sample::{announced_seed, Rng};
 use dispatcher::text::plan_text;
 use dispatcher::values::{drive_of, items, made_exclusive, refusal, EDITION_1, EDITION_2};
-use dispatcher::{Answer, Book, Dropped, Figure, Opening, Plan, Reading, Reported};
+use dispatcher::{Answer, Book, Dropped, Figure, Opening, Plan, Reading, Reported, Rule};
 
 /// One of the two dispatchers.
 struct Side {
@@ -22,7 +23,7 @@ struct Side {
     read_exclusive: fn(&[u8]) -> Reading,
     convert_text: fn(&[u8]) -> Vec<u8>,
     run_log: fn(&[u8], &[u8]) -> Vec<u8>,
-    open_book: fn(&Plan) -> Opening,
+    open_book: fn(&Plan, Rule) -> Opening,
     report: fn(&Book, u32, u32) -> Reported,
     drop_task: fn(&Book, u32) -> Dropped,
     minimum_early: fn(&Book) -> Figure,
@@ -205,13 +206,23 @@ fn book_in_edition_2(book: &Book) -> Book {
     }
 }
 
+/// A rule by which the plan and the converted one wait alike. Two that share a drive
+/// clash once each holds it alone, so where there are such it is Early Start.
+fn rule_that_stays(rng: &mut Rng, plan: &Plan) -> Rule {
+    if plan.holds == in_edition_2(plan).holds {
+        return either_rule(rng);
+    }
+    Rule::EarlyStart
+}
+
 #[test]
 fn a_converted_morning_goes_as_the_old_one() {
     let mut rng = rng_for("a_converted_morning_goes_as_the_old_one");
     let mut mornings = 0;
     while mornings < 200 {
         let plan = old_plan(&mut rng);
-        let morning = random_morning(&mut rng, &plan);
+        let rule = rule_that_stays(&mut rng, &plan);
+        let morning = random_morning(&mut rng, &plan, rule);
         let others: Vec<Event> = morning
             .books
             .iter()
@@ -223,7 +234,7 @@ fn a_converted_morning_goes_as_the_old_one() {
                 continue;
             }
             mornings += 1;
-            let opened = (side.open_book)(&converted.plan);
+            let opened = (side.open_book)(&converted.plan, rule);
             assert_eq!(opened.answer, Answer::ACCEPTED);
             let mut book = opened.book;
             for (k, old) in morning.books.iter().enumerate() {
@@ -248,8 +259,9 @@ fn a_converted_plan_gives_the_same_log() {
     let mut logs = 0;
     for _ in 0..200 {
         let plan = old_plan(&mut rng);
-        let events = random_morning(&mut rng, &plan).events;
-        let ends: Vec<u8> = events.into_iter().flat_map(event_line).collect();
+        let rule = rule_that_stays(&mut rng, &plan);
+        let events = random_morning(&mut rng, &plan, rule).events;
+        let ends = ends_text(rule, &events);
         let text = plan_text(&plan);
         for side in &SIDES {
             let converted = (side.convert_text)(&text);
@@ -262,6 +274,21 @@ fn a_converted_plan_gives_the_same_log() {
     }
     println!("{logs} logs");
     assert!(logs > 100);
+}
+
+/// Tasks 1 and 2 share drive 1 one after the other: in edition 1 they do not clash.
+#[test]
+fn by_the_clash_rule_tasks_that_shared_a_drive_wait_once_converted() {
+    let text = b"plan\t1\t2\t2\ntask\t1\t1\t0\t4\ts1\t-\ntask\t2\t2\t4\t6\ts1\t-\n";
+    for side in &SIDES {
+        let plan = (side.read_plan)(text).plan;
+        let converted = (side.convert)(&plan).plan;
+        let marks = |plan: &Plan, rule| (side.open_book)(plan, rule).book.mark[..2].to_vec();
+        assert_eq!(marks(&plan, Rule::Clash), [1, 1]);
+        assert_eq!(marks(&converted, Rule::Clash), [1, 0]);
+        assert_eq!(marks(&plan, Rule::EarlyStart), [1, 0]);
+        assert_eq!(marks(&converted, Rule::EarlyStart), [1, 0]);
+    }
 }
 
 /// The text with each `s` made `e`, but in the word of its lines.

@@ -1,10 +1,11 @@
 //! What must hold of both editions together, and of ready ticks, on random
 //! plans and runs. Each test prints its seed; set SEED to repeat or try another.
 
-use dispatcher::sample::events::{any_event, event_line, is_started, starts_past_the_clock, take};
+use dispatcher::sample::events::{any_event, ends_text, is_started, starts_past_the_clock, take};
 use dispatcher::sample::mornings::random_morning;
 use dispatcher::sample::plans::{exclusively_held, first_edition, random_plan, with_ready_ticks};
 use dispatcher::sample::reports::running_tasks;
+use dispatcher::sample::waiting::{awaited, either_rule};
 use dispatcher::sample::{announced_seed, Rng};
 use dispatcher::text::plan_text;
 use dispatcher::values::{refusal, DROPPED, EDITION_2, WAITING};
@@ -24,8 +25,8 @@ fn awaited_plan(rng: &mut Rng) -> Plan {
 /// All books of so many mornings with ready ticks.
 fn books_of_awaited_mornings(rng: &mut Rng, mornings: u32) -> Vec<Book> {
     let one = |_| {
-        let plan = awaited_plan(rng);
-        random_morning(rng, &plan).books
+        let (plan, rule) = (awaited_plan(rng), either_rule(rng));
+        random_morning(rng, &plan, rule).books
     };
     (0..mornings).flat_map(one).collect()
 }
@@ -46,8 +47,9 @@ fn edition_2_with_nobody_awaiting_a_class_runs_as_edition_1() {
             edition: EDITION_2,
             ..plan
         };
-        let morning = random_morning(&mut rng, &plan);
-        assert!(open_book(&second).book == in_edition_2(&morning.books[0]));
+        let rule = either_rule(&mut rng);
+        let morning = random_morning(&mut rng, &plan, rule);
+        assert!(open_book(&second, rule).book == in_edition_2(&morning.books[0]));
         for book in &morning.books {
             let other = in_edition_2(book);
             assert_eq!(minimum_early(&other), minimum_early(book));
@@ -68,7 +70,8 @@ fn the_figure_of_edition_1_is_the_least_over_the_running_tasks() {
     let mut early = 0;
     for _ in 0..400 {
         let plan = first_edition(&random_plan(&mut rng));
-        for book in random_morning(&mut rng, &plan).books {
+        let rule = either_rule(&mut rng);
+        for book in random_morning(&mut rng, &plan, rule).books {
             assert!(starts_past_the_clock(&book).is_empty());
             let running = running_tasks(&book).into_iter();
             let least = running.map(|i| book.begin[i] - book.start[i]).min();
@@ -85,8 +88,8 @@ fn nobody_starts_before_its_ready_tick_unless_dropped() {
     let mut rng = rng_for("nobody_starts_before_its_ready_tick_unless_dropped");
     let (mut on_the_tick, mut later, mut passed_before) = (0, 0, 0);
     for _ in 0..600 {
-        let plan = awaited_plan(&mut rng);
-        let morning = random_morning(&mut rng, &plan);
+        let (plan, rule) = (awaited_plan(&mut rng), either_rule(&mut rng));
+        let morning = random_morning(&mut rng, &plan, rule);
         let last = morning.now();
         for i in (0..plan.task_count()).filter(|&i| plan.ready[i] > 0) {
             if last.dropped[i] == DROPPED {
@@ -213,16 +216,15 @@ fn runlog_prints_each_start_once_all_it_waits_for_have_ended() {
     let mut rng = rng_for("runlog_prints_each_start_once_all_it_waits_for_have_ended");
     let mut ahead = 0;
     for _ in 0..150 {
-        let plan = awaited_plan(&mut rng);
-        let morning = random_morning(&mut rng, &plan);
+        let (plan, rule) = (awaited_plan(&mut rng), either_rule(&mut rng));
+        let morning = random_morning(&mut rng, &plan, rule);
         let last = morning.now();
-        let lines = morning.events.iter().copied();
-        let ends: Vec<u8> = lines.flat_map(event_line).collect();
+        let ends = ends_text(rule, &morning.events);
         let log = String::from_utf8(run_log(&plan_text(&plan), &ends)).unwrap();
         for (task, tick, clock) in starts_in(&log) {
-            let awaited = |&j: &usize| plan.finish[j] <= plan.begin[task - 1];
-            let ends = (0..plan.task_count()).filter(awaited).map(|j| last.end[j]);
-            assert_eq!(clock, ends.max().unwrap_or(0), "task {task}");
+            let awaited = awaited(&plan, rule, task - 1).into_iter();
+            let latest = awaited.map(|j| last.end[j]).max();
+            assert_eq!(clock, latest.unwrap_or(0), "task {task}");
             assert_eq!(tick, last.start[task - 1], "task {task}");
             ahead += u32::from(tick > clock);
         }
@@ -236,8 +238,8 @@ fn a_known_start_is_fixed() {
     let mut rng = rng_for("a_known_start_is_fixed");
     let mut reached_later = 0;
     for _ in 0..400 {
-        let plan = awaited_plan(&mut rng);
-        for step in random_morning(&mut rng, &plan).books.windows(2) {
+        let (plan, rule) = (awaited_plan(&mut rng), either_rule(&mut rng));
+        for step in random_morning(&mut rng, &plan, rule).books.windows(2) {
             let (before, now) = (&step[0], &step[1]);
             for i in (0..plan.task_count()).filter(|&i| before.mark[i] != WAITING) {
                 assert_eq!(now.start[i], before.start[i]);

@@ -2,10 +2,10 @@
 
 use dispatcher::sample::events::starts_past_the_clock;
 use dispatcher::sample::every_book::{every_book, morning_of, Morning, AWAITED, CHAIN};
-use dispatcher::{open_book, read_plan, sound, Book, Plan};
+use dispatcher::{open_book, read_plan, sound, Book, Plan, Rule};
 use std::collections::HashSet;
 
-/// Task 2 waits for 1, and 3 for both; 2 and 3 can be dropped.
+/// By Early Start task 2 waits for 1, and 3 for both; 2 and 3 can be dropped.
 const THREE: &[u8] = b"plan\t1\t2\t3
 task\t1\t1\t0\t2\t-\t-
 task\t2\t2\t2\t3\t-\t-
@@ -59,20 +59,26 @@ fn plan_of(text: &[u8]) -> Plan {
 
 #[test]
 fn a_book_of_three_tasks_is_sound_exactly_when_a_run_gives_it() {
-    check_every_book_of_three(THREE);
+    check_every_book_of_three(THREE, Rule::EarlyStart);
 }
 
 #[test]
 fn so_is_one_with_starts_past_the_clock() {
-    check_every_book_of_three(THREE_AWAITED);
+    check_every_book_of_three(THREE_AWAITED, Rule::EarlyStart);
 }
 
-fn check_every_book_of_three(text: &[u8]) {
+/// Task 2 waits for nobody and cannot be dropped, and 3 waits for 1 alone.
+#[test]
+fn so_is_one_by_the_clash_rule() {
+    check_every_book_of_three(THREE, Rule::Clash);
+}
+
+fn check_every_book_of_three(text: &[u8], rule: Rule) {
     let plan = plan_of(text);
-    let given: HashSet<Morning> = every_book(&plan).iter().map(morning_of).collect();
+    let given: HashSet<Morning> = every_book(&plan, rule).iter().map(morning_of).collect();
     let states = every_state();
     let mut found = 0;
-    let mut book = open_book(&plan).book;
+    let mut book = open_book(&plan, rule).book;
     for &first in &states {
         put(&mut book, 0, first);
         for &second in &states {
@@ -101,22 +107,25 @@ fn last_books(books: &[Book], dropped: &[usize]) -> usize {
 /// Worked out by hand: each drop set's endings of the tasks that run.
 #[test]
 fn the_last_books_of_the_chain_are_as_many_as_its_endings() {
-    let books = every_book(&plan_of(CHAIN));
-    let last_books = |dropped: &[usize]| last_books(&books, dropped);
-    // Tasks 1, 2 and 4 may take one tick or two, 3 and 5 only one.
-    assert_eq!(last_books(&[]), 8);
-    assert_eq!(last_books(&[4]), 4);
-    assert_eq!(last_books(&[5]), 8);
-    assert_eq!(last_books(&[1, 4]), 2);
-    assert_eq!(last_books(&[1, 4, 5]), 2);
-    assert!(books.iter().all(sound));
+    // The two rules let the same tasks of the chain go on the same ticks.
+    for rule in Rule::BOTH {
+        let books = every_book(&plan_of(CHAIN), rule);
+        let last_books = |dropped: &[usize]| last_books(&books, dropped);
+        // Tasks 1, 2 and 4 may take one tick or two, 3 and 5 only one.
+        assert_eq!(last_books(&[]), 8);
+        assert_eq!(last_books(&[4]), 4);
+        assert_eq!(last_books(&[5]), 8);
+        assert_eq!(last_books(&[1, 4]), 2);
+        assert_eq!(last_books(&[1, 4, 5]), 2);
+        assert!(books.iter().all(sound));
+    }
 }
 
 /// Worked out by hand. Task 1 ends at 2 or 3, 2 at 1 or 2, 3 a tick or two after
 /// it starts at the end of 2; 4 takes a tick from 3 on, and 5 one or two.
 #[test]
 fn the_last_books_with_ready_ticks_are_as_many_as_their_endings() {
-    let books = every_book(&plan_of(AWAITED));
+    let books = every_book(&plan_of(AWAITED), Rule::EarlyStart);
     let last_books = |dropped: &[usize]| last_books(&books, dropped);
     // 1, 2, 3 and 5 have two endings each.
     assert_eq!(last_books(&[]), 16);
@@ -131,5 +140,30 @@ fn the_last_books_with_ready_ticks_are_as_many_as_their_endings() {
     // not: where 2 ended at 1, task 3 runs, has ended or is dropped; at 2, it runs or is dropped.
     let past_the_clock = |book: &&Book| !starts_past_the_clock(book).is_empty();
     assert_eq!(books.iter().filter(past_the_clock).count(), 8 + 2 * 5);
+    assert!(books.iter().all(sound));
+}
+
+/// Worked out by hand. Task 3 waits for nobody and starts at 1, 4 for 2 alone, and 5
+/// for 1 and 4.
+#[test]
+fn the_last_books_by_the_clash_rule_are_as_many_as_their_endings() {
+    let books = every_book(&plan_of(AWAITED), Rule::Clash);
+    let last_books = |dropped: &[usize]| last_books(&books, dropped);
+    // 1 and 3 end at 2 or 3, 2 at 1 or 2, 4 at 4, and 5 at 5 or 6.
+    assert_eq!(last_books(&[]), 16);
+    assert_eq!(last_books(&[5]), 8);
+    // Without 4, that is 5 a tick or two after the end of 1.
+    assert_eq!(last_books(&[4]), 16);
+    assert_eq!(last_books(&[4, 5]), 8);
+    // 3 waits for nobody by this rule.
+    assert_eq!(last_books(&[3]), 0);
+    // At clock 0 those of 1 and 3, with any of 4 and 5 dropped. Then that of 4, 5 dropped or
+    // not: at 1 where 2 has ended; at 2 where it ended at 1 and 1, 3 or both at 2, or it
+    // ended at 2 and any of 1 and 3 too.
+    let past_the_clock = |book: &&Book| !starts_past_the_clock(book).is_empty();
+    assert_eq!(
+        books.iter().filter(past_the_clock).count(),
+        4 + 2 + 2 * (3 + 4)
+    );
     assert!(books.iter().all(sound));
 }

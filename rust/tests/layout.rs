@@ -1,6 +1,6 @@
 //! Where each field of the values lies, for callers in another language.
 
-use dispatcher::{Answer, Book, Dropped, Figure, Opening, Plan, Reading, Reported, Written};
+use dispatcher::{Answer, Book, Dropped, Figure, Opening, Plan, Reading, Reported, Rule, Written};
 use std::mem::{offset_of, size_of};
 
 #[test]
@@ -22,6 +22,7 @@ fn book_lies_as_stated() {
     assert_eq!(offset_of!(Book, edition), 0);
     assert_eq!(offset_of!(Book, boards), 1);
     assert_eq!(offset_of!(Book, tasks), 2);
+    assert_eq!(offset_of!(Book, rule), 3);
     assert_eq!(offset_of!(Book, clock), 4);
     assert_eq!(offset_of!(Book, board), 8);
     assert_eq!(offset_of!(Book, ready), 72);
@@ -34,6 +35,12 @@ fn book_lies_as_stated() {
     assert_eq!(offset_of!(Book, holds), 1480);
     assert_eq!(offset_of!(Book, after), 3528);
     assert_eq!(size_of::<Book>(), 7624);
+}
+
+#[test]
+fn rules_are_the_bytes_stated() {
+    assert_eq!(Rule::BOTH.map(|rule| rule as u8), [0, 1]);
+    assert_eq!(Book::ZERO.rule, 0);
 }
 
 #[test]

@@ -4,6 +4,7 @@ use dispatcher::sample::program::at_root;
 use std::fs;
 use std::process::{Command, Output};
 
+/// Shown in the README at the root.
 const DRAWN: [&str; 6] = [
     "plan-a",
     "full-morning",
@@ -12,6 +13,9 @@ const DRAWN: [&str; 6] = [
     "old-plan",
     "old-plan-refused",
 ];
+
+/// Shown in the README of their own example.
+const DRAWN_BELOW: [(&str, &str); 2] = [("two-rules", "early-start"), ("two-rules", "clash")];
 
 fn draw(plan: &str, log: &str) -> Output {
     Command::new("python3")
@@ -31,7 +35,8 @@ fn expect_refused(plan: &str, log: &str, why: &str) {
 
 #[test]
 fn the_committed_pictures_are_drawn_anew() {
-    for name in DRAWN {
+    let below = DRAWN_BELOW.map(|(example, name)| format!("{example}/{name}"));
+    for name in DRAWN.map(String::from).into_iter().chain(below) {
         let folder = format!("examples/{name}");
         let output = draw(&format!("{folder}/plan.txt"), &format!("{folder}/log.txt"));
         let committed = fs::read(at_root(&format!("{folder}/picture.svg"))).unwrap();
@@ -41,13 +46,17 @@ fn the_committed_pictures_are_drawn_anew() {
 }
 
 #[test]
-fn the_readme_shows_them() {
+fn the_readmes_show_them() {
     let readme = fs::read_to_string(at_root("README.md")).unwrap();
     for name in DRAWN {
         assert!(
             readme.contains(&format!("(examples/{name}/picture.svg)")),
             "{name}"
         );
+    }
+    for (example, name) in DRAWN_BELOW {
+        let readme = fs::read_to_string(at_root(&format!("examples/{example}/README.md"))).unwrap();
+        assert!(readme.contains(&format!("({name}/picture.svg)")), "{name}");
     }
 }
 
@@ -62,6 +71,11 @@ fn a_refused_log_and_a_log_of_another_plan_are_not_drawn() {
     expect_refused(
         "examples/plan-a/plan.txt",
         "examples/full-morning/log.txt",
+        "not of this plan",
+    );
+    expect_refused(
+        "examples/plan-a/plan.txt",
+        "examples/two-rules/clash/log.txt",
         "not of this plan",
     );
     expect_refused(

@@ -1,11 +1,13 @@
 //! What must hold on random plans, runs and damaged inputs.
 //! Each test prints its seed; set SEED to repeat or to try another.
 
-use dispatcher::judge::clash;
-use dispatcher::sample::damage::{late_book, mutated_book, mutated_plan, wrongly_dropped_book};
+use dispatcher::judge::{clash, Clashes};
+use dispatcher::sample::damage::{
+    by_the_other_rule, late_book, mutated_book, mutated_plan, ruleless_book, wrongly_dropped_book,
+};
 use dispatcher::sample::events::{
-    accepted_event, any_drop, event_line, is_chain_over_boards, is_started, must_take,
-    passed_tasks, random_book, take, Event,
+    accepted_event, any_drop, ends_text, is_chain_over_boards, is_started, must_take, passed_tasks,
+    random_book, take, Event,
 };
 use dispatcher::sample::faults::{damaged_text, faulty_pair_plan, late_plan};
 use dispatcher::sample::mornings::{random_morning, Morning};
@@ -14,6 +16,7 @@ use dispatcher::sample::plans::{moved_later, random_plan};
 use dispatcher::sample::reports::{
     any_report, last_moment_report, one_tick_reports, running_tasks,
 };
+use dispatcher::sample::waiting::{awaited, either_rule, rule_of};
 use dispatcher::sample::{announced_seed, Rng};
 use dispatcher::text::plan_text;
 use dispatcher::values::{items, refusal, EDITION_2, LONGEST_TEXT};
@@ -21,7 +24,7 @@ use dispatcher::{
     accepted, drop_task, first_faulty_pair, minimum_early, open_book, read_plan, report, run_log,
     sound, write_plan,
 };
-use dispatcher::{Answer, Book, Plan};
+use dispatcher::{Answer, Book, Plan, Rule};
 
 fn rng_for(test: &str) -> Rng {
     Rng::new(announced_seed(test))
@@ -211,6 +214,7 @@ fn check_clashing_tasks_keep_plan_order(last: &Book) {
 }
 
 fn check_starts_are_the_latest_awaited_ends(last: &Book) {
+    let (plan, rule) = (last.plan(), rule_of(last));
     for i in 0..count(last) {
         // A dropped task need not be ready.
         let mut latest = if last.dropped[i] == 1 {
@@ -218,10 +222,8 @@ fn check_starts_are_the_latest_awaited_ends(last: &Book) {
         } else {
             last.ready[i]
         };
-        for j in 0..count(last) {
-            if last.finish[j] <= last.begin[i] {
-                latest = latest.max(last.end[j]);
-            }
+        for j in awaited(&plan, rule, i) {
+            latest = latest.max(last.end[j]);
         }
         assert_eq!(last.start[i], latest);
         assert!(last.start[i] <= last.begin[i]);
@@ -291,8 +293,8 @@ fn mornings_keep_what_the_plan_promises() {
     let mut rng = rng_for("mornings_keep_what_the_plan_promises");
     let (mut events, mut early, mut chains) = (0, 0, 0);
     for _ in 0..800 {
-        let plan = random_plan(&mut rng);
-        let morning = random_morning(&mut rng, &plan);
+        let (plan, rule) = (random_plan(&mut rng), either_rule(&mut rng));
+        let morning = random_morning(&mut rng, &plan, rule);
         let last = morning.now();
         assert!(last.mark[..count(last)].iter().all(|&mark| mark == 2));
         // Each task is dropped or reported, and never both.
@@ -300,7 +302,7 @@ fn mornings_keep_what_the_plan_promises() {
         check_clashing_tasks_keep_plan_order(last);
         check_starts_are_the_latest_awaited_ends(last);
         for book in &morning.books {
-            assert!(sound(book));
+            assert!(sound(book) && book.rule == rule as u8);
             check_figure_is_kept(book, last);
         }
         early += check_figures_along(&morning.books);
@@ -316,8 +318,8 @@ fn mornings_keep_what_the_plan_promises() {
 fn no_two_clashing_tasks_ever_run_at_once() {
     let mut rng = rng_for("no_two_clashing_tasks_ever_run_at_once");
     for _ in 0..300 {
-        let plan = random_plan(&mut rng);
-        for book in random_morning(&mut rng, &plan).books {
+        let (plan, rule) = (random_plan(&mut rng), either_rule(&mut rng));
+        for book in random_morning(&mut rng, &plan, rule).books {
             let running = running_tasks(&book);
             for (k, &a) in running.iter().enumerate() {
                 assert!(running[k + 1..].iter().all(|&b| !clash(&plan, a, b)));
@@ -331,7 +333,8 @@ fn the_least_limit_is_always_accepted() {
     let mut rng = rng_for("the_least_limit_is_always_accepted");
     let (mut tried, mut dropped) = (0, 0);
     for _ in 0..150 {
-        let mut book = open_book(&random_plan(&mut rng)).book;
+        let (plan, rule) = (random_plan(&mut rng), either_rule(&mut rng));
+        let mut book = open_book(&plan, rule).book;
         let drop_percent = rng.pick(&[0, 15, 70]);
         while let Some((task, tick)) = last_moment_report(&book) {
             tried += 1;
@@ -373,8 +376,8 @@ fn reports_of_one_tick_may_come_in_any_order() {
 }
 
 /// The book after all the events; None when one of them is refused.
-fn book_after(plan: &Plan, events: &[Event]) -> Option<Book> {
-    let mut book = open_book(plan).book;
+fn book_after(plan: &Plan, rule: Rule, events: &[Event]) -> Option<Book> {
+    let mut book = open_book(plan, rule).book;
     for &event in events {
         let (answer, next) = take(&book, event);
         if !answer.is_accepted() {
@@ -407,14 +410,14 @@ fn the_same_reports_and_drops_leave_the_same_book() {
     let mut rng = rng_for("the_same_reports_and_drops_leave_the_same_book");
     let (mut taken, mut refused) = (0, 0);
     for _ in 0..600 {
-        let plan = random_plan(&mut rng);
-        let mut events = random_morning(&mut rng, &plan).events;
+        let (plan, rule) = (random_plan(&mut rng), either_rule(&mut rng));
+        let mut events = random_morning(&mut rng, &plan, rule).events;
         events.truncate(rng.index(events.len() + 1));
-        let first = book_after(&plan, &events);
+        let first = book_after(&plan, rule, &events);
         assert!(first.is_some());
         for _ in 0..5 {
             let order = reordered(&mut rng, &events);
-            let other = book_after(&plan, &order);
+            let other = book_after(&plan, rule, &order);
             if other.is_none() {
                 refused += 1;
                 continue;
@@ -424,7 +427,7 @@ fn the_same_reports_and_drops_leave_the_same_book() {
         }
         // A task that waits at some time waits from the first, so drops may come first.
         events.sort_by_key(|event| matches!(event, Event::End(..)));
-        assert!(book_after(&plan, &events) == first);
+        assert!(book_after(&plan, rule, &events) == first);
     }
     println!("{taken} other orders taken, {refused} refused");
     assert!(taken > 500 && refused > 100);
@@ -521,10 +524,11 @@ fn refused_drops_leave_the_book_and_accepted_ones_nearly() {
     assert!(accepted > 100 && unknown > 100 && started > 100);
 }
 
-/// The book that its own plan, its own drops and its own ends give, if those
-/// are accepted.
+/// The book that its own plan, its own rule, its own drops and its own ends give, if
+/// those are accepted.
 fn replayed(book: &Book) -> Option<Book> {
-    if !open_book(&book.plan()).answer.is_accepted() {
+    let rule = Rule::of_byte(book.rule)?;
+    if !open_book(&book.plan(), rule).answer.is_accepted() {
         return None;
     }
     let dropped = (0..count(book)).filter(|&i| book.dropped[i] == 1);
@@ -533,7 +537,7 @@ fn replayed(book: &Book) -> Option<Book> {
     let mut ended: Vec<usize> = (0..count(book)).filter(ended_itself).collect();
     ended.sort_by_key(|&i| book.end[i]);
     events.extend(ended.iter().map(|&i| Event::End(i as u32 + 1, book.end[i])));
-    book_after(&book.plan(), &events)
+    book_after(&book.plan(), rule, &events)
 }
 
 #[test]
@@ -566,7 +570,55 @@ fn a_book_on_a_plan_with_no_task_at_0_is_never_sound() {
         assert_eq!(report(&late, task, tick).answer, Answer::UNSOUND);
         assert_eq!(drop_task(&late, task).answer, Answer::UNSOUND);
         assert_eq!(minimum_early(&late).answer, Answer::UNSOUND);
-        assert_eq!(open_book(&late.plan()).answer, Answer::UNSOUND);
+        let opening = open_book(&late.plan(), rule_of(&book));
+        assert_eq!(opening.answer, Answer::UNSOUND);
+    }
+}
+
+#[test]
+fn a_book_is_judged_by_the_rule_it_holds() {
+    let mut rng = rng_for("a_book_is_judged_by_the_rule_it_holds");
+    let (mut sound_by_both, mut by_its_own) = (0, 0);
+    for _ in 0..2000 {
+        let book = random_book(&mut rng);
+        let other = by_the_other_rule(&book);
+        let given_by_a_run = replayed(&other) == Some(other);
+        assert_eq!(sound(&other), given_by_a_run, "{other:?}");
+        sound_by_both += u32::from(given_by_a_run);
+        by_its_own += u32::from(!given_by_a_run);
+        let ruleless = ruleless_book(&mut rng, &book);
+        assert!(!sound(&ruleless));
+        let (task, tick) = any_report(&mut rng, &book);
+        let reported = report(&ruleless, task, tick);
+        assert_eq!(reported.answer, Answer::UNSOUND);
+        assert!(reported.book == ruleless);
+    }
+    println!("{sound_by_both} books sound by both rules, {by_its_own} by their own alone");
+    assert!(sound_by_both > 200 && by_its_own > 200);
+}
+
+/// The document's sentence on clashes, drive by drive.
+fn plainly_clash(plan: &Plan, a: usize, b: usize) -> bool {
+    let lists = |i: usize, j: usize| items(plan.after_places(i)).contains(&(j as u8 + 1));
+    plan.board[a] == plan.board[b]
+        || (1..=32).any(|drive| drive_in_conflict(plan, a, b, drive))
+        || lists(a, b)
+        || lists(b, a)
+}
+
+#[test]
+fn clashes_are_as_the_document_says() {
+    let mut rng = rng_for("clashes_are_as_the_document_says");
+    for _ in 0..300 {
+        let plan = random_plan(&mut rng);
+        let clashes = Clashes::of(&plan);
+        for a in 0..plan.task_count() {
+            for b in 0..plan.task_count() {
+                let wanted = plainly_clash(&plan, a, b);
+                assert_eq!(clash(&plan, a, b), wanted);
+                assert_eq!(clashes.between(a, b), wanted);
+            }
+        }
     }
 }
 
@@ -611,15 +663,10 @@ fn runlog_prints_each_task_once_and_ends_with_the_last_figure() {
     let mut rng = rng_for("runlog_prints_each_task_once");
     let mut skipped = 0;
     for _ in 0..150 {
-        let plan = random_plan(&mut rng);
-        let morning = random_morning(&mut rng, &plan);
+        let (plan, rule) = (random_plan(&mut rng), either_rule(&mut rng));
+        let morning = random_morning(&mut rng, &plan, rule);
         let last = morning.now();
-        let ends: Vec<u8> = morning
-            .events
-            .iter()
-            .copied()
-            .flat_map(event_line)
-            .collect();
+        let ends = ends_text(rule, &morning.events);
         let log = String::from_utf8(run_log(&plan_text(&plan), &ends)).unwrap();
         let lines_of = |word: &str| log.lines().filter(|l| l.starts_with(word)).count();
         let dropped = last.dropped.iter().filter(|&&dropped| dropped == 1).count();

@@ -1,12 +1,13 @@
-//! Request P8's ready ticks by examples worked out by hand.
+//! Request P8's ready ticks by examples worked out by hand. In plan B the two rules let
+//! the same tasks go on the same ticks, so each holds by both.
 
-use dispatcher::sample::events::{must_take, take, Event};
+use dispatcher::sample::events::{must_take, rule_line, take, Event};
 use dispatcher::sample::plan_b::{PLAN_B, REPORTS_B};
 use dispatcher::values::{refusal, ENDED, RUNNING, WAITING};
 use dispatcher::{
     accepted, drop_task, minimum_early, open_book, read_plan, report, run_log, sound, write_plan,
 };
-use dispatcher::{Answer, Book, Plan};
+use dispatcher::{Answer, Book, Plan, Rule};
 use Event::{Drop, End};
 
 /// What a change breaks, and the change.
@@ -19,8 +20,8 @@ fn plan_b() -> Plan {
 }
 
 /// The book of plan B after these, all of which must be accepted.
-fn book_after(events: &[Event]) -> Book {
-    let fresh = open_book(&plan_b()).book;
+fn book_after(rule: Rule, events: &[Event]) -> Book {
+    let fresh = open_book(&plan_b(), rule).book;
     let book = events
         .iter()
         .fold(fresh, |book, &event| must_take(&book, event));
@@ -171,9 +172,11 @@ fn code_17_looks_at_planned_starts_and_not_at_ready_ticks() {
 
 fn check_plan_9(plan: &Plan, what: &str) {
     assert!(!accepted(plan), "{what}");
-    let opening = open_book(plan);
-    assert_eq!(opening.answer, refusal(9, 0, 0), "{what}");
-    assert_eq!(opening.book, Book::ZERO, "{what}");
+    for rule in Rule::BOTH {
+        let opening = open_book(plan, rule);
+        assert_eq!(opening.answer, refusal(9, 0, 0), "{what}");
+        assert_eq!(opening.book, Book::ZERO, "{what}");
+    }
     assert_eq!(write_plan(plan, &mut []).answer, refusal(9, 0, 0), "{what}");
 }
 
@@ -208,99 +211,109 @@ fn code_9_plan_with_a_wrong_edition_or_ready_tick() {
 
 #[test]
 fn at_opening_a_start_may_lie_past_the_clock() {
-    let book = book_after(&[]);
-    assert_eq!((book.edition, book.clock), (2, 0));
-    assert_eq!(book.ready, plan_b().ready);
-    assert_eq!(
-        book.mark[..5],
-        [RUNNING, RUNNING, WAITING, WAITING, WAITING]
-    );
-    assert_eq!(book.start[..5], [2, 0, 0, 0, 0]);
-    // Task 2 is at work and on time.
-    assert_eq!(figure(&book), 0);
+    for rule in Rule::BOTH {
+        let book = book_after(rule, &[]);
+        assert_eq!((book.edition, book.clock), (2, 0));
+        assert_eq!(book.ready, plan_b().ready);
+        assert_eq!(
+            book.mark[..5],
+            [RUNNING, RUNNING, WAITING, WAITING, WAITING]
+        );
+        assert_eq!(book.start[..5], [2, 0, 0, 0, 0]);
+        // Task 2 is at work and on time.
+        assert_eq!(figure(&book), 0);
+    }
 }
 
 #[test]
 fn a_start_past_the_clock_counts_as_running() {
-    let book = book_after(&[]);
-    // At or before its start, at once and later.
-    for tick in [0, 1, 2] {
-        check_refused(&book, End(1, tick), 13);
+    for rule in Rule::BOTH {
+        let book = book_after(rule, &[]);
+        // At or before its start, at once and later.
+        for tick in [0, 1, 2] {
+            check_refused(&book, End(1, tick), 13);
+        }
+        // Its limit is 2 + 2, and holds others back.
+        check_refused(&book, End(1, 5), 14);
+        check_refused(&book, End(2, 5), 15);
+        check_refused(&book, End(2, 6), 14);
+        check_refused(&book, Drop(1), 19);
+        assert_eq!(book_after(rule, &[End(1, 3)]).end[0], 3);
+        assert_eq!(book_after(rule, &[End(2, 4)]).clock, 4);
+        // The task of least limit, at its limit.
+        assert_eq!(book_after(rule, &[End(1, 4)]).clock, 4);
     }
-    // Its limit is 2 + 2, and holds others back.
-    check_refused(&book, End(1, 5), 14);
-    check_refused(&book, End(2, 5), 15);
-    check_refused(&book, End(2, 6), 14);
-    check_refused(&book, Drop(1), 19);
-    assert_eq!(book_after(&[End(1, 3)]).end[0], 3);
-    assert_eq!(book_after(&[End(2, 4)]).clock, 4);
-    // The task of least limit, at its limit.
-    assert_eq!(book_after(&[End(1, 4)]).clock, 4);
 }
 
 #[test]
 fn the_figure_may_come_from_ready_terms_alone() {
-    // After the end of 2 at 1 nobody is at work: 1 starts at 2, and 3 at 3.
-    let book = book_after(&[Drop(4), End(2, 1)]);
-    assert_eq!(book.mark[..5], [RUNNING, ENDED, RUNNING, WAITING, WAITING]);
-    assert_eq!((book.clock, book.start[0], book.start[2]), (1, 2, 3));
-    // 4 - 2, 5 - 3 and 12 - 0; 4 is dropped, and its 9 - 9 left out.
-    assert_eq!(figure(&book), 2);
-    let mut moved = plan_b();
-    moved.ready[0] = 1;
-    moved.ready[2] = 4;
-    let moved = [Drop(4), End(2, 1)]
-        .iter()
-        .fold(open_book(&moved).book, |book, &event| {
-            must_take(&book, event)
-        });
-    // Task 1's start is reached at 1: 4 - 1, and 5 - 4 of task 3 still to come.
-    assert_eq!(figure(&moved), 1);
-    // With 4 among those to come.
-    assert_eq!(figure(&book_after(&[End(2, 1)])), 0);
-    // Once all have ended there is no term.
-    let last = book_after(&REPORTS_B.map(|(task, tick)| End(task, tick)));
-    assert_eq!((last.clock, figure(&last)), (13, 0));
+    for rule in Rule::BOTH {
+        // After the end of 2 at 1 nobody is at work: 1 starts at 2, and 3 at 3.
+        let book = book_after(rule, &[Drop(4), End(2, 1)]);
+        assert_eq!(book.mark[..5], [RUNNING, ENDED, RUNNING, WAITING, WAITING]);
+        assert_eq!((book.clock, book.start[0], book.start[2]), (1, 2, 3));
+        // 4 - 2, 5 - 3 and 12 - 0; 4 is dropped, and its 9 - 9 left out.
+        assert_eq!(figure(&book), 2);
+        let mut moved = plan_b();
+        moved.ready[0] = 1;
+        moved.ready[2] = 4;
+        let moved = [Drop(4), End(2, 1)]
+            .iter()
+            .fold(open_book(&moved, rule).book, |book, &event| {
+                must_take(&book, event)
+            });
+        // Task 1's start is reached at 1: 4 - 1, and 5 - 4 of task 3 still to come.
+        assert_eq!(figure(&moved), 1);
+        // With 4 among those to come.
+        assert_eq!(figure(&book_after(rule, &[End(2, 1)])), 0);
+        // Once all have ended there is no term.
+        let last = book_after(rule, &REPORTS_B.map(|(task, tick)| End(task, tick)));
+        assert_eq!((last.clock, figure(&last)), (13, 0));
+    }
 }
 
 #[test]
 fn the_start_is_the_later_of_ready_tick_and_latest_end() {
-    // Before the ready tick, on it, and after it.
-    for (end, start) in [(1, 3), (2, 3), (3, 3), (4, 4)] {
-        let book = book_after(&[End(2, end)]);
-        assert_eq!(
-            (book.mark[2], book.start[2]),
-            (RUNNING, start),
-            "end 2 at {end}"
-        );
+    for rule in Rule::BOTH {
+        // Before the ready tick, on it, and after it.
+        for (end, start) in [(1, 3), (2, 3), (3, 3), (4, 4)] {
+            let book = book_after(rule, &[End(2, end)]);
+            assert_eq!(
+                (book.mark[2], book.start[2]),
+                (RUNNING, start),
+                "end 2 at {end}"
+            );
+        }
+        // Task 4 is ready at 9 only, however early the others end.
+        let book = book_after(rule, &[End(2, 1), End(1, 3), End(3, 5)]);
+        assert_eq!((book.clock, book.mark[3], book.start[3]), (5, RUNNING, 9));
+        for tick in [5, 8, 9] {
+            check_refused(&book, End(4, tick), 13);
+        }
+        check_refused(&book, End(4, 4), 12);
+        check_refused(&book, End(5, 10), 11);
+        check_refused(&book, End(4, 13), 14);
+        check_refused(&book, Drop(4), 19);
+        assert_eq!(figure(&book), 0);
+        // Task 5 is ready at 0 and starts with the end of 4.
+        let book = must_take(&book, End(4, 10));
+        assert_eq!((book.mark[4], book.start[4]), (RUNNING, 10));
+        assert_eq!(figure(&book), 2);
     }
-    // Task 4 is ready at 9 only, however early the others end.
-    let book = book_after(&[End(2, 1), End(1, 3), End(3, 5)]);
-    assert_eq!((book.clock, book.mark[3], book.start[3]), (5, RUNNING, 9));
-    for tick in [5, 8, 9] {
-        check_refused(&book, End(4, tick), 13);
-    }
-    check_refused(&book, End(4, 4), 12);
-    check_refused(&book, End(5, 10), 11);
-    check_refused(&book, End(4, 13), 14);
-    check_refused(&book, Drop(4), 19);
-    assert_eq!(figure(&book), 0);
-    // Task 5 is ready at 0 and starts with the end of 4.
-    let book = must_take(&book, End(4, 10));
-    assert_eq!((book.mark[4], book.start[4]), (RUNNING, 10));
-    assert_eq!(figure(&book), 2);
 }
 
 #[test]
 fn a_dropped_task_need_not_be_ready() {
-    let book = book_after(&[Drop(4), End(2, 1), End(1, 3), End(3, 5)]);
-    // Its ready tick is 9; it passes at 5, and 5 starts there.
-    assert_eq!(book.mark[..5], [ENDED, ENDED, ENDED, ENDED, RUNNING]);
-    assert_eq!((book.start[3], book.end[3], book.start[4]), (5, 5, 5));
-    assert_eq!(figure(&book), 7);
-    // Dropped between the reports too, as long as it waits.
-    let later = book_after(&[End(2, 1), End(1, 3), Drop(4), End(3, 5)]);
-    assert_eq!(later, book);
+    for rule in Rule::BOTH {
+        let book = book_after(rule, &[Drop(4), End(2, 1), End(1, 3), End(3, 5)]);
+        // Its ready tick is 9; it passes at 5, and 5 starts there.
+        assert_eq!(book.mark[..5], [ENDED, ENDED, ENDED, ENDED, RUNNING]);
+        assert_eq!((book.start[3], book.end[3], book.start[4]), (5, 5, 5));
+        assert_eq!(figure(&book), 7);
+        // Dropped between the reports too, as long as it waits.
+        let later = book_after(rule, &[End(2, 1), End(1, 3), Drop(4), End(3, 5)]);
+        assert_eq!(later, book);
+    }
 }
 
 fn check_book_9(book: &Book, what: &str) {
@@ -312,45 +325,47 @@ fn check_book_9(book: &Book, what: &str) {
 
 #[test]
 fn code_9_book_with_a_start_that_is_not_by_the_rule() {
-    let spoil: [Spoiled<Book>; 12] = [
-        ("started at the latest end, though not ready", |b| {
-            b.start[2] = 1
-        }),
-        ("started after its ready tick", |b| b.start[2] = 4),
-        ("started at 0, though not ready", |b| b.start[0] = 0),
-        ("started at the clock, though not ready", |b| b.start[0] = 1),
-        ("not started, though all it waits for ended", |b| {
-            (b.mark[2], b.start[2]) = (WAITING, 0)
-        }),
-        ("not started until the clock is there", |b| {
-            (b.mark[0], b.start[0]) = (WAITING, 0)
-        }),
-        ("dropped with a known start", |b| b.dropped[2] = 1),
-        ("ended at its start", |b| (b.mark[0], b.end[0]) = (ENDED, 2)),
-        ("ended past the clock", |b| {
-            (b.mark[0], b.end[0]) = (ENDED, 3)
-        }),
-        ("another ready tick", |b| b.ready[2] = 2),
-        ("edition 1", |b| b.edition = 1),
-        ("edition 0", |b| b.edition = 0),
-    ];
-    for (what, change) in spoil {
-        let mut book = book_after(&[End(2, 1)]);
-        change(&mut book);
-        check_book_9(&book, what);
+    for rule in Rule::BOTH {
+        let spoil: [Spoiled<Book>; 12] = [
+            ("started at the latest end, though not ready", |b| {
+                b.start[2] = 1
+            }),
+            ("started after its ready tick", |b| b.start[2] = 4),
+            ("started at 0, though not ready", |b| b.start[0] = 0),
+            ("started at the clock, though not ready", |b| b.start[0] = 1),
+            ("not started, though all it waits for ended", |b| {
+                (b.mark[2], b.start[2]) = (WAITING, 0)
+            }),
+            ("not started until the clock is there", |b| {
+                (b.mark[0], b.start[0]) = (WAITING, 0)
+            }),
+            ("dropped with a known start", |b| b.dropped[2] = 1),
+            ("ended at its start", |b| (b.mark[0], b.end[0]) = (ENDED, 2)),
+            ("ended past the clock", |b| {
+                (b.mark[0], b.end[0]) = (ENDED, 3)
+            }),
+            ("another ready tick", |b| b.ready[2] = 2),
+            ("edition 1", |b| b.edition = 1),
+            ("edition 0", |b| b.edition = 0),
+        ];
+        for (what, change) in spoil {
+            let mut book = book_after(rule, &[End(2, 1)]);
+            change(&mut book);
+            check_book_9(&book, what);
+        }
+        // A ready tick that its start does not tell is another plan's, and as good.
+        let mut other_plan = book_after(rule, &[End(2, 1)]);
+        other_plan.ready[3] = 0;
+        assert!(sound(&other_plan));
+        // Passed at its ready tick instead of the latest end.
+        let mut passed_late = book_after(rule, &[Drop(4), End(2, 1), End(1, 3), End(3, 5)]);
+        (passed_late.start[3], passed_late.end[3], passed_late.clock) = (9, 9, 9);
+        passed_late.start[4] = 9;
+        check_book_9(
+            &passed_late,
+            "a dropped task that waited for its ready tick",
+        );
     }
-    // A ready tick that its start does not tell is another plan's, and as good.
-    let mut other_plan = book_after(&[End(2, 1)]);
-    other_plan.ready[3] = 0;
-    assert!(sound(&other_plan));
-    // Passed at its ready tick instead of the latest end.
-    let mut passed_late = book_after(&[Drop(4), End(2, 1), End(1, 3), End(3, 5)]);
-    (passed_late.start[3], passed_late.end[3], passed_late.clock) = (9, 9, 9);
-    passed_late.start[4] = 9;
-    check_book_9(
-        &passed_late,
-        "a dropped task that waited for its ready tick",
-    );
 }
 
 #[test]
@@ -367,8 +382,7 @@ end\t1\t3
 end\t3\t5
 end\t5\t6
 ";
-    let log = "run\t1\t2\t5
-start\t1\t1\t2\t2
+    let log = "start\t1\t1\t2\t2
 start\t2\t2\t0\t0
 early\t0\t0
 refused\t19\t1\t0
@@ -391,6 +405,12 @@ early\t5\t7
 end\t5\t2\t6\t8
 early\t6\t0
 ";
-    let printed = run_log(PLAN_B, ends.as_bytes());
-    assert_eq!(String::from_utf8(printed).unwrap(), log);
+    for (rule, run_line) in [
+        (Rule::EarlyStart, "run\t1\t2\t5\n"),
+        (Rule::Clash, "run\t2\t2\t5\tclash\n"),
+    ] {
+        let ends = [rule_line(rule), ends.as_bytes()].concat();
+        let printed = String::from_utf8(run_log(PLAN_B, &ends)).unwrap();
+        assert_eq!(printed, format!("{run_line}{log}"));
+    }
 }

@@ -1,4 +1,5 @@
-//! Every refusal number by hand-written cases, with the two numbers it says.
+//! Every refusal number by hand-written cases, with the two numbers it says. In plan A and
+//! in the small plan the two rules let the same tasks go, so books meet them by both.
 
 use dispatcher::sample::damage::on_other_plan;
 use dispatcher::sample::events::random_book;
@@ -11,7 +12,7 @@ use dispatcher::{
     accepted, drop_task, minimum_early, open_book, proved, read_plan, report, run_log, sound,
     write_plan,
 };
-use dispatcher::{Answer, Book, Plan};
+use dispatcher::{Answer, Book, Plan, Rule};
 
 /// What a change breaks, and the change.
 type Spoiled<T> = (&'static str, fn(&mut T));
@@ -49,8 +50,8 @@ fn small_plan() -> Plan {
     reading.plan
 }
 
-fn book_of(text: &[u8], reports: &[(u32, u32)]) -> Book {
-    let mut book = open_book(&read_plan(text).plan).book;
+fn book_of(rule: Rule, text: &[u8], reports: &[(u32, u32)]) -> Book {
+    let mut book = open_book(&read_plan(text).plan, rule).book;
     for &(task, tick) in reports {
         let reported = report(&book, task, tick);
         assert_eq!(reported.answer, Answer::ACCEPTED, "end {task} at {tick}");
@@ -70,9 +71,11 @@ fn check_text(text: &[u8], code: u32, first: u32, second: u32) {
 
 fn check_plan_9(plan: &Plan, what: &str) {
     assert!(!accepted(plan), "{what}");
-    let opening = open_book(plan);
-    assert_eq!(opening.answer, refusal(9, 0, 0), "{what}");
-    assert_eq!(opening.book, Book::ZERO, "{what}");
+    for rule in Rule::BOTH {
+        let opening = open_book(plan, rule);
+        assert_eq!(opening.answer, refusal(9, 0, 0), "{what}");
+        assert_eq!(opening.book, Book::ZERO, "{what}");
+    }
     let mut out = [7u8; 2000];
     let written = write_plan(plan, &mut out);
     assert_eq!(written.answer, refusal(9, 0, 0), "{what}");
@@ -364,13 +367,15 @@ fn code_17_comes_after_5_and_before_6() {
 
 #[test]
 fn code_9_plan_or_book_with_no_task_at_tick_0() {
-    for by in [1, 30_000] {
-        let what = format!("{by} ticks late");
-        let late = moved_later(&small_plan(), by);
-        check_plan_9(&late, &what);
-        for reports in [&[][..], &[(2, 3)], &[(2, 3), (1, 4)]] {
-            let book = book_of(&small_text(), reports);
-            check_book_9(&on_other_plan(&book, &late), &what);
+    for rule in Rule::BOTH {
+        for by in [1, 30_000] {
+            let what = format!("{by} ticks late");
+            let late = moved_later(&small_plan(), by);
+            check_plan_9(&late, &what);
+            for reports in [&[][..], &[(2, 3)], &[(2, 3), (1, 4)]] {
+                let book = book_of(rule, &small_text(), reports);
+                check_book_9(&on_other_plan(&book, &late), &what);
+            }
         }
     }
 }
@@ -535,12 +540,14 @@ fn full_lists_are_accepted() {
         plan.holds[drive as usize - 1] = 2 * drive + drive % 2;
     }
     assert!(accepted(&plan));
-    assert!(open_book(&plan).answer.is_accepted());
+    for rule in Rule::BOTH {
+        assert!(open_book(&plan, rule).answer.is_accepted());
+    }
 }
 
 /// Book of plan A with tasks 1 to 3 ended and 4, 5 running from tick 6.
-fn late_book() -> Book {
-    let book = book_of(PLAN_A, &REPORTS_A[..3]);
+fn late_book(rule: Rule) -> Book {
+    let book = book_of(rule, PLAN_A, &REPORTS_A[..3]);
     assert!(sound(&book));
     assert_eq!(book.mark[..5], [2, 2, 2, 1, 1]);
     book
@@ -548,94 +555,110 @@ fn late_book() -> Book {
 
 #[test]
 fn code_9_book_of_no_accepted_run() {
-    let spoil: [Spoiled<Book>; 16] = [
-        ("clock after the greatest end", |b| b.clock = 7),
-        ("clock before the greatest end", |b| b.clock = 5),
-        ("clock at the end of all numbers", |b| b.clock = u32::MAX),
-        ("start of a running task moved", |b| b.start[3] = 5),
-        ("start at the end of all numbers", |b| b.start[3] = u32::MAX),
-        ("start of an ended task moved", |b| b.start[1] = 1),
-        ("end after the limit", |b| b.end[1] = 5),
-        ("end that moves a later start", |b| b.end[1] = 2),
-        ("end of a running task", |b| b.end[3] = 7),
-        ("end at the start", |b| b.end[0] = 0),
-        ("a mark that is none", |b| b.mark[3] = 3),
-        ("running made waiting", |b| b.mark[3] = 0),
-        ("ended made running", |b| b.mark[2] = 1),
-        ("mark past the last task", |b| b.mark[5] = 1),
-        ("start past the last task", |b| b.start[5] = 1),
-        ("end past the last task", |b| b.end[63] = 1),
-    ];
-    for (what, change) in spoil {
-        let mut book = late_book();
-        change(&mut book);
-        check_book_9(&book, what);
+    for rule in Rule::BOTH {
+        let spoil: [Spoiled<Book>; 18] = [
+            ("a rule that is none", |b| b.rule = 2),
+            ("the last byte as a rule", |b| b.rule = 255),
+            ("clock after the greatest end", |b| b.clock = 7),
+            ("clock before the greatest end", |b| b.clock = 5),
+            ("clock at the end of all numbers", |b| b.clock = u32::MAX),
+            ("start of a running task moved", |b| b.start[3] = 5),
+            ("start at the end of all numbers", |b| b.start[3] = u32::MAX),
+            ("start of an ended task moved", |b| b.start[1] = 1),
+            ("end after the limit", |b| b.end[1] = 5),
+            ("end that moves a later start", |b| b.end[1] = 2),
+            ("end of a running task", |b| b.end[3] = 7),
+            ("end at the start", |b| b.end[0] = 0),
+            ("a mark that is none", |b| b.mark[3] = 3),
+            ("running made waiting", |b| b.mark[3] = 0),
+            ("ended made running", |b| b.mark[2] = 1),
+            ("mark past the last task", |b| b.mark[5] = 1),
+            ("start past the last task", |b| b.start[5] = 1),
+            ("end past the last task", |b| b.end[63] = 1),
+        ];
+        for (what, change) in spoil {
+            let mut book = late_book(rule);
+            change(&mut book);
+            check_book_9(&book, what);
+        }
+        check_book_9(&Book::ZERO, "zeros");
     }
-    check_book_9(&Book::ZERO, "zeros");
 }
 
 #[test]
 fn code_9_book_with_a_waiting_or_running_task_out_of_place() {
-    let fresh = book_of(PLAN_A, &[]);
-    let spoil: [Spoiled<Book>; 5] = [
-        ("waits for nobody but has not started", |b| b.mark[0] = 0),
-        ("runs while one it waits for runs", |b| b.mark[2] = 1),
-        ("a waiting task knows its start", |b| b.start[4] = 6),
-        ("a waiting task knows its end", |b| b.end[4] = 6),
-        ("a plan that is not accepted", |b| b.begin[2] = 3),
-    ];
-    for (what, change) in spoil {
-        let mut book = fresh;
-        change(&mut book);
-        check_book_9(&book, what);
+    for rule in Rule::BOTH {
+        let fresh = book_of(rule, PLAN_A, &[]);
+        let spoil: [Spoiled<Book>; 5] = [
+            ("waits for nobody but has not started", |b| b.mark[0] = 0),
+            ("runs while one it waits for runs", |b| b.mark[2] = 1),
+            ("a waiting task knows its start", |b| b.start[4] = 6),
+            ("a waiting task knows its end", |b| b.end[4] = 6),
+            ("a plan that is not accepted", |b| b.begin[2] = 3),
+        ];
+        for (what, change) in spoil {
+            let mut book = fresh;
+            change(&mut book);
+            check_book_9(&book, what);
+        }
+        // Task 1's limit is 6: the clock cannot have passed it while it runs.
+        let mut passed = book_of(rule, PLAN_A, &[(2, 4)]);
+        passed.mark[2] = 2;
+        passed.end[2] = 7;
+        passed.clock = 7;
+        check_book_9(&passed, "a running task's limit has passed");
+        let sound_sibling = book_of(rule, PLAN_A, &[(2, 4), (3, 6)]);
+        assert!(sound(&sound_sibling));
     }
-    // Task 1's limit is 6: the clock cannot have passed it while it runs.
-    let mut passed = book_of(PLAN_A, &[(2, 4)]);
-    passed.mark[2] = 2;
-    passed.end[2] = 7;
-    passed.clock = 7;
-    check_book_9(&passed, "a running task's limit has passed");
-    let sound_sibling = book_of(PLAN_A, &[(2, 4), (3, 6)]);
-    assert!(sound(&sound_sibling));
 }
 
 #[test]
 fn code_10_no_such_task() {
-    let book = late_book();
-    for task in [0, 6, 64, 65, 256, 257, 999_999, u32::MAX] {
-        for tick in [0, 7, u32::MAX] {
-            check_report(&book, task, tick, 10);
+    for rule in Rule::BOTH {
+        let book = late_book(rule);
+        for task in [0, 6, 64, 65, 256, 257, 999_999, u32::MAX] {
+            for tick in [0, 7, u32::MAX] {
+                check_report(&book, task, tick, 10);
+            }
         }
     }
 }
 
 #[test]
 fn code_11_waiting_or_ended() {
-    for tick in [0, 1, 3, 7, u32::MAX] {
-        check_report(&book_of(PLAN_A, &[]), 5, tick, 11);
-        check_report(&late_book(), 2, tick, 11);
+    for rule in Rule::BOTH {
+        for tick in [0, 1, 3, 7, u32::MAX] {
+            check_report(&book_of(rule, PLAN_A, &[]), 5, tick, 11);
+            check_report(&late_book(rule), 2, tick, 11);
+        }
     }
 }
 
 #[test]
 fn code_12_before_the_clock() {
-    check_report(&late_book(), 4, 5, 12);
-    check_report(&late_book(), 4, 0, 12);
-    // Task 1 started at 0, so only the clock stands in the way.
-    check_report(&book_of(PLAN_A, &[(2, 3)]), 1, 2, 12);
+    for rule in Rule::BOTH {
+        check_report(&late_book(rule), 4, 5, 12);
+        check_report(&late_book(rule), 4, 0, 12);
+        // Task 1 started at 0, so only the clock stands in the way.
+        check_report(&book_of(rule, PLAN_A, &[(2, 3)]), 1, 2, 12);
+    }
 }
 
 #[test]
 fn code_13_at_or_before_the_start() {
-    check_report(&late_book(), 4, 6, 13);
-    check_report(&book_of(PLAN_A, &[]), 1, 0, 13);
+    for rule in Rule::BOTH {
+        check_report(&late_book(rule), 4, 6, 13);
+        check_report(&book_of(rule, PLAN_A, &[]), 1, 0, 13);
+    }
 }
 
 #[test]
 fn code_14_after_the_limit() {
-    check_report(&late_book(), 4, 10, 14);
-    check_report(&late_book(), 5, 11, 14);
-    check_report(&late_book(), 5, u32::MAX, 14);
+    for rule in Rule::BOTH {
+        check_report(&late_book(rule), 4, 10, 14);
+        check_report(&late_book(rule), 5, 11, 14);
+        check_report(&late_book(rule), 5, u32::MAX, 14);
+    }
 }
 
 /// A limit is at most the planned finish, so above the last tick 14 comes before 15.
@@ -648,7 +671,7 @@ task\t3\t2\t5\t9\t-\t-
 ";
     let mut rng = Rng::new(announced_seed("above the last tick"));
     let mut books: Vec<Book> = (0..500).map(|_| random_book(&mut rng)).collect();
-    books.push(book_of(to_the_last_tick, &[]));
+    books.extend(Rule::BOTH.map(|rule| book_of(rule, to_the_last_tick, &[])));
     for book in books {
         for task in 0..=u32::from(book.tasks) + 1 {
             let code = match book.mark.get((task as usize).wrapping_sub(1)) {
@@ -667,10 +690,12 @@ task\t3\t2\t5\t9\t-\t-
 
 #[test]
 fn code_15_after_another_running_limit() {
-    // Task 4 may run to 9, task 5 to 10.
-    check_report(&late_book(), 5, 10, 15);
-    assert!(report(&late_book(), 5, 9).answer.is_accepted());
-    assert!(report(&late_book(), 4, 9).answer.is_accepted());
+    for rule in Rule::BOTH {
+        // Task 4 may run to 9, task 5 to 10.
+        check_report(&late_book(rule), 5, 10, 15);
+        assert!(report(&late_book(rule), 5, 9).answer.is_accepted());
+        assert!(report(&late_book(rule), 4, 9).answer.is_accepted());
+    }
 }
 
 #[test]

@@ -8,7 +8,7 @@ use dispatcher::{
     accepted, convert, convert_text, drop_task, minimum_early, open_book, read_exclusive,
     read_plan, report, sound, write_plan,
 };
-use dispatcher::{Answer, Book, Plan, Reading};
+use dispatcher::{Answer, Book, Plan, Reading, Rule};
 
 /// Three tasks on two boards in edition 2; holds stand in column 16 of each line.
 const SMALL: [&str; 4] = [
@@ -68,7 +68,9 @@ fn code_20_names_the_holds_field() {
 fn edition_1_takes_shared_holds_as_before() {
     let plan = plan_of(PLAN_A);
     assert_eq!(plan.holds[64..66], [5, 0]);
-    assert_eq!(open_book(&plan).answer, Answer::ACCEPTED);
+    for rule in Rule::BOTH {
+        assert_eq!(open_book(&plan, rule).answer, Answer::ACCEPTED);
+    }
     let mut out = [7; 300];
     let length = write_plan(&plan, &mut out).length as usize;
     assert_eq!(&out[..length], PLAN_A);
@@ -151,29 +153,31 @@ fn code_20_comes_before_whatever_is_said_of_the_whole_text() {
 
 #[test]
 fn code_9_plan_and_book_with_a_shared_hold_in_edition_2() {
-    let mut plan = plan_of(PLAN_B);
-    let mut books = vec![open_book(&plan).book];
-    for (task, tick) in REPORTS_B {
-        books.push(report(&books[books.len() - 1], task, tick).book);
-    }
-    assert!(books.iter().all(sound));
-    // Task 3 holds drive 2.
-    plan.holds[64] = 5;
-    assert!(!accepted(&plan));
-    let opening = open_book(&plan);
-    assert_eq!(
-        (opening.answer, opening.book),
-        (Answer::UNSOUND, Book::ZERO)
-    );
-    assert_eq!(write_plan(&plan, &mut []).answer, Answer::UNSOUND);
-    for book in books {
-        let sharing = on_other_plan(&book, &plan);
-        assert!(!sound(&sharing));
-        let reported = report(&sharing, 1, 3);
-        assert_eq!((reported.answer, reported.book), (Answer::UNSOUND, sharing));
-        let dropped = drop_task(&sharing, 4);
-        assert_eq!((dropped.answer, dropped.book), (Answer::UNSOUND, sharing));
-        assert_eq!(minimum_early(&sharing).answer, Answer::UNSOUND);
+    for rule in Rule::BOTH {
+        let mut plan = plan_of(PLAN_B);
+        let mut books = vec![open_book(&plan, rule).book];
+        for (task, tick) in REPORTS_B {
+            books.push(report(&books[books.len() - 1], task, tick).book);
+        }
+        assert!(books.iter().all(sound));
+        // Task 3 holds drive 2.
+        plan.holds[64] = 5;
+        assert!(!accepted(&plan));
+        let opening = open_book(&plan, rule);
+        assert_eq!(
+            (opening.answer, opening.book),
+            (Answer::UNSOUND, Book::ZERO)
+        );
+        assert_eq!(write_plan(&plan, &mut []).answer, Answer::UNSOUND);
+        for book in books {
+            let sharing = on_other_plan(&book, &plan);
+            assert!(!sound(&sharing));
+            let reported = report(&sharing, 1, 3);
+            assert_eq!((reported.answer, reported.book), (Answer::UNSOUND, sharing));
+            let dropped = drop_task(&sharing, 4);
+            assert_eq!((dropped.answer, dropped.book), (Answer::UNSOUND, sharing));
+            assert_eq!(minimum_early(&sharing).answer, Answer::UNSOUND);
+        }
     }
 }
 

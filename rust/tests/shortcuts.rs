@@ -1,8 +1,10 @@
-//! The shortcuts that break a morning, each coded as a small variant.
+//! The shortcuts that break a morning, each coded as a small variant. They break it by
+//! both rules, which let the same tasks of these plans go on the same ticks.
 
-use dispatcher::judge::clash_by_drive;
+use dispatcher::judge::{clash, clash_by_drive};
 use dispatcher::sample::plan_a::PLAN_A;
-use dispatcher::{minimum_early, open_book, read_plan, report, Book, Plan};
+use dispatcher::sample::waiting::{awaited, rule_of};
+use dispatcher::{minimum_early, open_book, read_plan, report, Book, Plan, Rule};
 
 /// Whether waiting task index i may start now, reporter being the index ended.
 type StartRule = fn(book: &Book, i: usize, reporter: Option<usize>) -> bool;
@@ -17,7 +19,8 @@ fn count(book: &Book) -> usize {
 
 /// The document's rule, as the variants' common starting point.
 fn awaited_ended(book: &Book, i: usize, _: Option<usize>) -> bool {
-    (0..count(book)).all(|j| book.finish[j] > book.begin[i] || ended(book, j))
+    let mut awaited = awaited(&book.plan(), rule_of(book), i).into_iter();
+    awaited.all(|j| ended(book, j))
 }
 
 /// Shortcut: the board's earlier tasks have ended and its drives are free.
@@ -32,7 +35,9 @@ fn board_and_drives_free(book: &Book, i: usize, _: Option<usize>) -> bool {
 
 /// Shortcut: waits only for tasks that finish strictly before.
 fn strictly_earlier_ended(book: &Book, i: usize, _: Option<usize>) -> bool {
-    (0..count(book)).all(|j| book.finish[j] >= book.begin[i] || ended(book, j))
+    let (plan, rule) = (book.plan(), rule_of(book));
+    let counts = |j: usize| rule == Rule::EarlyStart || clash(&plan, i, j);
+    (0..count(book)).all(|j| book.finish[j] >= book.begin[i] || !counts(j) || ended(book, j))
 }
 
 /// Shortcut: looks for starts on the reporter's board only.
@@ -41,36 +46,36 @@ fn on_the_reporters_board(book: &Book, i: usize, reporter: Option<usize>) -> boo
     looked_at && awaited_ended(book, i, reporter)
 }
 
-fn start_by(rule: StartRule, book: &mut Book, reporter: Option<usize>) {
+fn start_by(may_start: StartRule, book: &mut Book, reporter: Option<usize>) {
     for i in 0..count(book) {
-        if book.mark[i] == 0 && rule(book, i, reporter) {
+        if book.mark[i] == 0 && may_start(book, i, reporter) {
             book.mark[i] = 1;
             book.start[i] = book.clock;
         }
     }
 }
 
-fn open_by(rule: StartRule, plan: &Plan) -> Book {
-    let mut book = open_book(plan).book;
+fn open_by(may_start: StartRule, plan: &Plan, rule: Rule) -> Book {
+    let mut book = open_book(plan, rule).book;
     book.mark = [0; 64];
-    start_by(rule, &mut book, None);
+    start_by(may_start, &mut book, None);
     book
 }
 
-fn report_by(rule: StartRule, book: &Book, task: usize, tick: u32) -> Book {
+fn report_by(may_start: StartRule, book: &Book, task: usize, tick: u32) -> Book {
     let mut next = *book;
     next.mark[task - 1] = 2;
     next.end[task - 1] = tick;
     next.clock = tick;
-    start_by(rule, &mut next, Some(task - 1));
+    start_by(may_start, &mut next, Some(task - 1));
     next
 }
 
 /// Every task takes its full length; ends are reported as they come.
-fn full_length_starts(rule: StartRule, plan: &Plan) -> Vec<u32> {
-    let mut book = open_by(rule, plan);
+fn full_length_starts(may_start: StartRule, plan: &Plan, rule: Rule) -> Vec<u32> {
+    let mut book = open_by(may_start, plan, rule);
     while let Some((tick, i)) = next_end(&book) {
-        book = report_by(rule, &book, i + 1, tick);
+        book = report_by(may_start, &book, i + 1, tick);
     }
     book.start[..count(&book)].to_vec()
 }
@@ -88,8 +93,8 @@ fn plan_a() -> Plan {
     reading.plan
 }
 
-fn accepted_reports(plan: &Plan, reports: &[(u32, u32)]) -> Book {
-    let mut book = open_book(plan).book;
+fn accepted_reports(plan: &Plan, rule: Rule, reports: &[(u32, u32)]) -> Book {
+    let mut book = open_book(plan, rule).book;
     for &(task, tick) in reports {
         let reported = report(&book, task, tick);
         assert!(reported.answer.is_accepted(), "end {task} at {tick}");
@@ -100,44 +105,50 @@ fn accepted_reports(plan: &Plan, reports: &[(u32, u32)]) -> Book {
 
 #[test]
 fn starting_once_board_and_drives_are_free() {
-    let text = b"plan\t1\t2\t4
+    for rule in Rule::BOTH {
+        let text = b"plan\t1\t2\t4
 task\t1\t1\t0\t4\t-\t-
 task\t2\t2\t0\t5\t-\t-
 task\t3\t2\t5\t6\te1\t-
 task\t4\t1\t6\t9\te1\t-
 ";
-    let plan = read_plan(text).plan;
-    assert_eq!(
-        full_length_starts(board_and_drives_free, &plan),
-        [0, 0, 7, 4]
-    );
-    assert_eq!(full_length_starts(awaited_ended, &plan), [0, 0, 5, 6]);
+        let plan = read_plan(text).plan;
+        assert_eq!(
+            full_length_starts(board_and_drives_free, &plan, rule),
+            [0, 0, 7, 4]
+        );
+        assert_eq!(full_length_starts(awaited_ended, &plan, rule), [0, 0, 5, 6]);
 
-    let real = accepted_reports(&plan, &[(1, 4), (2, 5), (3, 6), (4, 9)]);
-    assert_eq!(real.start[..4], plan.begin[..4]);
-    assert_eq!(real.end[..4], plan.finish[..4]);
+        let real = accepted_reports(&plan, rule, &[(1, 4), (2, 5), (3, 6), (4, 9)]);
+        assert_eq!(real.start[..4], plan.begin[..4]);
+        assert_eq!(real.end[..4], plan.finish[..4]);
+    }
 }
 
 #[test]
 fn waiting_only_for_strictly_earlier_finishes() {
-    let wrong = open_by(strictly_earlier_ended, &plan_a());
-    assert_eq!(wrong.mark[..5], [1, 1, 1, 0, 0]);
-    assert_eq!(wrong.start[2], 0);
-    assert_eq!(wrong.board[1], wrong.board[2]);
+    for rule in Rule::BOTH {
+        let wrong = open_by(strictly_earlier_ended, &plan_a(), rule);
+        assert_eq!(wrong.mark[..5], [1, 1, 1, 0, 0]);
+        assert_eq!(wrong.start[2], 0);
+        assert_eq!(wrong.board[1], wrong.board[2]);
 
-    let real = open_book(&plan_a()).book;
-    assert_eq!(real.mark[..5], [1, 1, 0, 0, 0]);
+        let real = open_book(&plan_a(), rule).book;
+        assert_eq!(real.mark[..5], [1, 1, 0, 0, 0]);
+    }
 }
 
 #[test]
 fn looking_on_the_reporters_board_only() {
-    let before = accepted_reports(&plan_a(), &[(2, 3), (1, 4)]);
-    let wrong = report_by(on_the_reporters_board, &before, 3, 6);
-    assert_eq!(wrong.mark[..5], [2, 2, 2, 0, 1]);
+    for rule in Rule::BOTH {
+        let before = accepted_reports(&plan_a(), rule, &[(2, 3), (1, 4)]);
+        let wrong = report_by(on_the_reporters_board, &before, 3, 6);
+        assert_eq!(wrong.mark[..5], [2, 2, 2, 0, 1]);
 
-    let real = report(&before, 3, 6).book;
-    assert_eq!(real.mark[..5], [2, 2, 2, 1, 1]);
-    assert_eq!(real.start[3], 6);
+        let real = report(&before, 3, 6).book;
+        assert_eq!(real.mark[..5], [2, 2, 2, 1, 1]);
+        assert_eq!(real.start[3], 6);
+    }
 }
 
 /// Shortcut: the figure of the report just taken.
@@ -170,25 +181,29 @@ fn early_of_earliest_running(book: &Book) -> u32 {
 
 #[test]
 fn taking_the_figure_from_one_report_or_the_largest_board() {
-    let book = accepted_reports(&plan_a(), &[(2, 3), (1, 4)]);
-    assert_eq!(early_of_last_report(&book), 2);
-    assert_eq!(early_of_largest_board(&book), 2);
-    assert_eq!(minimum_early(&book).early, 1);
+    for rule in Rule::BOTH {
+        let book = accepted_reports(&plan_a(), rule, &[(2, 3), (1, 4)]);
+        assert_eq!(early_of_last_report(&book), 2);
+        assert_eq!(early_of_largest_board(&book), 2);
+        assert_eq!(minimum_early(&book).early, 1);
 
-    let later = report(&book, 3, 8);
-    assert!(later.answer.is_accepted());
-    let task_4_early = later.book.begin[3] - later.book.start[3];
-    assert_eq!(task_4_early, 1);
+        let later = report(&book, 3, 8);
+        assert!(later.answer.is_accepted());
+        let task_4_early = later.book.begin[3] - later.book.start[3];
+        assert_eq!(task_4_early, 1);
+    }
 }
 
 #[test]
 fn taking_the_largest_figure_of_those_that_run() {
-    let book = accepted_reports(&plan_a(), &[(2, 3)]);
-    assert_eq!(early_of_earliest_running(&book), 1);
-    assert_eq!(minimum_early(&book).early, 0);
+    for rule in Rule::BOTH {
+        let book = accepted_reports(&plan_a(), rule, &[(2, 3)]);
+        assert_eq!(early_of_earliest_running(&book), 1);
+        assert_eq!(minimum_early(&book).early, 0);
 
-    let later = report(&book, 1, 6);
-    assert!(later.answer.is_accepted());
-    let task_1_early = later.book.finish[0] - later.book.end[0];
-    assert_eq!(task_1_early, 0);
+        let later = report(&book, 1, 6);
+        assert!(later.answer.is_accepted());
+        let task_1_early = later.book.finish[0] - later.book.end[0];
+        assert_eq!(task_1_early, 0);
+    }
 }

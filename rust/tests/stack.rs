@@ -14,7 +14,7 @@ use dispatcher::sample::tally::say;
 use dispatcher::sample::Rng;
 use dispatcher::text::plan_text;
 use dispatcher::values::LONGEST_TEXT;
-use dispatcher::{open_book, Book, Figure, Plan, Written};
+use dispatcher::{open_book, Book, Figure, Plan, Rule, Written};
 use std::{ptr, slice};
 use Register::{Lent, Number, Place};
 
@@ -69,9 +69,10 @@ fn check_judging<T: Copy>(what: &str, function: Function, value: &T, yes: u32) {
     check(what, measured(function, bytes_of(value), []), yes);
 }
 
-fn check_opening(what: &str, plan: &Plan, code: u32) {
-    let measured = measured(Function::OpenBook, bytes_of(plan), [Place]);
-    check(what, measured, code);
+fn check_opening(what: &str, plan: &Plan, rule: Rule, code: u32) {
+    let clash = Number(usize::from(rule == Rule::Clash));
+    let measured = measured(Function::OpenBook, bytes_of(plan), [Place, clash]);
+    check(&format!("{what} by {rule:?}"), measured, code);
 }
 
 fn check_report(what: &str, book: &Book, (task, tick): (u32, u32), code: u32) {
@@ -121,7 +122,9 @@ fn no_call_on_a_plan_takes_more_than_32_kib() {
         let broken = with_broken_order(plan);
         check_judging("a broken order", Function::IsAccepted, &broken, 0);
         check_reading("reading a broken order", &plan_text(&broken), 8);
-        check_opening("opening a book", &plan, 0);
+        for rule in Rule::BOTH {
+            check_opening("opening a book", &plan, rule, 0);
+        }
     }
     let [_, mut unready] = full_plans();
     unready.ready[63] = unready.begin[63] + 1;
@@ -129,7 +132,9 @@ fn no_call_on_a_plan_takes_more_than_32_kib() {
     check_judging("a ready tick too late", Function::IsAccepted, &unready, 0);
     check_writing("a refused writing", &Plan::ZERO, 9);
     check_judging("a plan not accepted", Function::IsAccepted, &Plan::ZERO, 0);
-    check_opening("a refused opening", &Plan::ZERO, 9);
+    for rule in Rule::BOTH {
+        check_opening("a refused opening", &Plan::ZERO, rule, 9);
+    }
 }
 
 /// `convert_text` is a whole program's work, as `run_log` is, and stands under no such limit.
@@ -151,22 +156,35 @@ fn no_conversion_takes_more_than_32_kib() {
 #[test]
 fn no_call_on_a_book_takes_more_than_32_kib() {
     for plan in full_plans() {
-        let book = open_book(&plan).book;
-        let (task, tick) = last_moment_report(&book).expect("a fresh book has running tasks");
-        check_report("a report", &book, (task, tick), 0);
-        check_report("a refused report", &book, (65, tick), 10);
-        check_figure("M", &book, 0);
-        check_judging("judging a book", Function::IsSound, &book, 1);
-        let droppable = droppable_tasks(&book);
-        check_drop("a drop", &book, droppable[0], 0);
-        check_drop("a refused drop", &book, task, 19);
-        let all_dropped = droppable
-            .iter()
-            .fold(book, |book, &task| must_take(&book, Event::Drop(task)));
-        check_report("a report with drops", &all_dropped, (task, tick), 0);
-        check_judging("judging drops", Function::IsSound, &all_dropped, 1);
+        for rule in Rule::BOTH {
+            check_calls_on(&open_book(&plan, rule).book, rule);
+        }
     }
     check_judging("a book not sound", Function::IsSound, &Book::ZERO, 0);
+}
+
+/// Every call on a fresh book by that rule.
+fn check_calls_on(book: &Book, rule: Rule) {
+    let by_rule = |what: &str| format!("{what} by {rule:?}");
+    let (task, tick) = last_moment_report(book).expect("a fresh book has running tasks");
+    check_report(&by_rule("a report"), book, (task, tick), 0);
+    check_report(&by_rule("a refused report"), book, (65, tick), 10);
+    check_figure(&by_rule("M"), book, 0);
+    check_judging(&by_rule("judging a book"), Function::IsSound, book, 1);
+    let droppable = droppable_tasks(book);
+    check_drop(&by_rule("a drop"), book, droppable[0], 0);
+    check_drop(&by_rule("a refused drop"), book, task, 19);
+    let all_dropped = droppable
+        .iter()
+        .fold(*book, |book, &task| must_take(&book, Event::Drop(task)));
+    let with_drops = by_rule("a report with drops");
+    check_report(&with_drops, &all_dropped, (task, tick), 0);
+    check_judging(
+        &by_rule("judging drops"),
+        Function::IsSound,
+        &all_dropped,
+        1,
+    );
 }
 
 #[test]

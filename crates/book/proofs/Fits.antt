@@ -22,7 +22,7 @@ use Rattle.view.specs.View.{planFor}
 use Rattle.view.proofs.Accepted.{plan-facts, plan-lawful, clash-waits}
 use Rattle.view.proofs.Laid.{laid-past}
 use Rattle.book.specs.View.{planIn, planView, bookView}
-use Rattle.book.specs.private.Table.{seenAs, movedTo, OnEight, InTurn, Closed, Past, Fit}
+use Rattle.book.specs.private.Table.{seenAs, movedTo, OnEight, InTurn, Onward, Closed, Past, Fit}
 use Rattle.book.specs.declared.Book.{Book}
 use Rattle.book.specs.declared.Moved.{Moved}
 use Rattle.book.proofs.Views.{past-by, past-blank, set-put}
@@ -40,18 +40,22 @@ blank-seen none e z =
       clock = 0;
     })
 
-module _ (plan : Plan) (ok : isAccepted plan ≡ true) where
-  plan-boards : OnEight (planFor plan) (at (plan .board))
+module _ (rule : ℕ) (plan : Plan) (ok : isAccepted plan ≡ true) where
+  plan-boards : OnEight (planFor rule plan) (at (plan .board))
   plan-boards k l =
       let t = plan-facts plan ok .task k l in let b = plan-facts plan ok .boards-to in (t .board-from, omega arith)
 
-  pub plan-turns : InTurn (planFor plan) (at (plan .board))
-  plan-turns i j li lj n e = clash-waits plan ok i j li lj n (or-l _ (eq-eqb (at (plan .board) i) (at (plan .board) j) e))
+  pub plan-turns : InTurn (planFor rule plan) (at (plan .board))
+  plan-turns i j li lj n e = clash-waits plan ok rule i j li lj n (or-l _ (eq-eqb (at (plan .board) i) (at (plan .board) j) e))
 
-  fit-on : (book : theory-book.Book) → Closed (planFor plan) (book .mark) → Past (plan .tasks) book → Fit (planFor plan) (at (plan .board)) book
+  plan-onward : Onward (planFor rule plan)
+  plan-onward i j li lj w =
+      let law = plan-lawful plan ok rule in omega (arith, law .before i j li lj w, law .lasts i li)
+
+  fit-on : (book : theory-book.Book) → Closed (planFor rule plan) (book .mark) → Past (plan .tasks) book → Fit (planFor rule plan) (at (plan .board)) book
   fit-on book closed past = record {
     few = plan-facts plan ok .tasks-to;
-    law = plan-lawful plan ok;
+    onward = plan-onward;
     on = plan-boards;
     turn = plan-turns;
     closed = closed;
@@ -60,7 +64,7 @@ module _ (plan : Plan) (ok : isAccepted plan ≡ true) where
 
   pub fit-blank :
       (none : List ℕ) {empty : Moved} → empty ≡ movedTo 0 blank → ((j : ℕ) → at none j ≡ 0)
-      → Fit (planFor plan) (at (plan .board)) (seenAs empty none 0)
+      → Fit (planFor rule plan) (at (plan .board)) (seenAs empty none 0)
   fit-blank none e z = rw (blank-seen none e z) (fit-on blank (λ i j li lj n w. absurd (n refl)) (past-blank (plan .tasks)))
 
 -- one more running task ended
@@ -95,6 +99,6 @@ module _ (book : Book) (k tick : ℕ) (size-mark : length (book .mark) ≡ 64) (
       → Fit (planView book) (at (book .board)) (seenAs ended (book .dropped) tick)
   fit-ended f ok =
       rw ended-seen
-      (fit-on (planIn book) (f .accepted) (endIt (bookView book) k tick)
+      (fit-on (book .rule) (planIn book) (f .accepted) (endIt (bookView book) k tick)
       (closed-ended (planView book) (bookView book) k tick (f .sound) ok)
       (past-by (planView book) _ _ (past-end-it (planView book) (bookView book) k tick (ok .task)) (f .past)))

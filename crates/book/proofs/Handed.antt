@@ -17,12 +17,13 @@ use Rattle.view.specs.View.{planFor, laid}
 use Rattle.view.proofs.Accepted.{plan-facts}
 use Rattle.view.proofs.Laid.{zeros-laid, laid-past}
 use Rattle.book.specs.View.{planIn, planView, bookView, layOut}
-use Rattle.book.specs.Open.{blankBook, openedOn}
+use Rattle.book.specs.Open.{ruleNumber, blankBook, openedOn}
 use Rattle.book.specs.Report.{nextBook}
 use Rattle.book.specs.Drop.{droppedIn}
 use Rattle.book.specs.private.Table.{seenAs, movedTo}
 use Rattle.book.specs.declared.Book.{Book}
 use Rattle.book.specs.declared.Moved.{Moved}
+use Rattle.book.specs.declared.Rule.{Rule}
 use Rattle.book.proofs.Views.{own-laid, set-laid}
 use Rattle.book.proofs.Soundness.{SoundFacts}
 use Rattle.book.proofs.Fits.{blank-seen, ended-seen}
@@ -40,12 +41,13 @@ blank-skip plan (suc n) = ap (skipTimes n plan) once ∙ blank-skip plan n
     once =
         λ i. record { mark = λ j. none 2 j i; start = λ j. none 0 j i; end = λ j. none 0 j i; dropped = λ j. 0; clock = 0 }
 
--- a book on a plan, with these arrays
-abbrev pub bookOn : Plan → ℕ → List ℕ → List ℕ → List ℕ → List ℕ → Book
-bookOn plan clock mark start end dropped = record {
+-- a book by a rule on a plan, with these arrays
+abbrev pub bookOn : ℕ → Plan → ℕ → List ℕ → List ℕ → List ℕ → List ℕ → Book
+bookOn rule plan clock mark start end dropped = record {
   edition = plan .edition;
   boards = plan .boards;
   tasks = plan .tasks;
+  rule = rule;
   clock = clock;
   board = plan .board;
   ready = plan .ready;
@@ -60,17 +62,22 @@ bookOn plan clock mark start end dropped = record {
 }
 
 abbrev pub bookWith : Book → ℕ → List ℕ → List ℕ → List ℕ → List ℕ → Book
-bookWith book = bookOn (planIn book)
+bookWith book = bookOn (book .rule) (planIn book)
 
-pub blank-laid : (plan : Plan) → bookOn plan 0 (replicate 64 0) (replicate 64 0) (replicate 64 0) (replicate 64 0) ≡ blankBook plan
+pub blank-laid :
+    (rule : ℕ) (plan : Plan) → bookOn rule plan 0 (replicate 64 0) (replicate 64 0) (replicate 64 0) (replicate 64 0) ≡ blankBook rule plan
 unfolding layOut
-blank-laid plan = let z = zeros-laid (plan .tasks) in λ i. bookOn plan 0 (z i) (z i) (z i) (z i)
+blank-laid rule plan = let z = zeros-laid (plan .tasks) in λ i. bookOn rule plan 0 (z i) (z i) (z i) (z i)
 
 -- opening
-module _ (plan : Plan) {book : Book} (b : book ≡ blankBook plan) where
+module _ (plan : Plan) (rule : Rule) {book : Book} (b : book ≡ blankBook (ruleNumber rule) plan) where
   pub blank-plan : planIn book ≡ plan
   unfolding layOut
   blank-plan = rw b
+
+  pub blank-rule : book .rule ≡ ruleNumber rule
+  unfolding layOut
+  blank-rule = rw b
 
   its-clock : book .clock ≡ 0
   unfolding layOut
@@ -81,33 +88,35 @@ module _ (plan : Plan) {book : Book} (b : book ≡ blankBook plan) where
   its-drops = rw b
 
   -- nothing is known, of however many tasks
-  blank-none : book ≡ bookOn plan 0 (laid 0 (λ i. 0)) (laid 0 (λ i. 0)) (laid 0 (λ i. 0)) (laid 0 (λ i. 0))
-  blank-none = b ∙ sym (blank-laid plan) ∙ (let z = zeros-laid 0 in λ i. bookOn plan 0 (z i) (z i) (z i) (z i))
+  blank-none : book ≡ bookOn (ruleNumber rule) plan 0 (laid 0 (λ i. 0)) (laid 0 (λ i. 0)) (laid 0 (λ i. 0)) (laid 0 (λ i. 0))
+  blank-none =
+      b ∙ sym (blank-laid (ruleNumber rule) plan)
+      ∙ (let z = zeros-laid 0 in λ i. bookOn (ruleNumber rule) plan 0 (z i) (z i) (z i) (z i))
 
   pub none-dropped : (j : ℕ) → at (book .dropped) j ≡ 0
   none-dropped j = ap (λ (x : Book). at (x .dropped) j) blank-none ∙ laid-past 0 (λ i. 0) j (omega arith)
 
   -- a plan that is refused: zeros
   pub cleared :
-      bookOn (planWith 0 0 0 (replicate 64 0) (replicate 64 0) (replicate 64 0) (replicate 64 0) (replicate 2048 0) (replicate 4096 0))
+      bookOn 0 (planWith 0 0 0 (replicate 64 0) (replicate 64 0) (replicate 64 0) (replicate 64 0) (replicate 2048 0) (replicate 4096 0))
       (book .clock) (book .mark) (book .start) (book .end) (book .dropped)
-      ≡ blankBook zeroPlan
+      ≡ blankBook 0 zeroPlan
   unfolding layOut planOf each rows
   cleared =
-      λ i. bookOn zeroPlan (blank-none i .clock) (blank-none i .mark) (blank-none i .start) (blank-none i .end) (blank-none i .dropped)
+      λ i. bookOn 0 zeroPlan (blank-none i .clock) (blank-none i .mark) (blank-none i .start) (blank-none i .end) (blank-none i .dropped)
 
   module _ {empty moved : Moved} (e : empty ≡ movedTo 0 blank)
       (m : moved ≡ movedTo (book .tasks) (letGo (planView book) (skipTimes (book .tasks) (planView book) (seenAs empty (book .dropped) 0)))) where
-    moved-is : moved ≡ movedTo (plan .tasks) (letGo (planFor plan) blank)
+    moved-is : moved ≡ movedTo (plan .tasks) (letGo (planFor (ruleNumber rule) plan) blank)
     moved-is =
         m
         ∙ ap (λ (seen : theory-book.Book). movedTo (book .tasks) (letGo (planView book) (skipTimes (book .tasks) (planView book) seen))) (blank-seen (book .dropped) e none-dropped)
         ∙ ap (λ (seen : theory-book.Book). movedTo (book .tasks) (letGo (planView book) seen)) (blank-skip (planView book) (book .tasks))
-        ∙ ap (λ (p : Plan). movedTo (p .tasks) (letGo (planFor p) blank)) blank-plan
+        ∙ (λ i. movedTo (blank-plan i .tasks) (letGo (planFor (blank-rule i) (blank-plan i)) blank))
 
-    pub opened-laid : bookWith book (book .clock) (moved .mark) (moved .start) (moved .end) (book .dropped) ≡ openedOn plan
+    pub opened-laid : bookWith book (book .clock) (moved .mark) (moved .start) (moved .end) (book .dropped) ≡ openedOn plan rule
     unfolding openedOn opened layOut
-    opened-laid = λ i. bookOn (blank-plan i) (its-clock i) (moved-is i .mark) (moved-is i .start) (moved-is i .end) (its-drops i)
+    opened-laid = λ i. bookOn (blank-rule i) (blank-plan i) (its-clock i) (moved-is i .mark) (moved-is i .start) (moved-is i .end) (its-drops i)
 
 module _ (book : Book) (f : SoundFacts book) (size-dropped : length (book .dropped) ≡ 64) where
   few : book .tasks ≤ 64

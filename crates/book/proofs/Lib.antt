@@ -3,6 +3,7 @@ pub mod StartLaws
 pub mod SkipLaws
 pub mod Sizes
 pub mod Views
+pub mod WaitLaws
 pub mod SettleLaws
 pub mod Soundness
 pub mod Fits

@@ -1,9 +1,9 @@
 -- What the public functions answer, by the tests that lead there.
 use Prim.Native.Nat.{ℕ, _-_, _<_}
 use native.Mathlib.Omega.{arith}
-use mathlib.Core.Bool.{Bool, true, false, not, cond, _||_}
+use mathlib.Core.Bool.{Bool, true, false, not, cond, _&&_, _||_}
 use mathlib.Core.List.{[]}
-use mathlib.Core.Path.{_≡_, refl, sym, _∙_}
+use mathlib.Core.Path.{_≡_, refl, sym, ap, _∙_}
 use mathlib.Core.Logic.{_≢_}
 use lib.Dec.{leb, ltb, eqb}
 use borrow.Author.Tests.{eq-eqb, ne-eqb, not-true, not-false}
@@ -17,42 +17,51 @@ use Rattle.plan.specs.Answer.{refuse, granted}
 use Rattle.plan.specs.Value.{isAccepted, zeroPlan}
 use Rattle.plan.specs.declared.Answer.{Answer}
 use Rattle.plan.specs.declared.Plan.{Plan}
-use Rattle.view.specs.View.{planSeen, bookSeen}
+use Rattle.view.specs.View.{isRule, planSeen, bookSeen}
 use Rattle.view.proofs.Accepted.{PlanFacts, plan-facts}
 use Rattle.book.specs.View.{planIn, planView, bookView}
 use Rattle.book.specs.Sound.{isSound}
-use Rattle.book.specs.Open.{blankBook, openedOn, openingOf}
+use Rattle.book.specs.Open.{ruleNumber, blankBook, openedOn, openingOf}
 use Rattle.book.specs.Report.{codeOf, reportAnswer, nextBook, reportedOf}
 use Rattle.book.specs.Drop.{dropCodeOf, dropAnswer, droppedIn, droppedOf}
 use Rattle.book.specs.Early.{figureOf}
 use Rattle.book.specs.declared.Book.{Book}
 use Rattle.book.specs.declared.Opening.{Opening}
+use Rattle.book.specs.declared.Rule.{Rule}
 use Rattle.book.specs.declared.Reported.{Reported}
 use Rattle.book.specs.declared.Dropped.{Dropped}
 use Rattle.book.specs.declared.Figure.{Figure}
-use Rattle.book.proofs.Soundness.{SoundFacts, is-sound-facts}
+use Rattle.book.proofs.Soundness.{SoundFacts, is-sound-facts, number-is-rule}
 
 -- opening
 either : {A : Type 0} (test : Bool) (x : A) → cond test x x ≡ x
 either true x = refl
 either false x = refl
 
-module _ (plan : Plan) {ok : Bool} (p : ok ≡ isAccepted plan) {code : ℕ} {answer : Answer}
+-- each of the two rules has a number
+accepted-by : (plan : Plan) (rule : Rule) {ok : Bool} → ok ≡ (isAccepted plan && isRule (ruleNumber rule)) → ok ≡ isAccepted plan
+accepted-by plan rule p = p ∙ ap (λ (known : Bool). isAccepted plan && known) (number-is-rule rule) ∙ and-true (isAccepted plan)
+  where
+    and-true : (b : Bool) → (b && true) ≡ b
+    and-true true = refl
+    and-true false = refl
+
+module _ (plan : Plan) (rule : Rule) {ok : Bool} (p : ok ≡ (isAccepted plan && isRule (ruleNumber rule))) {code : ℕ} {answer : Answer}
     (a : answer ≡ cond (eqb code 0 || eqb code 9) (refuse code 0 0) (refuse code 0 0)) where
   opening-says : answer ≡ refuse code 0 0
   opening-says = a ∙ either (eqb code 0 || eqb code 9) (refuse code 0 0)
 
   pub opening-refused :
-      {book : Book} → ok ≡ false → code ≡ 9 → book ≡ blankBook zeroPlan
-      → _≡_ {A = Opening} (record { answer = answer; book = book }) (openingOf plan)
+      {book : Book} → ok ≡ false → code ≡ 9 → book ≡ blankBook 0 zeroPlan
+      → _≡_ {A = Opening} (record { answer = answer; book = book }) (openingOf plan rule)
   unfolding openingOf
-  opening-refused h n b = rw (sym p ∙ h, opening-says, n, b)
+  opening-refused h n b = rw (sym (accepted-by plan rule p) ∙ h, opening-says, n, b)
 
   pub opening-granted :
-      {book : Book} → ok ≡ true → code ≡ 0 → book ≡ openedOn plan
-      → _≡_ {A = Opening} (record { answer = answer; book = book }) (openingOf plan)
+      {book : Book} → ok ≡ true → code ≡ 0 → book ≡ openedOn plan rule
+      → _≡_ {A = Opening} (record { answer = answer; book = book }) (openingOf plan rule)
   unfolding openingOf
-  opening-granted h z b = rw (sym p ∙ h, opening-says, z, b)
+  opening-granted h z b = rw (sym (accepted-by plan rule p) ∙ h, opening-says, z, b)
 
 pub sound-plan : (book : Book) → isSound book ≡ true → PlanFacts (planIn book)
 sound-plan book h = plan-facts (planIn book) ((is-sound-facts book) .0 h .accepted)
@@ -237,7 +246,7 @@ module _ (book : Book) {sound : Bool} (s : sound ≡ isSound book) {answer : Ans
 
   pub figure-granted :
       not sound ≡ false → answer ≡ granted → {early : ℕ}
-      → early ≡ minimumEarly (planSeen (book .tasks) (book .ready) (book .begin) []) (bookSeen (book .mark) (book .start) [] (book .dropped) (book .clock))
+      → early ≡ minimumEarly (planSeen (book .tasks) (book .ready) (book .begin) [] []) (bookSeen (book .mark) (book .start) [] (book .dropped) (book .clock))
       → _≡_ {A = Figure} (record { answer = answer; early = early }) (figureOf book)
   unfolding figureOf minimumEarly
   figure-granted h a e = rw (a, e, sym s ∙ not-false sound h)

@@ -17,7 +17,7 @@ use Rattle.book.specs.Report.{codeOf, nextBook}
 use Rattle.book.specs.Drop.{dropCodeOf, droppedIn}
 use Rattle.book.specs.Event.{bookTold}
 use Rattle.book.specs.declared.Book.{Book}
-use Rattle.book.proofs.Sizes.{Sized, sized-next, plan-next, sized-dropped, plan-dropped}
+use Rattle.book.proofs.Sizes.{Sized, sized-next, plan-next, rule-next, sized-dropped, plan-dropped, rule-dropped}
 use Rattle.book.proofs.Views.{view-next, view-dropped}
 use Rattle.book.proofs.Soundness.{is-sound-facts, next-is-sound, dropped-is-sound}
 use Rattle.book.proofs.ReportLaws.{code-zero, drop-zero, sound-plan, book-refused, book-granted, drop-refused-book, drop-granted-book}
@@ -53,6 +53,10 @@ code-seen-by book (Event.drops task) =
 step-plan : (book : Book) (event : Event) → planIn (stepIn book event) ≡ planIn book
 step-plan book (Event.ends task tick) = plan-next book (task - 1) tick
 step-plan book (Event.drops task) = plan-dropped book (task - 1)
+
+step-rule : (book : Book) (event : Event) → (stepIn book event) .rule ≡ book .rule
+step-rule book (Event.ends task tick) = rule-next book (task - 1) tick
+step-rule book (Event.drops task) = rule-dropped book (task - 1)
 
 step-sized : (book : Book) (event : Event) → Sized book → Sized (stepIn book event)
 step-sized book (Event.ends task tick) s = sized-next book (task - 1) tick s
@@ -98,6 +102,13 @@ module _ (book : Book) (h : isSound book ≡ true) where
       where
         go : (after : Book) → Told book event after → planIn after ≡ planIn book
         go after (Told.taken z e) = rw e (step-plan book event)
+        go after (Told.refused n e) = rw e
+
+    pub event-rule : (bookTold book event) .rule ≡ book .rule
+    event-rule = go (bookTold book event) (told event)
+      where
+        go : (after : Book) → Told book event after → after .rule ≡ book .rule
+        go after (Told.taken z e) = rw e (step-rule book event)
         go after (Told.refused n e) = rw e
 
     pub event-sized : Sized book → Sized (bookTold book event)

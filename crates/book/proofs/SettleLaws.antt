@@ -43,9 +43,9 @@ closed-skip plan book closed i j li lj n w =
 
 -- the table looks at no ready tick
 pub seen-rows :
-    (tasks : ℕ) (ready begin finish : List ℕ) (board mark : ℕ → ℕ) (n : ℕ) (table : List (List ℕ))
-    → TableTo (planSeen tasks [] begin finish) board mark n table → TableTo (planSeen tasks ready begin finish) board mark n table
-seen-rows tasks ready begin finish board mark n table t = record { rows = λ i l z. record { cells = t .rows i l z .cells } }
+    (tasks : ℕ) (ready finish waits : List ℕ) (board mark : ℕ → ℕ) (n : ℕ) (table : List (List ℕ))
+    → TableTo (planSeen tasks [] [] finish waits) board mark n table → TableTo (planSeen tasks ready [] finish waits) board mark n table
+seen-rows tasks ready finish waits board mark n table t = record { rows = λ i l z. record { cells = t .rows i l z .cells } }
 
 module _ (plan : Plan) (board : ℕ → ℕ) (dropped : List ℕ) (clock : ℕ) (table : List (List ℕ)) where
   -- what the rounds and the starts keep
@@ -104,7 +104,7 @@ module _ (plan : Plan) (board : ℕ → ℕ) (dropped : List ℕ) (clock : ℕ) 
     fit-round : Fit plan board (skipOnce plan seen)
     fit-round = record {
       few = r .fit .few;
-      law = r .fit .law;
+      onward = r .fit .onward;
       on = r .fit .on;
       turn = r .fit .turn;
       closed = closed-skip plan seen (r .fit .closed);

@@ -66,7 +66,7 @@ module _ (plan : Plan) (board : ℕ → ℕ) (old : Moved) (dropped : List ℕ) 
       rw (lt-ltb i (plan .tasks) l)
       (by-eq (at (old .mark) i) 0
       (λ z.
-      rw (row-rule plan board (at (old .mark)) (fit .law) (fit .on) (fit .turn) (fit .closed) i (getD table i []) (rows .rows i l z)))
+      rw (row-rule plan board (at (old .mark)) (fit .onward) (fit .on) (fit .turn) (fit .closed) i (getD table i []) (rows .rows i l z)))
       (λ n. rw (ne-eqb (at (old .mark) i) 0 n)))
 
 -- the starts, task by task

@@ -13,11 +13,11 @@ use Rattle.laws.proofs.Cases.{by-eq, true-false, same-test, and-l, and-r, and-o
 use Rattle.laws.proofs.Every.{every-at, every-of}
 use Rattle.laws.specs.Picked.{lastOf, laterOf}
 use Rattle.laws.proofs.Last.{last-taken, last-passed, Last, last-is, last-small}
-use Rattle.theory.specs.Plan.{Plan, Lawful}
+use Rattle.theory.specs.Plan.{Plan}
 use Rattle.theory.specs.Book.{allEnded}
 use Rattle.theory.proofs.Reflect.{all-ended-at, all-ended-of}
 use Rattle.plan.specs.Value.{at}
-use Rattle.book.specs.private.Table.{waitsOn, lastTask, hasEnded, rowEnded, SmallRow, RowTo, TableTo, OnEight, InTurn, Closed}
+use Rattle.book.specs.private.Table.{waitsOn, lastTask, hasEnded, rowEnded, SmallRow, RowTo, TableTo, OnEight, InTurn, Onward, Closed}
 
 -- a row, task by task
 module _ (plan : Plan) (board : ℕ → ℕ) (i : ℕ) where
@@ -73,7 +73,7 @@ or-second : (a b : Bool) → (a || b) ≡ true → a ≡ false → b ≡ true
 or-second a b h e = rw e at h
 
 -- where of two tasks of one board one waits for the other and marks are closed, the last task of a board speaks for all before it
-module _ (plan : Plan) (board mark : ℕ → ℕ) (law : Lawful plan) (on : OnEight plan board) (turn : InTurn plan board)
+module _ (plan : Plan) (board mark : ℕ → ℕ) (onward : Onward plan) (on : OnEight plan board) (turn : InTurn plan board)
     (closed : Closed plan mark) (i : ℕ) (row : List ℕ) (r : RowTo plan board i (plan .tasks) row) where
   all-by-last :
       rowEnded mark row ≡ true → (k : ℕ) → k < plan .tasks → plan .waits i k ≡ true → mark k ≡ 2
@@ -98,7 +98,7 @@ module _ (plan : Plan) (board mark : ℕ → ℕ) (law : Lawful plan) (on : OnEi
           by-eq k (c - 1) (λ y. rw y over)
           (λ n.
           ⊎-elim
-          (λ v. let b = law .before k (c - 1) l s v in let x = law .lasts k l in absurd (omega arith))
+          (λ v. let b = onward k (c - 1) l s v in absurd (omega arith))
           (λ v. closed (c - 1) k s l (omega arith) v)
           (turn k (c - 1) l s n (q ∙ sym same)))
 

@@ -20,11 +20,12 @@ use Rattle.view.proofs.Blank.{blank-at, blank-of}
 use Rattle.view.proofs.Laid.{laid-own, laid-is, laid-past}
 use Rattle.sound.specs.Sound.{nothingPast}
 use Rattle.book.specs.View.{planIn, planView, bookView, layOut}
-use Rattle.book.specs.Open.{openedOn}
+use Rattle.book.specs.Open.{ruleNumber, openedOn}
 use Rattle.book.specs.Report.{nextBook}
 use Rattle.book.specs.Drop.{droppedIn}
 use Rattle.book.specs.private.Table.{Past}
 use Rattle.book.specs.declared.Book.{Book}
+use Rattle.book.specs.declared.Rule.{Rule}
 
 -- nothing is known past the tasks
 pub past-by :
@@ -56,8 +57,8 @@ past-book book = (
       (and-of (blank-of (book .tasks) (book .mark) (f .mark)) (blank-of (book .tasks) (book .dropped) (f .dropped)))),
 )
 
-module _ (plan : Plan) (few : plan .tasks ≤ 64) (seen : theory-book.Book) (past : Past (plan .tasks) seen) where
-  pub view-laid : bookView (layOut plan seen) ≡ seen
+module _ (rule : ℕ) (plan : Plan) (few : plan .tasks ≤ 64) (seen : theory-book.Book) (past : Past (plan .tasks) seen) where
+  pub view-laid : bookView (layOut rule plan seen) ≡ seen
   unfolding layOut
   view-laid =
       λ i. record {
@@ -69,9 +70,9 @@ module _ (plan : Plan) (few : plan .tasks ≤ 64) (seen : theory-book.Book) (pas
       }
 
 pub nothing-past-laid :
-    (plan : Plan) (seen : theory-book.Book) → Past (plan .tasks) (bookView (layOut plan seen))
+    (rule : ℕ) (plan : Plan) (seen : theory-book.Book) → Past (plan .tasks) (bookView (layOut rule plan seen))
 unfolding layOut
-nothing-past-laid plan seen = record {
+nothing-past-laid rule plan seen = record {
   mark = laid-past (plan .tasks) (seen .mark);
   start = laid-past (plan .tasks) (seen .start);
   end = laid-past (plan .tasks) (seen .end);
@@ -103,16 +104,18 @@ module _ (book : Book) (few : book .tasks ≤ 64) (past : Past (book .tasks) (bo
       (k tick : ℕ) → k < book .tasks → bookView (nextBook book k tick) ≡ next (planView book) (bookView book) k tick
   unfolding nextBook
   view-next k tick h =
-      view-laid (planIn book) few _ (past-by (planView book) _ _ (past-next (planView book) (bookView book) k tick h) past)
+      view-laid _ (planIn book) few _ (past-by (planView book) _ _ (past-next (planView book) (bookView book) k tick h) past)
 
   pub view-dropped : (k : ℕ) → k < book .tasks → bookView (droppedIn book k) ≡ dropIt (bookView book) k
   unfolding droppedIn
   view-dropped k h =
-      view-laid (planIn book) few _ (past-by (planView book) _ _ (past-drop (planView book) (bookView book) k h) past)
+      view-laid _ (planIn book) few _ (past-by (planView book) _ _ (past-drop (planView book) (bookView book) k h) past)
 
-pub past-of-opened : (plan : Plan) → Past (plan .tasks) (opened (planFor plan))
-past-of-opened plan = past-by (planFor plan) _ blank (past-opened (planFor plan)) (past-blank (plan .tasks))
+pub past-of-opened : (rule : ℕ) (plan : Plan) → Past (plan .tasks) (opened (planFor rule plan))
+past-of-opened rule plan = past-by (planFor rule plan) _ blank (past-opened (planFor rule plan)) (past-blank (plan .tasks))
 
-pub view-opened : (plan : Plan) → plan .tasks ≤ 64 → bookView (openedOn plan) ≡ opened (planFor plan)
+pub view-opened :
+    (plan : Plan) (rule : Rule) → plan .tasks ≤ 64 → bookView (openedOn plan rule) ≡ opened (planFor (ruleNumber rule) plan)
 unfolding openedOn
-view-opened plan few = view-laid plan few (opened (planFor plan)) (past-of-opened plan)
+view-opened plan rule few =
+    view-laid (ruleNumber rule) plan few (opened (planFor (ruleNumber rule) plan)) (past-of-opened (ruleNumber rule) plan)

@@ -22,7 +22,7 @@ dropAnswer book task =
 
 -- the book after an accepted drop of task k, from 0
 unfoldable pub droppedIn : Book → ℕ → Book
-droppedIn book k = layOut (planIn book) (dropIt (bookView book) k)
+droppedIn book k = layOut (book .rule) (planIn book) (dropIt (bookView book) k)
 
 -- a refused drop gives the book it was given
 unfoldable pub droppedOf : Book → ℕ → Dropped

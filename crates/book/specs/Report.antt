@@ -22,7 +22,7 @@ reportAnswer book task tick =
 
 -- the book after an accepted report of task k, from 0
 unfoldable pub nextBook : Book → ℕ → ℕ → Book
-nextBook book k tick = layOut (planIn book) (next (planView book) (bookView book) k tick)
+nextBook book k tick = layOut (book .rule) (planIn book) (next (planView book) (bookView book) k tick)
 
 -- a refused report gives the book it was given
 unfoldable pub reportedOf : Book → ℕ → ℕ → Reported

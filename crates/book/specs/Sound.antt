@@ -1,8 +1,13 @@
 -- When a book is sound, whatever its arrays hold.
-use mathlib.Core.Bool.{Bool}
+use mathlib.Core.Bool.{Bool, _&&_}
+use Rattle.plan.specs.Value.{isAccepted}
+use Rattle.view.specs.View.{isRule}
 use Rattle.sound.specs.Sound.{soundOn}
-use Rattle.book.specs.View.{planIn}
+use Rattle.book.specs.View.{planIn, planView}
 use Rattle.book.specs.declared.Book.{Book}
 
+-- its plan is accepted, its rule is one of the two, and by that rule the rest is sound
 abbrev pub isSound : Book → Bool
-isSound book = soundOn (planIn book) (book .mark) (book .start) (book .end) (book .dropped) (book .clock)
+isSound book =
+    (isAccepted (planIn book) && isRule (book .rule))
+    && soundOn (planView book) (book .mark) (book .start) (book .end) (book .dropped) (book .clock)

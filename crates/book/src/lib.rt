@@ -4,10 +4,10 @@ mod skip;
 mod start;
 mod table;
 
-use judge::value::is_accepted;
 use plan::Answer;
 use plan::Plan;
 use settle::settle;
+use waits::wait_sets;
 ghost use mathlib.Core.Path.{_≡_};
 ghost use mathlib.Core.Bool.{cond, _||_};
 ghost use lib.Dec.{eqb};
@@ -16,18 +16,25 @@ ghost use Prim.Native.Nat.{_<_};
 ghost use Rattle.theory.specs.Report.{blank};
 ghost use Rattle.plan.specs.Answer.{refuse};
 ghost use Rattle.book.specs.Sound.{isSound};
-ghost use Rattle.book.specs.Open.{blankBook, openingOf};
+ghost use Rattle.book.specs.Open.{ruleNumber, blankBook, openingOf};
 ghost use Rattle.book.specs.Report.{reportedOf};
 ghost use Rattle.book.specs.Drop.{droppedOf};
 ghost use Rattle.book.specs.Early.{figureOf};
 ghost use Rattle.book.specs.private.Table.{movedTo};
 
-// mark: 0 waiting, 1 running, 2 ended; dropped: 1 for a dropped task, 0 for any other.
+// Whom a task waits for: all that are planned to finish by its planned start, or those of them that clash with it.
+pub enum Rule {
+    EarlyStart,
+    Clash,
+}
+
+// rule: 0 Early Start, 1 clash; mark: 0 waiting, 1 running, 2 ended; dropped: 1 for a dropped task, 0 for any other.
 #[repr(C)]
 pub struct Book {
     pub edition: u8,
     pub boards: u8,
     pub tasks: u8,
+    pub rule: u8,
     pub clock: u32,
     pub board: [u8; 64],
     pub ready: [u32; 64],
@@ -94,21 +101,30 @@ fn answer_of(code: u32, first: u32, second: u32) -> Answer
 pub fn is_sound(book: Book) -> bool
     ensures { λ r. ⌜ r ≡ isSound book ⌝ }
 {
-    sound::is_sound(
+    let waits = wait_sets(
+        book.rule,
         book.edition,
         book.boards,
         book.tasks,
-        book.clock,
         &book.board,
         &book.ready,
         &book.begin,
         &book.finish,
+        &book.holds,
+        &book.after,
+    );
+    sound::is_sound(
+        waits.known,
+        book.tasks,
+        book.clock,
+        &book.ready,
+        &book.begin,
+        &book.finish,
+        &waits.sets,
         &book.start,
         &book.end,
         &book.mark,
         &book.dropped,
-        &book.holds,
-        &book.after,
     )
 }
 
@@ -134,9 +150,19 @@ fn ended_at(mark: [u8; 64], start: [u32; 64], end: [u32; 64], k: usize, tick: u3
     moved
 }
 
+// The number that a book keeps.
+fn number_of(rule: Rule) -> u8
+    ensures { λ r. ⌜ r ≡ ruleNumber rule ⌝ }
+{
+    match rule {
+        Rule::EarlyStart => 0,
+        Rule::Clash => 1,
+    }
+}
+
 // Nothing is known yet of any task of the plan.
-fn blank_book(plan: Plan) -> Book
-    ensures { λ r. ⌜ r ≡ blankBook plan ⌝ }
+fn blank_book(rule: u8, plan: Plan) -> Book
+    ensures { λ r. ⌜ r ≡ blankBook rule plan ⌝ }
 {
     let board = plan.board;
     let ready = plan.ready;
@@ -148,6 +174,7 @@ fn blank_book(plan: Plan) -> Book
         edition: plan.edition,
         boards: plan.boards,
         tasks: plan.tasks,
+        rule,
         clock: 0,
         board,
         ready,
@@ -163,12 +190,12 @@ fn blank_book(plan: Plan) -> Book
 }
 
 // The book's own arrays are lent, and there is one way out, so that the stack holds one copy of it.
-pub fn open_book(plan: Plan) -> Opening
-    ensures { λ r. ⌜ r ≡ openingOf plan ⌝ }
+pub fn open_book(plan: Plan, rule: Rule) -> Opening
+    ensures { λ r. ⌜ r ≡ openingOf plan rule ⌝ }
 {
-    let mut book = blank_book(plan);
-    let mut code = 9;
-    if is_accepted(
+    let mut book = blank_book(number_of(rule), plan);
+    let waits = wait_sets(
+        book.rule,
         book.edition,
         book.boards,
         book.tasks,
@@ -178,12 +205,14 @@ pub fn open_book(plan: Plan) -> Opening
         &book.finish,
         &book.holds,
         &book.after,
-    ) {
+    );
+    let mut code = 9;
+    if waits.known {
         let moved = settle(
             &book.board,
             &book.ready,
-            &book.begin,
             &book.finish,
+            &waits.sets,
             &book.dropped,
             unmoved(),
             0,
@@ -200,6 +229,7 @@ pub fn open_book(plan: Plan) -> Opening
         book.edition = 0;
         book.boards = 0;
         book.tasks = 0;
+        book.rule = 0;
         book.board = [0; 64];
         book.ready = [0; 64];
         book.begin = [0; 64];
@@ -218,21 +248,30 @@ impl Book {
         ensures { λ r. ⌜ r ≡ reportedOf self task tick ⌝ }
     {
         let tasks = self.tasks as usize;
-        let code = codes::report_code(
+        let waits = wait_sets(
+            self.rule,
             self.edition,
             self.boards,
             self.tasks,
-            self.clock,
             &self.board,
             &self.ready,
             &self.begin,
             &self.finish,
+            &self.holds,
+            &self.after,
+        );
+        let code = codes::report_code(
+            waits.known,
+            self.tasks,
+            self.clock,
+            &self.ready,
+            &self.begin,
+            &self.finish,
+            &waits.sets,
             &self.start,
             &self.end,
             &self.mark,
             &self.dropped,
-            &self.holds,
-            &self.after,
             task,
             tick,
         );
@@ -241,8 +280,8 @@ impl Book {
             let next = settle(
                 &self.board,
                 &self.ready,
-                &self.begin,
                 &self.finish,
+                &waits.sets,
                 &self.dropped,
                 ended,
                 tick,
@@ -266,21 +305,30 @@ impl Book {
     pub fn drop(mut self, task: u32) -> Dropped
         ensures { λ r. ⌜ r ≡ droppedOf self task ⌝ }
     {
-        let code = codes::drop_code(
+        let waits = wait_sets(
+            self.rule,
             self.edition,
             self.boards,
             self.tasks,
-            self.clock,
             &self.board,
             &self.ready,
             &self.begin,
             &self.finish,
+            &self.holds,
+            &self.after,
+        );
+        let code = codes::drop_code(
+            waits.known,
+            self.tasks,
+            self.clock,
+            &self.ready,
+            &self.begin,
+            &self.finish,
+            &waits.sets,
             &self.start,
             &self.end,
             &self.mark,
             &self.dropped,
-            &self.holds,
-            &self.after,
             task,
         );
         if code == 0 {
@@ -296,21 +344,30 @@ impl Book {
     pub fn minimum_early(self) -> Figure
         ensures { λ r. ⌜ r ≡ figureOf self ⌝ }
     {
-        if !sound::is_sound(
+        let waits = wait_sets(
+            self.rule,
             self.edition,
             self.boards,
             self.tasks,
-            self.clock,
             &self.board,
             &self.ready,
             &self.begin,
             &self.finish,
+            &self.holds,
+            &self.after,
+        );
+        if !sound::is_sound(
+            waits.known,
+            self.tasks,
+            self.clock,
+            &self.ready,
+            &self.begin,
+            &self.finish,
+            &waits.sets,
             &self.start,
             &self.end,
             &self.mark,
             &self.dropped,
-            &self.holds,
-            &self.after,
         ) {
             return Figure {
                 answer: answer_of(9, 0, 0),

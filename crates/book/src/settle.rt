@@ -4,6 +4,7 @@ use crate::skip::skip_free;
 use crate::start::start_free;
 use crate::table::last_tasks;
 ghost use mathlib.Core.Path.{_≡_};
+ghost use mathlib.Core.List.{[]};
 ghost use Rattle.theory.specs.Report.{skipTimes, letGo};
 ghost use Rattle.plan.specs.Value.{at};
 ghost use Rattle.view.specs.View.{planSeen};
@@ -12,17 +13,17 @@ ghost use Rattle.book.specs.private.Table.{seenAs, movedTo, Fit};
 pub(crate) fn settle<'a>(
     board: &'a [u8; 64],
     ready: &'a [u32; 64],
-    begin: &'a [u32; 64],
     finish: &'a [u32; 64],
+    waits: &'a [u64; 64],
     dropped: &'a [u8; 64],
     moved: Moved,
     clock: u32,
     tasks: usize,
 ) -> Moved
-    requires { ⌜ Fit (planSeen tasks (now ready) (now begin) (now finish)) (at (now board)) (seenAs moved (now dropped) clock) ⌝ }
-    ensures { λ r. ⌜ r ≡ movedTo tasks (letGo (planSeen tasks (now (ready .entry)) (now (begin .entry)) (now (finish .entry))) (skipTimes tasks (planSeen tasks (now (ready .entry)) (now (begin .entry)) (now (finish .entry))) (seenAs moved (now (dropped .entry)) clock))) ⌝ }
+    requires { ⌜ Fit (planSeen tasks (now ready) [] (now finish) (now waits)) (at (now board)) (seenAs moved (now dropped) clock) ⌝ }
+    ensures { λ r. ⌜ r ≡ movedTo tasks (letGo (planSeen tasks (now (ready .entry)) [] (now (finish .entry)) (now (waits .entry))) (skipTimes tasks (planSeen tasks (now (ready .entry)) [] (now (finish .entry)) (now (waits .entry))) (seenAs moved (now (dropped .entry)) clock))) ⌝ }
 {
-    let last = last_tasks(board, begin, finish, &moved.mark, tasks);
+    let last = last_tasks(board, finish, waits, &moved.mark, tasks);
     let skipped = skip_free(moved, dropped, last, clock, tasks);
     start_free(skipped, ready, last, clock, tasks)
 }

@@ -1,4 +1,5 @@
 // For every task and every board, the last task waited for, counted from 1; 0 for none.
+use view::is_in;
 ghost use mathlib.Core.Path.{_≡_};
 ghost use mathlib.Core.List.{[]};
 ghost use Prim.Native.Nat.{_<_, _≤_};
@@ -26,19 +27,19 @@ pub(crate) fn later_of(key: &[u32; 64], held: u8, k: usize) -> u8
 // For every board, the last task that the task waits for.
 fn row_of<'a>(
     board: &'a [u8; 64],
-    begin: &'a [u32; 64],
     finish: &'a [u32; 64],
+    waits: &'a [u64; 64],
     tasks: usize,
     i: usize,
 ) -> [u8; 8]
     requires { ⌜ (tasks ≤ 64) × (i < 64) ⌝ }
-    requires { ⌜ OnEight (planSeen tasks [] (now begin) (now finish)) (at (now board)) ⌝ }
-    ensures { λ r. ⌜ RowTo (planSeen tasks [] (now (begin .entry)) (now (finish .entry))) (at (now (board .entry))) i tasks r ⌝ }
+    requires { ⌜ OnEight (planSeen tasks [] [] (now finish) (now waits)) (at (now board)) ⌝ }
+    ensures { λ r. ⌜ RowTo (planSeen tasks [] [] (now (finish .entry)) (now (waits .entry))) (at (now (board .entry))) i tasks r ⌝ }
 {
-    let by = begin[i];
+    let awaited = waits[i];
     let mut row = [0u8; 8];
     for k in 0..tasks {
-        if finish[k] <= by {
+        if is_in(awaited, k) {
             let j = (board[k] - 1) as usize;
             row[j] = later_of(finish, row[j], k);
         }
@@ -49,19 +50,19 @@ fn row_of<'a>(
 // The rows of those who wait; nobody asks for the others.
 pub(crate) fn last_tasks<'a>(
     board: &'a [u8; 64],
-    begin: &'a [u32; 64],
     finish: &'a [u32; 64],
+    waits: &'a [u64; 64],
     mark: &'a [u8; 64],
     tasks: usize,
 ) -> [[u8; 8]; 64]
     requires { ⌜ tasks ≤ 64 ⌝ }
-    requires { ⌜ OnEight (planSeen tasks [] (now begin) (now finish)) (at (now board)) ⌝ }
-    ensures { λ r. ⌜ TableTo (planSeen tasks [] (now (begin .entry)) (now (finish .entry))) (at (now (board .entry))) (at (now (mark .entry))) tasks r ⌝ }
+    requires { ⌜ OnEight (planSeen tasks [] [] (now finish) (now waits)) (at (now board)) ⌝ }
+    ensures { λ r. ⌜ TableTo (planSeen tasks [] [] (now (finish .entry)) (now (waits .entry))) (at (now (board .entry))) (at (now (mark .entry))) tasks r ⌝ }
 {
     let mut last = [[0u8; 8]; 64];
     for i in 0..tasks {
         if mark[i] == 0 {
-            last[i] = row_of(board, begin, finish, tasks, i);
+            last[i] = row_of(board, finish, waits, tasks, i);
         }
     }
     last

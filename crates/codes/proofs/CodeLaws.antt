@@ -112,20 +112,20 @@ module _ (tasks : ℕ) (mark : List ℕ) {n : ℕ} (e : n ≡ min tasks (length 
   -- and no limit of its own
   pub none-past-all :
       (begin finish start : List ℕ) (clock tick : ℕ) {none : Bool}
-      → none ≡ nonePast (planSeen n [] begin finish) (bookSeen mark start [] [] 0) tick
-      → none ≡ nonePast (planSeen tasks [] begin finish) (bookSeen mark start [] [] clock) tick
+      → none ≡ nonePast (planSeen n [] begin finish []) (bookSeen mark start [] [] 0) tick
+      → none ≡ nonePast (planSeen tasks [] begin finish []) (bookSeen mark start [] [] clock) tick
   unfolding nonePast
   none-past-all begin finish start clock tick h =
       h
-      ∙ ap (λ (m : ℕ). every m (λ j. implies (running (at mark) j) (leb tick (limit (planSeen tasks [] begin finish) (bookSeen mark start [] [] clock) j)))) e
-      ∙ every-short (length mark) tasks (λ j. implies (running (at mark) j) (leb tick (limit (planSeen tasks [] begin finish) (bookSeen mark start [] [] clock) j)))
+      ∙ ap (λ (m : ℕ). every m (λ j. implies (running (at mark) j) (leb tick (limit (planSeen tasks [] begin finish []) (bookSeen mark start [] [] clock) j)))) e
+      ∙ every-short (length mark) tasks (λ j. implies (running (at mark) j) (leb tick (limit (planSeen tasks [] begin finish []) (bookSeen mark start [] [] clock) j)))
       (λ j l. rw (at-past mark j l))
 
 pub drop-no-place :
     (tasks : ℕ) (mark dropped : List ℕ) → length dropped ≡ length mark → {n : ℕ} → n ≡ min tasks (length mark) → (k : ℕ) → k < tasks → n ≤ k
-    → 0 ≡ dropCode (planSeen tasks [] [] []) (bookSeen mark [] [] dropped 0) k
+    → 0 ≡ dropCode (planSeen tasks [] [] [] []) (bookSeen mark [] [] dropped 0) k
 drop-no-place tasks mark dropped same e k known h =
-    drop-0 (planSeen tasks [] [] []) (bookSeen mark [] [] dropped 0) k known
+    drop-0 (planSeen tasks [] [] [] []) (bookSeen mark [] [] dropped 0) k known
     (rw (at-past mark k (no-place tasks mark e k known h), at-past dropped k (omega (arith, same, no-place tasks mark e k known h))))
 
 -- 9 before the others

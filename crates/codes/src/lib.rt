@@ -1,11 +1,10 @@
-// The codes 9 to 15 of a report, 9, 10 and 19 of a drop, by lent arrays, whatever they hold.
+// The codes 9 to 15 of a report, 9, 10 and 19 of a drop, by lent arrays, whatever they hold; 9 too where plan or rule are not known to be good.
 ghost use mathlib.Core.Path.{_≡_};
-ghost use mathlib.Core.Bool.{not, cond};
+ghost use mathlib.Core.Bool.{not, cond, _&&_};
 ghost use mathlib.Core.List.{[]};
 ghost use Prim.Native.Nat.{_-_, _≤_};
-ghost use lib.Dec.{eqb};
+ghost use lib.Dec.{eqb, leb};
 ghost use Rattle.theory.specs.Report.{nonePast, reportCode, dropCode};
-ghost use Rattle.plan.specs.Value.{planWith};
 ghost use Rattle.view.specs.View.{planSeen, bookSeen};
 ghost use Rattle.sound.specs.Sound.{soundOn};
 use sound::is_sound;
@@ -23,7 +22,7 @@ fn none_past<'a>(
     tick: u32,
 ) -> bool
     requires { ⌜ n ≤ 64 ⌝ }
-    ensures { λ r. ⌜ r ≡ nonePast (planSeen n [] (now (begin .entry)) (now (finish .entry))) (bookSeen (now (mark .entry)) (now (start .entry)) [] [] 0) tick ⌝ }
+    ensures { λ r. ⌜ r ≡ nonePast (planSeen n [] (now (begin .entry)) (now (finish .entry)) []) (bookSeen (now (mark .entry)) (now (start .entry)) [] [] 0) tick ⌝ }
 {
     let mut all = true;
     for j in 0..n {
@@ -44,7 +43,7 @@ fn end_code<'a>(
     task: u32,
     tick: u32,
 ) -> u32
-    ensures { λ r. ⌜ r ≡ cond (eqb task 0) 10 (reportCode (planSeen tasks [] (now (begin .entry)) (now (finish .entry))) (bookSeen (now (mark .entry)) (now (start .entry)) [] [] clock) (task - 1) tick) ⌝ }
+    ensures { λ r. ⌜ r ≡ cond (eqb task 0) 10 (reportCode (planSeen tasks [] (now (begin .entry)) (now (finish .entry)) []) (bookSeen (now (mark .entry)) (now (start .entry)) [] [] clock) (task - 1) tick) ⌝ }
 {
     if task == 0 {
         return 10;
@@ -78,7 +77,7 @@ fn end_code<'a>(
 
 // 10, then 19 where its start is known or it is already dropped, or 0.
 fn absent_code<'a>(mark: &'a [u8; 64], dropped: &'a [u8; 64], tasks: u8, task: u32) -> u32
-    ensures { λ r. ⌜ r ≡ cond (eqb task 0) 10 (dropCode (planSeen tasks [] [] []) (bookSeen (now (mark .entry)) [] [] (now (dropped .entry)) 0) (task - 1)) ⌝ }
+    ensures { λ r. ⌜ r ≡ cond (eqb task 0) 10 (dropCode (planSeen tasks [] [] [] []) (bookSeen (now (mark .entry)) [] [] (now (dropped .entry)) 0) (task - 1)) ⌝ }
 {
     let gone = &dropped[..];
     if task == 0 {
@@ -100,40 +99,34 @@ fn absent_code<'a>(mark: &'a [u8; 64], dropped: &'a [u8; 64], tasks: u8, task: u
 
 // The first of 9 to 15 that applies, or 0.
 pub fn report_code<'a>(
-    edition: u8,
-    boards: u8,
+    known: bool,
     tasks: u8,
     clock: u32,
-    board: &'a [u8; 64],
     ready: &'a [u32; 64],
     begin: &'a [u32; 64],
     finish: &'a [u32; 64],
+    waits: &'a [u64; 64],
     start: &'a [u32; 64],
     end: &'a [u32; 64],
     mark: &'a [u8; 64],
     dropped: &'a [u8; 64],
-    holds: &'a [u8; 2048],
-    after: &'a [u8; 4096],
     task: u32,
     tick: u32,
 ) -> u32
-    ensures { λ r. ⌜ r ≡ cond (not (soundOn (planWith edition boards tasks (now (board .entry)) (now (ready .entry)) (now (begin .entry)) (now (finish .entry)) (now (holds .entry)) (now (after .entry))) (now (mark .entry)) (now (start .entry)) (now (end .entry)) (now (dropped .entry)) clock)) 9 (cond (eqb task 0) 10 (reportCode (planSeen tasks (now (ready .entry)) (now (begin .entry)) (now (finish .entry))) (bookSeen (now (mark .entry)) (now (start .entry)) (now (end .entry)) (now (dropped .entry)) clock) (task - 1) tick)) ⌝ }
+    ensures { λ r. ⌜ r ≡ cond (not ((known && leb tasks 64) && soundOn (planSeen tasks (now (ready .entry)) (now (begin .entry)) (now (finish .entry)) (now (waits .entry))) (now (mark .entry)) (now (start .entry)) (now (end .entry)) (now (dropped .entry)) clock)) 9 (cond (eqb task 0) 10 (reportCode (planSeen tasks (now (ready .entry)) (now (begin .entry)) (now (finish .entry)) (now (waits .entry))) (bookSeen (now (mark .entry)) (now (start .entry)) (now (end .entry)) (now (dropped .entry)) clock) (task - 1) tick)) ⌝ }
 {
     if !is_sound(
-        edition,
-        boards,
+        known,
         tasks,
         clock,
-        board,
         ready,
         begin,
         finish,
+        waits,
         start,
         end,
         mark,
         dropped,
-        holds,
-        after,
     ) {
         return 9;
     }
@@ -142,39 +135,33 @@ pub fn report_code<'a>(
 
 // The first of 9, 10 and 19 that applies, or 0.
 pub fn drop_code<'a>(
-    edition: u8,
-    boards: u8,
+    known: bool,
     tasks: u8,
     clock: u32,
-    board: &'a [u8; 64],
     ready: &'a [u32; 64],
     begin: &'a [u32; 64],
     finish: &'a [u32; 64],
+    waits: &'a [u64; 64],
     start: &'a [u32; 64],
     end: &'a [u32; 64],
     mark: &'a [u8; 64],
     dropped: &'a [u8; 64],
-    holds: &'a [u8; 2048],
-    after: &'a [u8; 4096],
     task: u32,
 ) -> u32
-    ensures { λ r. ⌜ r ≡ cond (not (soundOn (planWith edition boards tasks (now (board .entry)) (now (ready .entry)) (now (begin .entry)) (now (finish .entry)) (now (holds .entry)) (now (after .entry))) (now (mark .entry)) (now (start .entry)) (now (end .entry)) (now (dropped .entry)) clock)) 9 (cond (eqb task 0) 10 (dropCode (planSeen tasks (now (ready .entry)) (now (begin .entry)) (now (finish .entry))) (bookSeen (now (mark .entry)) (now (start .entry)) (now (end .entry)) (now (dropped .entry)) clock) (task - 1))) ⌝ }
+    ensures { λ r. ⌜ r ≡ cond (not ((known && leb tasks 64) && soundOn (planSeen tasks (now (ready .entry)) (now (begin .entry)) (now (finish .entry)) (now (waits .entry))) (now (mark .entry)) (now (start .entry)) (now (end .entry)) (now (dropped .entry)) clock)) 9 (cond (eqb task 0) 10 (dropCode (planSeen tasks (now (ready .entry)) (now (begin .entry)) (now (finish .entry)) (now (waits .entry))) (bookSeen (now (mark .entry)) (now (start .entry)) (now (end .entry)) (now (dropped .entry)) clock) (task - 1))) ⌝ }
 {
     if !is_sound(
-        edition,
-        boards,
+        known,
         tasks,
         clock,
-        board,
         ready,
         begin,
         finish,
+        waits,
         start,
         end,
         mark,
         dropped,
-        holds,
-        after,
     ) {
         return 9;
     }

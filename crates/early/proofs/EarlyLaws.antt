@@ -60,7 +60,7 @@ module _ (found : Bool) (so-far this : ℕ) where
 -- the figure of tasks that may lack a place
 module _ (tasks : ℕ) (ready begin start mark dropped : List ℕ) (clock : ℕ) {n : ℕ} (e : n ≡ min tasks (length mark)) where
   abbrev figure : ℕ → ℕ
-  figure m = minimumEarly (planSeen m ready begin []) (bookSeen mark start [] dropped clock)
+  figure m = minimumEarly (planSeen m ready begin [] []) (bookSeen mark start [] dropped clock)
 
   -- one that lacks it waits, and is planned at 0
   pub figure-none : length begin ≡ length mark → length dropped ≡ length mark → n < tasks → 0 ≡ figure tasks
@@ -71,7 +71,7 @@ module _ (tasks : ℕ) (ready begin start mark dropped : List ℕ) (clock : ℕ)
       let b = at-past begin j (omega arith) in
       let d = at-past dropped j (omega arith) in
       let book = bookSeen mark start [] dropped clock in
-      let early = earlyBy (planSeen tasks ready begin []) book in
+      let early = earlyBy (planSeen tasks ready begin [] []) book in
       let zero-early : early j ≡ 0 = rw (m, b) (omega arith) in
       let under = least-or-under tasks (counts book) early 0 j (omega arith) (rw (m, d)) in
       omega arith

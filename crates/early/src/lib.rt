@@ -50,7 +50,7 @@ fn least_of<'a>(
     n: usize,
 ) -> u32
     requires { ⌜ n ≤ 64 ⌝ }
-    ensures { λ r. ⌜ r ≡ minimumEarly (planSeen n (now (ready .entry)) (now (begin .entry)) []) (bookSeen (now (mark .entry)) (now (start .entry)) [] (now (dropped .entry)) clock) ⌝ }
+    ensures { λ r. ⌜ r ≡ minimumEarly (planSeen n (now (ready .entry)) (now (begin .entry)) [] []) (bookSeen (now (mark .entry)) (now (start .entry)) [] (now (dropped .entry)) clock) ⌝ }
 {
     let mut least = 0;
     let mut found = false;
@@ -75,7 +75,7 @@ pub fn least_early<'a>(
     clock: u32,
     tasks: u8,
 ) -> u32
-    ensures { λ r. ⌜ r ≡ minimumEarly (planSeen tasks (now (ready .entry)) (now (begin .entry)) []) (bookSeen (now (mark .entry)) (now (start .entry)) [] (now (dropped .entry)) clock) ⌝ }
+    ensures { λ r. ⌜ r ≡ minimumEarly (planSeen tasks (now (ready .entry)) (now (begin .entry)) [] []) (bookSeen (now (mark .entry)) (now (start .entry)) [] (now (dropped .entry)) clock) ⌝ }
 {
     // lent as slices their lengths are known
     let planned = &begin[..];

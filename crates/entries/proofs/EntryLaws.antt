@@ -23,7 +23,7 @@ use Rattle.entries.specs.declared.Entry.the-variants.{End, Drop, Refused
 
 -- a line with these codes, and the test that they are all 0
 module _ (line codes : List ℕ) (kinds : allOf isCode codes ≡ true) {t : Bool} (z : t ≡ allOf (eqb 0) codes) where
-  clean : t ≡ eqb (faultOf line codes .code) 0
+  pub clean : t ≡ eqb (faultOf line codes .code) 0
   unfolding faultOf
   clean = z ∙ faultless-is codes kinds
 

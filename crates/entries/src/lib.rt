@@ -1,4 +1,6 @@
 // A line of ends.txt.
+pub mod rules;
+
 ghost use mathlib.Core.Path.{_≡_};
 ghost use mathlib.Core.Bool.{true, false};
 ghost use Rattle.laws.specs.Lists.{same};
@@ -24,6 +26,13 @@ pub enum Entry {
     End(u32, u32),
     Drop(u32),
     Refused(u32, usize),
+}
+
+// What the first line says of the rule: nothing, that it is clash, or at which column it is malformed.
+pub enum Choice {
+    Unsaid,
+    Chosen,
+    Malformed(usize),
 }
 
 fn refused(fault: Fault) -> Entry

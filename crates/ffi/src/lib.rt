@@ -10,6 +10,7 @@ ghost use Rattle.plan.specs.Write.{writtenOf, bufferAfter};
 ghost use Rattle.plan.specs.Value.{isAccepted};
 ghost use Rattle.book.specs.Sound.{isSound};
 ghost use Rattle.book.specs.Open.{openingOf};
+ghost use Rattle.book.specs.declared.Rule.the-variants.{EarlyStart, Clash};
 ghost use Rattle.book.specs.Report.{reportedOf};
 ghost use Rattle.book.specs.Drop.{droppedOf};
 ghost use Rattle.book.specs.Early.{figureOf};
@@ -20,6 +21,7 @@ use book::Dropped;
 use book::Figure;
 use book::Opening;
 use book::Reported;
+use book::Rule;
 use plan::Plan;
 use plan::Reading;
 use plan::Written;
@@ -85,11 +87,20 @@ pub extern "C" fn dispatch_is_sound(book: Book) -> u32
     number(book::is_sound(book))
 }
 
-#[no_mangle]
-pub extern "C" fn dispatch_open_book(plan: Plan) -> Opening
-    ensures { λ r. ⌜ r ≡ openingOf plan ⌝ }
+fn rule_for(clash: bool) -> Rule
+    ensures { λ r. ⌜ r ≡ cond clash Clash EarlyStart ⌝ }
 {
-    book::open_book(plan)
+    if clash {
+        return Rule::Clash;
+    }
+    Rule::EarlyStart
+}
+
+#[no_mangle]
+pub extern "C" fn dispatch_open_book(plan: Plan, clash: bool) -> Opening
+    ensures { λ r. ⌜ r ≡ openingOf plan (cond clash Clash EarlyStart) ⌝ }
+{
+    book::open_book(plan, rule_for(clash))
 }
 
 #[no_mangle]

@@ -1,5 +1,3 @@
-pub mod BitLaws
-pub mod DriveLaws
 pub mod ItemLaws
 pub mod OrderLaws
 pub mod PairLaws

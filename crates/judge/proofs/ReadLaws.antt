@@ -14,8 +14,9 @@ use Rattle.plan.specs.declared.Answer.{Answer}
 use Rattle.plan.specs.declared.Reading.{Reading}
 use Rattle.plan.proofs.Judged.{tasks-granted}
 use Rattle.plan.proofs.ReadOk.{FormOk, form-ok, ok-form, form-tasks, form-ranges, form-task, form-judged}
-use Rattle.judge.specs.private.Arrays.{RowsInRange}
-use Rattle.judge.proofs.ValueLaws.{task-in-range, judgedIn, judged-is}
+use Rattle.drives.specs.private.Range.{RowsInRange}
+use Rattle.drives.proofs.DriveLaws.{task-in-range}
+use Rattle.judge.proofs.ValueLaws.{judgedIn, judged-is}
 
 lines-answer : (mends : Bool) (s : List ℕ) → linesOf mends s .answer ≡ formAnswer mends s
 unfolding linesOf

@@ -1,12 +1,11 @@
 -- The least planned start, task by task, and what it says of the tasks.
-use Prim.Native.Nat.{ℕ, _+_, _<_, _≤_, min}
+use Prim.Native.Nat.{ℕ, _+_, _<_, min}
 use mathlib.Core.Path.{_≡_, refl, sym, ap, _∙_}
 use mathlib.Core.Logic.{_≢_}
 use mathlib.Core.Bool.{true}
 use mathlib.Core.List.{List}
-use mathlib.Core.Option.{Option, some, Option·getD}
+use mathlib.Core.Option.{some}
 use native.Mathlib.Numerals.{add-one}
-use native.Mathlib.Omega.{arith}
 use Rattle.laws.specs.Picked.{least}
 use Rattle.plan.specs.Answer.{refuse}
 use Rattle.plan.specs.Pairs.{firstFault}

@@ -1,28 +1,18 @@
 -- A plan as a value: where its ranges are kept its drives are bits, and its tasks are judged without the ready ticks.
-use Prim.Native.Nat.{ℕ, _<_}
+use Prim.Native.Nat.{_<_}
 use mathlib.Core.Path.{_≡_, refl, sym, _∙_}
-use mathlib.Core.Bool.{Bool, true, false, not, _&&_}
+use mathlib.Core.Bool.{Bool, true, false, not}
 use borrow.Author.Tests.{not-true, not-false}
-use Rattle.laws.proofs.Cases.{and-l, and-r}
-use Rattle.laws.specs.Lists.{allOf, rising}
-use Rattle.text.specs.Items.{driveOf, holdsOk, afterOk}
 use Rattle.plan.specs.Answer.{refuse, isGranted}
-use Rattle.plan.specs.Task.{Task, numbersOk, taskOk}
 use Rattle.plan.specs.Pairs.{pairCode, rowFault, firstFault}
 use Rattle.plan.specs.Judged.{tasksAnswer}
 use Rattle.plan.specs.Value.{rangesOk, judgedAnswer, isAccepted, taskAt}
 use Rattle.plan.specs.declared.Answer.{Answer}
 use Rattle.plan.specs.declared.Plan.{Plan}
 use Rattle.plan.proofs.PlanTasks.{ranges-kept, task-kept}
-use Rattle.judge.specs.private.Arrays.{tasksIn, isDrive, RowsInRange}
-
--- the drives of a task that keeps the rules are in range
-pub task-in-range : (boards tasks : ℕ) (task : Task) → taskOk boards tasks task ≡ true → allOf isDrive (task .holds) ≡ true
-unfolding holdsOk
-task-in-range boards tasks task h =
-    let lists = and-r (numbersOk boards task) (holdsOk (task .holds) && afterOk tasks (task .after)) h in
-    let holds = and-l (holdsOk (task .holds)) (afterOk tasks (task .after)) lists in
-    and-l (allOf isDrive (task .holds)) (rising driveOf (task .holds)) holds
+use Rattle.drives.proofs.DriveLaws.{task-in-range}
+use Rattle.drives.specs.private.Range.{RowsInRange}
+use Rattle.judge.specs.private.Arrays.{tasksIn}
 
 -- the pairs are judged without the ready ticks
 abbrev pub judgedIn : Plan → Answer

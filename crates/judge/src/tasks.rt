@@ -2,7 +2,8 @@
 ghost use mathlib.Core.Path.{_≡_};
 ghost use Prim.Native.Nat.{_<_, _≤_, min};
 ghost use Rattle.plan.specs.Judged.{tasksAnswer};
-ghost use Rattle.judge.specs.private.Arrays.{tasksIn, RowsInRange};
+ghost use Rattle.drives.specs.private.Range.{RowsInRange};
+ghost use Rattle.judge.specs.private.Arrays.{tasksIn};
 ghost use Rattle.judge.specs.private.Starts.{leastIn};
 use crate::pairs::first_fault;
 use plan::Answer;

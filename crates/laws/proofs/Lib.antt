@@ -16,3 +16,5 @@ pub mod Seams
 pub mod Last
 pub mod Sets
 pub mod Width
+pub mod Bits
+pub mod Gather

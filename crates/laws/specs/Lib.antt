@@ -5,3 +5,4 @@ pub mod Each
 pub mod Lists
 pub mod Split
 pub mod Digits
+pub mod Bits

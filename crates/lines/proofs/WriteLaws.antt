@@ -13,7 +13,7 @@ use Rattle.laws.specs.Split.{joinOn}
 use Rattle.laws.proofs.Width.{ten-digits}
 use Rattle.text.specs.Put.{Put}
 use Rattle.lines.specs.Lines.{numbersLine, lineMost, Lined}
-use Rattle.lines.specs.private.Wrote.{Wrote}
+use Rattle.lines.specs.private.Wrote.{Wrote, lineTo}
 
 -- ---- one text after the other
 
@@ -44,21 +44,25 @@ nothing out at a = record { place = omega arith; bytes = refl; small = omega ari
 
 -- ---- a line of numbers
 
--- numbers, each after a tab, and LF
-unfoldable pub tabbed : List ℕ → List ℕ
-tabbed [] = 10 ∷ []
-tabbed (n ∷ l) = (9 ∷ digitsOf n) ++ tabbed l
+-- numbers, each after a tab, and the line's end
+unfoldable pub tabbed : List ℕ → List ℕ → List ℕ
+tabbed end [] = end
+tabbed end (n ∷ l) = (9 ∷ digitsOf n) ++ tabbed end l
 
-line-tabbed : (word : List ℕ) (l : List ℕ) → joinOn 9 (word ∷ map digitsOf l) ++ (10 ∷ []) ≡ word ++ tabbed l
+line-tabbed : (end word l : List ℕ) → joinOn 9 (word ∷ map digitsOf l) ++ end ≡ word ++ tabbed end l
 unfolding joinOn tabbed
-line-tabbed word [] = refl
-line-tabbed word (n ∷ l) =
-    append-assoc word (9 ∷ joinOn 9 (digitsOf n ∷ map digitsOf l)) (10 ∷ [])
-    ∙ ap (λ (s : List ℕ). word ++ (9 ∷ s)) (line-tabbed (digitsOf n) l)
+line-tabbed end word [] = refl
+line-tabbed end word (n ∷ l) =
+    append-assoc word (9 ∷ joinOn 9 (digitsOf n ∷ map digitsOf l)) end
+    ∙ ap (λ (s : List ℕ). word ++ (9 ∷ s)) (line-tabbed end (digitsOf n) l)
 
-pub numbers-tabbed : (word l : List ℕ) → numbersLine word l ≡ word ++ tabbed l
-unfolding numbersLine
-numbers-tabbed word l = line-tabbed word l
+pub to-tabbed : (end word l : List ℕ) → lineTo end word l ≡ word ++ tabbed end l
+unfolding lineTo
+to-tabbed end word l = line-tabbed end word l
+
+pub to-numbers : (word l : List ℕ) → lineTo (10 ∷ []) word l ≡ numbersLine word l
+unfolding lineTo numbersLine
+to-numbers word l = refl
 
 -- a text is being written from a place on, and this is left of it
 pub record Left (out : List ℕ) (from : ℕ) (text now : List ℕ) (place : ℕ) (rest : List ℕ) : Type 0 where
@@ -86,9 +90,9 @@ module _ {out : List ℕ} {from : ℕ} {text : List ℕ} where
   pub left-all : Left out from text out from text
   left-all = record { stays = refl; bytes = refl }
 
-  module _ (l : List ℕ) (i : ℕ) {m : List ℕ} {p : ℕ} (s : Left out from text m p (tabbed (drop i l))) where
+  module _ (end l : List ℕ) (i : ℕ) {m : List ℕ} {p : ℕ} (s : Left out from text m p (tabbed end (drop i l))) where
     tab-next :
-        i < length l → tabbed (drop i l) ≡ (9 ∷ []) ++ (digitsOf (getD l i 0) ++ tabbed (drop (i + 1) l))
+        i < length l → tabbed end (drop i l) ≡ (9 ∷ []) ++ (digitsOf (getD l i 0) ++ tabbed end (drop (i + 1) l))
     unfolding tabbed
     tab-next h = rw (add-one, drop-cons l i 0)
 
@@ -106,10 +110,10 @@ module _ {out : List ℕ} {from : ℕ} {text : List ℕ} where
             (omega (arith, ten-digits (getD l i 0) small, wrote-length tab-wrote, tab-wrote .place))
             w
 
-        pub number-turn : Left out from text m″ p″ (tabbed (drop (i + 1) l))
+        pub number-turn : Left out from text m″ p″ (tabbed end (drop (i + 1) l))
         number-turn =
-            left-turn (digitsOf (getD l i 0)) (tabbed (drop (i + 1) l))
-            (left-turn (9 ∷ []) (digitsOf (getD l i 0) ++ tabbed (drop (i + 1) l)) (rw (tab-next h) at s) tab-wrote)
+            left-turn (digitsOf (getD l i 0)) (tabbed end (drop (i + 1) l))
+            (left-turn (9 ∷ []) (digitsOf (getD l i 0) ++ tabbed end (drop (i + 1) l)) (rw (tab-next h) at s) tab-wrote)
             number-wrote
 
         pub number-place : p″ ≤ p + 11
@@ -117,19 +121,19 @@ module _ {out : List ℕ} {from : ℕ} {text : List ℕ} where
             omega (arith, ten-digits (getD l i 0) small, tab-wrote .place, number-wrote .place)
 
     pub line-end :
-        {b : ℕ} {m′ : List ℕ} {p′ : ℕ} → length l ≤ i → p + 1 ≤ length m → p + 1 ≤ from + b → Put m p (10 ∷ []) m′ p′
+        {b : ℕ} {m′ : List ℕ} {p′ : ℕ} → length l ≤ i → p + length end ≤ length m → p + length end ≤ from + b → Put m p end m′ p′
         → Wrote out from text b m′ p′
     unfolding tabbed
     line-end h fits g w =
-        let r : Left out from text m p (10 ∷ []) = rw (drop-of-length-le l h) at s in
-        left-last r (whole (omega arith) w) (omega (arith, r .stays))
+        let r : Left out from text m p end = rw (drop-of-length-le l h) at s in
+        left-last r (whole fits w) (omega (arith, r .stays))
 
 -- the word, then the numbers
 pub line-whole :
-    (l : List ℕ) {out : List ℕ} {at : ℕ} {word m : List ℕ} {p : ℕ} {m′ : List ℕ} {p′ : ℕ} → length word ≤ 7
-    → Wrote out at word (length word) m p → Wrote m p (tabbed l) (11 * length l + 1) m′ p′
-    → Wrote out at (numbersLine word l) (8 + 11 * length l) m′ p′
-line-whole l {word = word} h v w = rw numbers-tabbed (looser {a = length word + (11 * length l + 1)} (omega arith) (also v w))
+    (end l : List ℕ) {out : List ℕ} {at : ℕ} {word m : List ℕ} {p : ℕ} {m′ : List ℕ} {p′ : ℕ} → length word ≤ 7
+    → Wrote out at word (length word) m p → Wrote m p (tabbed end l) (length end + 11 * length l) m′ p′
+    → Wrote out at (lineTo end word l) (7 + length end + 11 * length l) m′ p′
+line-whole end l {word = word} h v w = rw to-tabbed (looser {a = length word + (length end + 11 * length l)} (omega arith) (also v w))
 
 -- ---- where there is room, and where there is none
 
@@ -144,6 +148,9 @@ module _ {out : List ℕ} {from : ℕ} {line : List ℕ} {most : ℕ} where
     lined-all fits w =
         let h = le-leb (from + lineMost) (length out) fits in
         record { place = rw h (w .place); bytes = rw h (w .bytes); small = λ _. w .small }
+
+    pub lined-looser : {b : ℕ} → most ≤ b → Lined out from line most m p → Lined out from line b m p
+    lined-looser h w = record { place = w .place; bytes = w .bytes; small = λ fits. omega (arith, w .small fits) }
 
     pub wrote-line : from + lineMost ≤ length out → Lined out from line most m p → Wrote out from line most m p
     wrote-line fits w =

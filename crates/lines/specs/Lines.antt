@@ -3,7 +3,7 @@ use Prim.Native.Nat.{ℕ, _+_, _-_, _≤_}
 use mathlib.Core.Path.{_≡_}
 use mathlib.Core.Bool.{Bool, cond}
 use mathlib.Core.List.{List, [], _∷_, map}
-use lib.Dec.{leb}
+use lib.Dec.{leb, eqb}
 use lib.ListN.{length}
 use lib.Seq.{sets}
 use Rattle.laws.specs.Digits.{digitsOf}
@@ -14,6 +14,12 @@ use Rattle.plan.specs.declared.Answer.{Answer}
 -- a word and numbers, with tabs and LF as in a plan text
 unfoldable pub numbersLine : List ℕ → List ℕ → List ℕ
 numbersLine word numbers = lineText (word ∷ map digitsOf numbers)
+
+-- `run`, 1, B, T; by the clash rule `run`, 2, B, T, `clash`
+unfoldable pub runBy : ℕ → ℕ → ℕ → List ℕ
+runBy rule boards tasks =
+    cond (eqb rule 0) (numbersLine (bytes "run") (1 ∷ boards ∷ tasks ∷ []))
+    (lineText (bytes "run" ∷ digitsOf 2 ∷ digitsOf boards ∷ digitsOf tasks ∷ bytes "clash" ∷ []))
 
 -- `start`, `skip` and `end` carry task, board, tick, ticks early against plan
 abbrev pub taskLine : List ℕ → ℕ → ℕ → ℕ → ℕ → List ℕ

@@ -6,9 +6,8 @@ ghost use lib.Dec.{eqb};
 ghost use lib.ListN.{length};
 ghost use Rattle.text.specs.Bytes.{bytes};
 ghost use Rattle.plan.specs.Answer.{refuse};
-ghost use Rattle.lines.specs.Lines.{numbersLine, taskLine, startWord, refusedLine, Lined};
-ghost use Rattle.lines.specs.private.Wrote.{Wrote};
-use text::part::LF;
+ghost use Rattle.lines.specs.Lines.{numbersLine, runBy, taskLine, startWord, refusedLine, Lined};
+ghost use Rattle.lines.specs.private.Wrote.{Wrote, lineTo};
 use text::part::TAB;
 use text::put::put_byte;
 use text::put::put_number;
@@ -33,23 +32,23 @@ fn early_by(planned: u32, actual: u32) -> u32
     planned - actual
 }
 
-// A word and numbers: a tab before each number, LF after the last.
-fn put_within(out: &mut [u8], at: usize, word: &[u8], numbers: &[u32]) -> usize
-    requires { ⌜ (length (now word) ≤ 7) × (length (now numbers) ≤ 4) × (at + 52 ≤ length (now out)) ⌝ }
-    ensures { λ r. ⌜ Wrote (now (out .entry)) at (numbersLine (now (word .entry)) (now (numbers .entry))) (8 + 11 * length (now (numbers .entry))) (now (out .exit)) r ⌝ }
+// A word and numbers, a tab before each number, and the end of the line.
+fn put_within(out: &mut [u8], at: usize, word: &[u8], numbers: &[u32], end: &[u8]) -> usize
+    requires { ⌜ (length (now word) ≤ 7) × (length (now end) + 11 * length (now numbers) ≤ 45) × (at + 52 ≤ length (now out)) ⌝ }
+    ensures { λ r. ⌜ Wrote (now (out .entry)) at (lineTo (now (end .entry)) (now (word .entry)) (now (numbers .entry))) (7 + length (now (end .entry)) + 11 * length (now (numbers .entry))) (now (out .exit)) r ⌝ }
 {
     let mut place = put_text(out, at, word);
     for i in 0..numbers.len() {
         let after_tab = put_byte(out, place, TAB);
         place = put_number(out, after_tab, numbers[i]);
     }
-    put_byte(out, place, LF)
+    put_text(out, place, end)
 }
 
 // A sum could wrap, so the room is what is left before the last LINE_MOST bytes.
-fn put_line(out: &mut [u8], at: usize, word: &[u8], numbers: &[u32]) -> usize
-    requires { ⌜ (length (now word) ≤ 7) × (length (now numbers) ≤ 4) ⌝ }
-    ensures { λ r. ⌜ Lined (now (out .entry)) at (numbersLine (now (word .entry)) (now (numbers .entry))) (8 + 11 * length (now (numbers .entry))) (now (out .exit)) r ⌝ }
+fn put_line_to(out: &mut [u8], at: usize, word: &[u8], numbers: &[u32], end: &[u8]) -> usize
+    requires { ⌜ (length (now word) ≤ 7) × (length (now end) + 11 * length (now numbers) ≤ 45) ⌝ }
+    ensures { λ r. ⌜ Lined (now (out .entry)) at (lineTo (now (end .entry)) (now (word .entry)) (now (numbers .entry))) (7 + length (now (end .entry)) + 11 * length (now (numbers .entry))) (now (out .exit)) r ⌝ }
 {
     if out.len() < LINE_MOST {
         return at;
@@ -57,7 +56,14 @@ fn put_line(out: &mut [u8], at: usize, word: &[u8], numbers: &[u32]) -> usize
     if out.len() - LINE_MOST < at {
         return at;
     }
-    put_within(out, at, word, numbers)
+    put_within(out, at, word, numbers, end)
+}
+
+fn put_line(out: &mut [u8], at: usize, word: &[u8], numbers: &[u32]) -> usize
+    requires { ⌜ (length (now word) ≤ 7) × (length (now numbers) ≤ 4) ⌝ }
+    ensures { λ r. ⌜ Lined (now (out .entry)) at (numbersLine (now (word .entry)) (now (numbers .entry))) (8 + 11 * length (now (numbers .entry))) (now (out .exit)) r ⌝ }
+{
+    put_line_to(out, at, word, numbers, b"\n")
 }
 
 pub fn put_refused(out: &mut [u8], at: usize, code: u32, first: u32, second: u32) -> usize
@@ -66,10 +72,20 @@ pub fn put_refused(out: &mut [u8], at: usize, code: u32, first: u32, second: u32
     put_line(out, at, b"refused", &[code, first, second])
 }
 
-pub fn put_run(out: &mut [u8], at: usize, boards: u8, tasks: u8) -> usize
-    ensures { λ r. ⌜ Lined (now (out .entry)) at (numbersLine (bytes "run") (1 ∷ boards ∷ tasks ∷ [])) 41 (now (out .exit)) r ⌝ }
+// By the clash rule the line names it last.
+pub fn put_run(out: &mut [u8], at: usize, rule: u8, boards: u8, tasks: u8) -> usize
+    ensures { λ r. ⌜ Lined (now (out .entry)) at (runBy rule boards tasks) 47 (now (out .exit)) r ⌝ }
 {
-    put_line(out, at, b"run", &[1, wide(boards), wide(tasks)])
+    if rule == 0 {
+        return put_line(out, at, b"run", &[1, wide(boards), wide(tasks)]);
+    }
+    put_line_to(
+        out,
+        at,
+        b"run",
+        &[2, wide(boards), wide(tasks)],
+        b"\tclash\n",
+    )
 }
 
 pub fn put_early(out: &mut [u8], at: usize, clock: u32, early: u32) -> usize

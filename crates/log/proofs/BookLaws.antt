@@ -22,6 +22,7 @@ use Rattle.book.specs.Drop.{dropCodeOf, dropAnswer, droppedOf}
 use Rattle.book.specs.Event.{bookTold}
 use Rattle.book.specs.declared.Book.{Book}
 use Rattle.book.specs.declared.Reported.{Reported}
+use Rattle.book.specs.declared.Rule.{Rule}
 use Rattle.book.specs.declared.Dropped.{Dropped}
 use Rattle.book.proofs.Sizes.{Sized, plan-opened}
 use Rattle.book.proofs.Soundness.{is-sound-facts}
@@ -125,13 +126,14 @@ sized-told book event s = by-bool (isSound book) (λ h. event-sized book h event
 
 -- ---- an opened book
 
-pub opened-tasks : (plan : Plan) → openedOn plan .tasks ≡ plan .tasks
-opened-tasks plan = ap (λ (p : Plan). p .tasks) (plan-opened plan)
+module _ (plan : Plan) (rule : Rule) where
+  pub opened-tasks : openedOn plan rule .tasks ≡ plan .tasks
+  opened-tasks = ap (λ (p : Plan). p .tasks) (plan-opened plan rule)
 
-pub opening-answer : (plan : Plan) → isAccepted plan ≡ true → openingOf plan .answer ≡ granted
-unfolding openingOf
-opening-answer plan h = rw h
+  pub opening-answer : isAccepted plan ≡ true → openingOf plan rule .answer ≡ granted
+  unfolding openingOf
+  opening-answer h = rw h
 
-pub opening-book : (plan : Plan) → isAccepted plan ≡ true → openingOf plan .book ≡ openedOn plan
-unfolding openingOf
-opening-book plan h = rw h
+  pub opening-book : isAccepted plan ≡ true → openingOf plan rule .book ≡ openedOn plan rule
+  unfolding openingOf
+  opening-book h = rw h

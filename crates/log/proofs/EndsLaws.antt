@@ -15,7 +15,7 @@ use Rattle.book.proofs.Sizes.{Sized}
 use Rattle.entries.specs.Entries.{nextEntry, entryCode}
 use Rattle.entries.specs.declared.Entry.{Entry}
 use Rattle.entries.proofs.TextLaws.{line-used}
-use Rattle.log.specs.Log.{toldOf, toldLog, endsLog}
+use Rattle.log.specs.Log.{toldOf, toldLog, endsLog, restLog}
 use Rattle.log.specs.declared.Shown.{Shown}
 use Rattle.lines.specs.private.Wrote.{Wrote}
 use Rattle.log.specs.private.Writes.{starting, Short, toldIn, toldMost}
@@ -64,9 +64,6 @@ fuel (suc f) (suc g) book n s p q =
     ∙ sym (ends-turn g book n s some t))
     (λ h. ends-stop f book n s some h ∙ sym (ends-stop g book n s some h)))
 
-abbrev pub restLog : Book → ℕ → List ℕ → List ℕ
-restLog book n s = endsLog (length s) book n s
-
 module _ (book : Book) (n : ℕ) (s : List ℕ) where
   rest-none : length s ≡ 0 → restLog book n s ≡ []
   rest-none h = ends-empty (length s) book n s h
@@ -90,39 +87,39 @@ module _ (book : Book) (n : ℕ) (s : List ℕ) where
 -- ---- the walk over the lines
 
 pub record Walk
-    (out : List ℕ) (from : ℕ) (opened : Book) (ends now : List ℕ) (book : Book) (place line : ℕ) (rest : List ℕ) :
+    (out : List ℕ) (from : ℕ) (opened : Book) (first : ℕ) (ends now : List ℕ) (book : Book) (place line : ℕ) (rest : List ℕ) :
     Type 0 where
   pub kept : length now ≡ length out
   pub sized : Sized book
-  pub lines : line + length rest ≤ length ends + 1
+  pub lines : line + length rest ≤ length ends + 2
   pub room : place + roomFor book + 6 * length rest ≤ from + roomFor opened + 6 * length ends
-  pub left : Left out from (restLog opened 1 ends) now place (restLog book line rest)
+  pub left : Left out from (restLog opened first ends) now place (restLog book line rest)
 
-module _ {out : List ℕ} {from : ℕ} {opened : Book} {ends : List ℕ} where
-  pub walk-start : Sized opened → Walk out from opened ends out opened from 1 ends
-  walk-start s = record { kept = refl; sized = s; lines = omega arith; room = omega arith; left = record { stays = refl; bytes = refl } }
+module _ {out : List ℕ} {from : ℕ} {opened : Book} {first : ℕ} {ends : List ℕ} where
+  pub walk-start : first ≤ 2 → Sized opened → Walk out from opened first ends out opened from first ends
+  walk-start h s = record { kept = refl; sized = s; lines = omega arith; room = omega arith; left = record { stays = refl; bytes = refl } }
 
   module _
-      {m : List ℕ} {book : Book} {place line : ℕ} {rest : List ℕ} (w : Walk out from opened ends m book place line rest)
+      {m : List ℕ} {book : Book} {place line : ℕ} {rest : List ℕ} (w : Walk out from opened first ends m book place line rest)
     where
-      pub walk-end : length rest ≤ 0 → Wrote out from (restLog opened 1 ends) (endsMost opened ends) m place
+      pub walk-end : length rest ≤ 0 → Wrote out from (restLog opened first ends) (endsMost opened ends) m place
       walk-end h =
           let e = rest-none book line rest (omega arith) in
-          let l : Left out from (restLog opened 1 ends) m place [] = rw e at (w .left) in
+          let l : Left out from (restLog opened first ends) m place [] = rw e at (w .left) in
           left-last l (nothing m place 0) (omega (arith, l .stays, w .room))
 
       module _
           (some : 0 < length rest) {m′ : List ℕ} {place′ : ℕ}
           (told : Told m place book (firstLog book line rest) (firstBook book line rest) m′ place′)
         where
-          walk-stop : entryCode (nextEntry rest) ≢ 0 → Wrote out from (restLog opened 1 ends) (endsMost opened ends) m′ place′
+          walk-stop : entryCode (nextEntry rest) ≢ 0 → Wrote out from (restLog opened first ends) (endsMost opened ends) m′ place′
           walk-stop h =
               let l = rw (rest-stop book line rest some h) at (w .left) in
               let x = left-turn (firstLog book line rest) [] l (told .wrote) in
               left-last x (nothing m′ place′ 0) (omega (arith, x .stays, w .room, told .paid, told .wrote .place))
 
           walk-turn :
-              entryCode (nextEntry rest) ≡ 0 → Walk out from opened ends m′ (firstBook book line rest) place′ (line + 1) (after LF rest)
+              entryCode (nextEntry rest) ≡ 0 → Walk out from opened first ends m′ (firstBook book line rest) place′ (line + 1) (after LF rest)
           walk-turn z =
               let u = line-used rest z in
               let l = rw (rest-turn book line rest some z) at (w .left) in
@@ -156,9 +153,9 @@ module _ {out : List ℕ} {from : ℕ} {opened : Book} {ends : List ℕ} where
             first-told : Told m place book (firstLog book line rest) (firstBook book line rest) m′ place′
             first-told = rw n at (told-wrote line book entry (w .sized) (rw q at v))
 
-            pub walk-stops : code ≢ 0 → Wrote out from (restLog opened 1 ends) (endsMost opened ends) m′ place′
+            pub walk-stops : code ≢ 0 → Wrote out from (restLog opened first ends) (endsMost opened ends) m′ place′
             walk-stops h = walk-stop some first-told (rw (code-is k) at h)
 
             pub walk-goes :
-                {next : List ℕ} → code ≡ 0 → next ≡ after LF rest → Walk out from opened ends m′ (r .book) place′ (line + 1) next
+                {next : List ℕ} → code ≡ 0 → next ≡ after LF rest → Walk out from opened first ends m′ (r .book) place′ (line + 1) next
             walk-goes z u = rw (u, q, n) (walk-turn some first-told (sym (code-is k) ∙ z))

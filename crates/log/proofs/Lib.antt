@@ -5,4 +5,5 @@ pub mod BookLaws
 pub mod ToldLaws
 pub mod ReportLaws
 pub mod EndsLaws
+pub mod OpenLaws
 pub mod LogLaws

@@ -1,5 +1,6 @@
 -- The column of a refused line is a number that an answer can say.
 use Prim.Native.Nat.{ℕ, _≤_, _<_}
+use mathlib.Core.Path.{_≡_}
 use mathlib.Core.List.{List}
 use native.Mathlib.Omega.{arith}
 use lib.Dec.{eqb}
@@ -14,6 +15,9 @@ use Rattle.faults.specs.Faults.{faultOf}
 use Rattle.faults.specs.declared.Fault.{Fault}
 use Rattle.faults.proofs.FaultLaws.{column-most}
 use Rattle.entries.specs.Entries.{endCodes, dropCodes, unlessFault, entryOf, nextEntry}
+use Rattle.entries.specs.Rules.{ruleCodes, choiceIn, choiceOf}
+use Rattle.entries.specs.declared.Choice.{Choice}
+use Rattle.entries.specs.declared.Choice.the-variants.{Unsaid, Chosen, Malformed}
 use Rattle.entries.specs.declared.Entry.{Entry}
 use Rattle.entries.specs.declared.Entry.the-variants.{End, Drop}
 use Rattle.log.specs.private.Writes.{Short}
@@ -22,12 +26,31 @@ use Rattle.log.specs.private.Writes.{Short}
 fault-short : (fault : Fault) (entry : Entry) → Short entry → fault .column < 4294967296 → Short (unlessFault fault entry)
 fault-short fault entry h g = by-bool (eqb (fault .code) 0) (λ e. rw e h) (λ e. rw e g)
 
-pub next-short : (s : List ℕ) → length s ≤ 32769 → Short (nextEntry s)
+small-column : (s codes : List ℕ) → length s ≤ 32770 → faultOf (before LF s) codes .column < 4294967296
+small-column s codes h = omega (arith, column-most (before LF s) codes, length-take (indexOf LF s) s)
+
+pub next-short : (s : List ℕ) → length s ≤ 32770 → Short (nextEntry s)
 unfolding nextEntry entryOf
 next-short s h =
     let line = before LF s in
-    let small : (codes : List ℕ) → faultOf line codes .column < 4294967296 =
-    λ codes. omega (arith, column-most line codes, length-take (indexOf LF s) s) in
     by-bool (same (field line 0) (bytes "drop"))
-    (λ e. rw e (fault-short (faultOf line (dropCodes (hasLine s) line)) (Drop (valueOf (field line 1))) (omega arith) (small (dropCodes (hasLine s) line))))
-    (λ e. rw e (fault-short (faultOf line (endCodes (hasLine s) line)) (End (valueOf (field line 1)) (valueOf (field line 2))) (omega arith) (small (endCodes (hasLine s) line))))
+    (λ e. rw e (fault-short (faultOf line (dropCodes (hasLine s) line)) (Drop (valueOf (field line 1))) (omega arith) (small-column s (dropCodes (hasLine s) line) h)))
+    (λ e. rw e (fault-short (faultOf line (endCodes (hasLine s) line)) (End (valueOf (field line 1)) (valueOf (field line 2))) (omega arith) (small-column s (endCodes (hasLine s) line) h)))
+
+-- likewise of a first line that says the rule
+abbrev ShortChoice : Choice → Type 0
+ShortChoice Unsaid = 0 ≤ 0
+ShortChoice Chosen = 0 ≤ 0
+ShortChoice (Malformed column) = column < 4294967296
+
+choice-short : (s : List ℕ) → length s ≤ 32770 → ShortChoice (choiceOf s)
+unfolding choiceOf choiceIn
+choice-short s h =
+    let line = before LF s in
+    let fault = faultOf line (ruleCodes (hasLine s) line) in
+    by-bool (same (field line 0) (bytes "rule"))
+    (λ e. rw e (by-bool (eqb (fault .code) 0) (λ q. rw q (omega arith)) (λ q. rw q (small-column s (ruleCodes (hasLine s) line) h))))
+    (λ e. rw e (omega arith))
+
+pub malformed-short : (s : List ℕ) → length s ≤ 32768 → {choice : Choice} {column : ℕ} → choice ≡ choiceOf s → choice ≡ Malformed column → column < 4294967296
+malformed-short s h {column = column} k c = let r : ShortChoice (Malformed column) = rw (← k, c) at (choice-short s (omega arith)) in r

@@ -39,7 +39,7 @@ module _ (answer : Answer) (book : Book) where
 
   pub shown-granted :
       answer .code ≡ 0 → isSound book ≡ true → {early : ℕ}
-      → early ≡ minimumEarly (planSeen (book .tasks) (book .ready) (book .begin) []) (bookSeen (book .mark) (book .start) [] (book .dropped) (book .clock))
+      → early ≡ minimumEarly (planSeen (book .tasks) (book .ready) (book .begin) [] []) (bookSeen (book .mark) (book .start) [] (book .dropped) (book .clock))
       → _≡_ {A = Shown} (record { answer = answer; book = book; early = early }) (shownAfter answer book)
   shown-granted z h e =
       let f = ap (λ (x : Figure). x .early) (figure-granted book (sym h) {answer = granted} refl refl e) in
@@ -112,9 +112,9 @@ module _ {out : List ℕ} {from : ℕ} (old mark dropped board begin start finis
 
 pub opened-wrote :
     {out : List ℕ} {run : List ℕ} {m : List ℕ} {p : ℕ} {starts : List ℕ} {m′ : List ℕ} {p′ : ℕ} {early : List ℕ} {m″ : List ℕ} {p″ : ℕ}
-    (tasks : ℕ) {started : ℕ} → started ≤ tasks → tasks ≤ 64 → 3432 ≤ length out → Lined out 0 run 41 m p
+    (tasks : ℕ) {started : ℕ} → started ≤ tasks → tasks ≤ 64 → 3432 ≤ length out → Lined out 0 run 47 m p
     → Wrote m p starts (52 * started) m′ p′ → Lined m′ p′ early 30 m″ p″ → Wrote out 0 (run ++ (starts ++ early)) 3432 m″ p″
 opened-wrote tasks {started} h few fits u v w =
     let r = wrote-line (omega arith) u in
     let e = wrote-line (omega (arith, r .place, r .small, wrote-length r, v .place, v .small, wrote-length v)) w in
-    looser {a = 41 + (52 * started + 30)} (omega arith) (also r (also v e))
+    looser {a = 47 + (52 * started + 30)} (omega arith) (also r (also v e))

@@ -6,12 +6,12 @@ use Rattle.text.specs.Bytes.{bytes}
 use Rattle.theory.specs.Book.{waiting, isDropped}
 use Rattle.plan.specs.Value.{at}
 use Rattle.book.specs.declared.Book.{Book}
-use Rattle.lines.specs.Lines.{numbersLine, taskLine, startWord}
+use Rattle.lines.specs.Lines.{numbersLine, runBy, taskLine, startWord}
 use Rattle.log.specs.declared.Shown.{Shown}
 
--- `run`, 1, B, T
+-- `run`, by the book's rule
 abbrev pub runLine : Book → List ℕ
-runLine book = numbersLine (bytes "run") (1 ∷ book .boards ∷ book .tasks ∷ [])
+runLine book = runBy (book .rule) (book .boards) (book .tasks)
 
 -- the start of task i, from 0
 abbrev pub startLine : Book → ℕ → List ℕ

@@ -10,12 +10,17 @@ use Rattle.plan.specs.Answer.{refuse, granted, isGranted, isRefused}
 use Rattle.plan.specs.Read.{readingOf}
 use Rattle.plan.specs.declared.Answer.{Answer}
 use Rattle.plan.specs.declared.Plan.{Plan}
-use Rattle.book.specs.Open.{blankBook, openedOn}
+use Rattle.book.specs.Open.{ruleNumber, blankBook, openedOn}
 use Rattle.book.specs.Report.{reportedOf}
 use Rattle.book.specs.Drop.{droppedOf}
 use Rattle.book.specs.Early.{figureOf}
 use Rattle.book.specs.declared.Book.{Book}
+use Rattle.book.specs.declared.Rule.{Rule}
+use Rattle.book.specs.declared.Rule.the-variants.{EarlyStart, Clash}
 use Rattle.entries.specs.Entries.{nextEntry, entryCode}
+use Rattle.entries.specs.Rules.{choiceOf}
+use Rattle.entries.specs.declared.Choice.{Choice}
+use Rattle.entries.specs.declared.Choice.the-variants.{Unsaid, Chosen, Malformed}
 use Rattle.entries.specs.declared.Entry.{Entry}
 use Rattle.entries.specs.declared.Entry.the-variants.{End, Drop, Refused}
 use Rattle.lines.specs.Lines.{refusedLine}
@@ -27,10 +32,11 @@ abbrev pub shownAfter : Answer → Book → Shown
 shownAfter answer book = record { answer = answer; book = book; early = cond (isGranted answer) (figureOf book .early) 0 }
 
 -- `run`; then a `start` line for each task started at 0; an `early` line
-unfoldable pub openLog : Plan → List ℕ
-openLog plan =
-    runLine (openedOn plan)
-    ++ (startLines (blankBook plan) (openedOn plan) (plan .tasks) ++ earlyLine (shownAfter granted (openedOn plan)))
+unfoldable pub openLog : Plan → Rule → List ℕ
+openLog plan rule =
+    runLine (openedOn plan rule)
+    ++ (startLines (blankBook (ruleNumber rule) plan) (openedOn plan rule) (plan .tasks)
+    ++ earlyLine (shownAfter granted (openedOn plan rule)))
 
 -- what line n of ends.txt is answered, by what it says
 unfoldable pub toldOf : ℕ → Book → Entry → Shown
@@ -58,12 +64,22 @@ endsLog (suc fuel) book n ends =
     let rest = cond (eqb (entryCode entry) 0) (endsLog fuel (told .book) (n + 1) (after LF ends)) [] in
     cond (eqb (length ends) 0) [] (toldLog book entry told ++ rest)
 
+-- the lines of a text from line n on: they are no more than its bytes
+abbrev pub restLog : Book → ℕ → List ℕ → List ℕ
+restLog book n ends = endsLog (length ends) book n ends
+
+-- by the first line: the rule it chooses and line 2 on; or, malformed, Early Start's opening and a `refused` line
+unfoldable pub chosenLog : Choice → Plan → List ℕ → List ℕ
+chosenLog Unsaid plan ends = openLog plan EarlyStart ++ restLog (openedOn plan EarlyStart) 1 ends
+chosenLog Chosen plan ends = openLog plan Clash ++ restLog (openedOn plan Clash) 2 (after LF ends)
+chosenLog (Malformed column) plan ends = openLog plan EarlyStart ++ refusedLine (refuse 3 1 column)
+
 -- A refused plan, then a too long ends.txt, prints only the `refused` line
 unfoldable pub logOf : List ℕ → List ℕ → List ℕ
 logOf plan ends =
     cond (isRefused (readingOf plan .answer)) (refusedLine (readingOf plan .answer))
     (cond (ltb 32768 (length ends)) (refusedLine (refuse 1 0 0))
-    (openLog (readingOf plan .plan) ++ endsLog (length ends) (openedOn (readingOf plan .plan)) 1 ends))
+    (chosenLog (choiceOf ends) (readingOf plan .plan) ends))
 
 -- no log is longer
 abbrev pub logMost : ℕ

@@ -1,7 +1,6 @@
 // What ends.txt prints, line by line.
-ghost use lib.ListN.{length};
 ghost use Rattle.lines.specs.private.Wrote.{Wrote};
-ghost use Rattle.log.specs.Log.{endsLog};
+ghost use Rattle.log.specs.Log.{restLog};
 ghost use Rattle.log.specs.private.Room.{endsMost, EndsFit};
 use crate::told::put_told;
 use crate::told::tell;
@@ -11,13 +10,18 @@ use entries::next_entry;
 use text::part::LF;
 use text::part::part_after;
 
-// The rest of the text and the book go on to the next line. A line that is refused by itself is the last.
-pub(crate) fn put_ends(out: &mut [u8], at: usize, mut book: Book, ends: &[u8]) -> usize
-    requires { ⌜ EndsFit (now out) at book (now ends) ⌝ }
-    ensures { λ r. ⌜ Wrote (now (out .entry)) at (endsLog (length (now (ends .entry))) book 1 (now (ends .entry))) (endsMost book (now (ends .entry))) (now (out .exit)) r ⌝ }
+// The rest of the text, from its line's number on, and the book go on to the next line. A line that is refused by itself is the last.
+pub(crate) fn put_ends(
+    out: &mut [u8],
+    at: usize,
+    mut book: Book,
+    mut line: u32,
+    ends: &[u8],
+) -> usize
+    requires { ⌜ EndsFit (now out) at book line (now ends) ⌝ }
+    ensures { λ r. ⌜ Wrote (now (out .entry)) at (restLog book line (now (ends .entry))) (endsMost book (now (ends .entry))) (now (out .exit)) r ⌝ }
 {
     let mut place = at;
-    let mut line: u32 = 1;
     let mut rest = ends;
     while 0 < rest.len() {
         let entry = next_entry(rest);

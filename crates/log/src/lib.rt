@@ -8,12 +8,18 @@ ghost use Prim.Native.Nat.{_≤_};
 ghost use lib.ListN.{length};
 ghost use lib.Seq.{sets};
 ghost use Rattle.log.specs.Log.{logMost, logIn};
+ghost use Rattle.log.specs.private.Writes.{ruleOf};
 use book::Book;
+use book::Rule;
 use book::open_book;
 use ends::put_ends;
+use entries::Choice;
+use entries::rules::choose;
 use judge::read::read_plan;
 use lines::put_refused;
 use plan::Answer;
+use text::part::LF;
+use text::part::part_after;
 use told::put_opened;
 use told::show;
 
@@ -25,6 +31,17 @@ pub struct Shown {
     pub answer: Answer,
     pub book: Book,
     pub early: u32,
+}
+
+// The rule that a book is opened by.
+fn rule_of(choice: Choice) -> Rule
+    ensures { λ r. ⌜ r ≡ ruleOf choice ⌝ }
+{
+    match choice {
+        Choice::Unsaid => Rule::EarlyStart,
+        Choice::Chosen => Rule::Clash,
+        Choice::Malformed(_) => Rule::EarlyStart,
+    }
 }
 
 // Nothing is written where the buffer is shorter than LOG_MOST.
@@ -42,10 +59,12 @@ pub fn run_log(plan: &[u8], ends: &[u8], out: &mut [u8]) -> usize
     if 32768 < ends.len() {
         return put_refused(out, 0, 1, 0, 0);
     }
-    let opening = open_book(reading.plan);
+    let choice = choose(ends);
+    let opening = open_book(reading.plan, rule_of(choice));
     let opened = show(opening.answer, opening.book);
     let at = put_opened(
         out,
+        opened.book.rule,
         opened.book.boards,
         opened.book.tasks,
         &opened.book.mark,
@@ -56,5 +75,9 @@ pub fn run_log(plan: &[u8], ends: &[u8], out: &mut [u8]) -> usize
         opened.book.clock,
         opened.early,
     );
-    put_ends(out, at, opened.book, ends)
+    match choice {
+        Choice::Unsaid => put_ends(out, at, opened.book, 1, ends),
+        Choice::Chosen => put_ends(out, at, opened.book, 2, part_after(ends, LF)),
+        Choice::Malformed(column) => put_refused(out, at, 3, 1, column as u32),
+    }
 }

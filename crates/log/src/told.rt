@@ -82,6 +82,7 @@ pub(crate) fn tell(line: u32, book: Book, entry: Entry) -> Shown
 // Opened: the `run` line, the starts at 0, and an `early` line.
 pub(crate) fn put_opened<'a>(
     out: &mut [u8],
+    rule: u8,
     boards: u8,
     tasks: u8,
     mark: &'a [u8; 64],
@@ -93,9 +94,9 @@ pub(crate) fn put_opened<'a>(
     early: u32,
 ) -> usize
     requires { ⌜ (tasks ≤ 64) × (3432 ≤ length (now out)) ⌝ }
-    ensures { λ r. ⌜ Wrote (now (out .entry)) 0 (openedIn boards tasks (now (mark .entry)) (now (dropped .entry)) (now (board .entry)) (now (begin .entry)) (now (start .entry)) clock early) 3432 (now (out .exit)) r ⌝ }
+    ensures { λ r. ⌜ Wrote (now (out .entry)) 0 (openedIn rule boards tasks (now (mark .entry)) (now (dropped .entry)) (now (board .entry)) (now (begin .entry)) (now (start .entry)) clock early) 3432 (now (out .exit)) r ⌝ }
 {
-    let next = put_run(out, 0, boards, tasks);
+    let next = put_run(out, 0, rule, boards, tasks);
     let last = put_starts(
         out,
         next,

@@ -16,6 +16,7 @@ use Rattle.plan.specs.declared.Written.{Written}
 use Rattle.book.specs.Sound.{isSound}
 use Rattle.book.specs.Report.{reportedOf}
 use Rattle.book.specs.declared.Book.{Book}
+use Rattle.book.specs.declared.Rule.{Rule}
 use Rattle.lines.specs.Lines.{Lined}
 use Rattle.promises.specs.Runs.{SizedPlan, Sized, acceptedOf, Running, Ended, limitOf, runOf, AllInRange, Progress, Finishes, Reached}
 use Rattle.promises.proofs.InRange as in-range
@@ -23,14 +24,15 @@ use Rattle.promises.proofs.Judged as judged
 use Rattle.promises.proofs.SoundBook as sound-book
 use Rattle.promises.proofs.SoundRun as sound-run
 
--- on one board the tasks that i waits for are a first run: with j it waits for every k of j's board that is planned before j
+-- by Early Start the tasks of one board that i waits for are a first run: with j it waits for every k of j's board that is planned
+-- before j
 pub first-run :
     (plan : Plan) → isAccepted plan ≡ true → (i j k : ℕ) → j < plan .tasks → k < plan .tasks
     → at (plan .board) k ≡ at (plan .board) j → at (plan .begin) k < at (plan .begin) j
     → at (plan .finish) j ≤ at (plan .begin) i → at (plan .finish) k ≤ at (plan .begin) i
 first-run = judged.first-run
 
--- The sound books are exactly the books that an accepted plan and accepted reports and drops give
+-- The sound books are exactly the books that an accepted plan, a rule and accepted reports and drops give
 pub sound-is-reached : (book : Book) → Sized book → (isSound book ≡ true) ↔ Reached book
 sound-is-reached book size =
     (λ h. sound-run.sound-reached book (record { sized = size; sound = h }), sound-run.reached-sound book)
@@ -52,8 +54,8 @@ module _ (book : Book) (size : Sized book) (sound : isSound book ≡ true) where
   can-be-finished = sound-book.finishes book (record { sized = size; sound = sound })
 
 pub every-run-finishes :
-    (plan : Plan) → SizedPlan plan → isAccepted plan ≡ true → (events : List Event) → Finishes (runOf plan events)
-every-run-finishes plan size ok events = sound-book.finishes (runOf plan events) (sound-run.on-run plan size ok events .good)
+    (plan : Plan) (rule : Rule) → SizedPlan plan → isAccepted plan ≡ true → (events : List Event) → Finishes (runOf plan rule events)
+every-run-finishes plan rule size ok events = sound-book.finishes (runOf plan rule events) (sound-run.on-run plan rule size ok events .good)
 
 -- what is accepted on a sound book can be handed to the functions: tasks up to 64, ticks up to 1,000,000
 pub accepted-in-range :

@@ -15,6 +15,10 @@ use Rattle.plan.specs.Convert.{convertedOf, renewedOf}
 use Rattle.plan.specs.declared.Plan.{Plan}
 use Rattle.book.specs.Early.{figureOf}
 use Rattle.book.specs.Event.{answerTo}
+use Rattle.book.specs.declared.Rule.{Rule}
+use Rattle.book.specs.declared.Rule.the-variants.{EarlyStart}
+use Rattle.entries.specs.Rules.{choiceOf}
+use Rattle.entries.specs.declared.Choice.the-variants.{Chosen}
 use Rattle.editions.specs.Renewed.{renewedText}
 use Rattle.log.specs.Log.{logOf}
 use Rattle.promises.specs.Runs.{SizedPlan, runOf}
@@ -44,17 +48,18 @@ unshared-converts = conversion.unshared-converts
 pub converted-sized : (plan : Plan) → SizedPlan plan → SizedPlan (convertedOf plan .plan)
 converted-sized = conversion.converted-sized
 
--- converted and opened: the same book but for its plan's edition and holds after any reports and drops, so the same starts and ends;
--- the same answer to any report and drop; the same M
-module _ (plan : Plan) (size : SizedPlan plan) (taken : convertedOf plan .answer .code ≡ 0) (events : List Event) where
-  pub converted-run : runOf (convertedOf plan .plan) events ≡ exclusiveBook (runOf plan events)
-  converted-run = conversion.converted-run plan size taken events
+-- converted and opened, by Early Start or, where nobody shares a drive, by either rule: the same book but for its plan's edition and
+-- holds after any reports and drops, so the same starts and ends; the same answer to any report and drop; the same M
+module _ (plan : Plan) (rule : Rule) (size : SizedPlan plan) (taken : convertedOf plan .answer .code ≡ 0)
+    (keeps : (rule ≡ EarlyStart) ⊎ Unshared (plan .tasks) (taskAt plan)) (events : List Event) where
+  pub converted-run : runOf (convertedOf plan .plan) rule events ≡ exclusiveBook (runOf plan rule events)
+  converted-run = conversion.converted-run plan rule size taken keeps events
 
-  pub converted-answers : (event : Event) → answerTo (runOf (convertedOf plan .plan) events) event ≡ answerTo (runOf plan events) event
-  converted-answers = conversion.converted-answers plan size taken events
+  pub converted-answers : (event : Event) → answerTo (runOf (convertedOf plan .plan) rule events) event ≡ answerTo (runOf plan rule events) event
+  converted-answers = conversion.converted-answers plan rule size taken keeps events
 
-  pub converted-figure : figureOf (runOf (convertedOf plan .plan) events) ≡ figureOf (runOf plan events)
-  converted-figure = conversion.converted-figure plan size taken events
+  pub converted-figure : figureOf (runOf (convertedOf plan .plan) rule events) ≡ figureOf (runOf plan rule events)
+  converted-figure = conversion.converted-figure plan rule size taken keeps events
 
 -- the second call reads, or says 1 to 8, 17 or 18 as reading does, and never 20
 pub mended-code :
@@ -78,7 +83,9 @@ mended-is-reading = mended.mended-is-reading
 pub mended-sized : (text : List ℕ) → SizedPlan (mendedOf text .plan)
 mended-sized = read-codes.reading-sized true
 
--- an edition 1 text that is made edition 2 gives the same log with the same ends.txt
+-- an edition 1 text that is made edition 2 gives the same log with the same ends.txt, where that does not choose the clash rule or
+-- nobody shares a drive
 pub converted-log :
-    (text ends : List ℕ) → same (field (lineAt text 0) 1) (bytes "1") ≡ true → renewedOf text .answer .code ≡ 0 → logOf (renewedText text) ends ≡ logOf text ends
+    (text ends : List ℕ) → (choiceOf ends ≢ Chosen) ⊎ Unshared (readingOf text .plan .tasks) (taskAt (readingOf text .plan)) → same (field (lineAt text 0) 1) (bytes "1") ≡ true → renewedOf text .answer .code ≡ 0
+    → logOf (renewedText text) ends ≡ logOf text ends
 converted-log = same-log.converted-log

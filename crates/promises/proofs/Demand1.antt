@@ -17,11 +17,14 @@ use Rattle.book.specs.Report.{reportedOf}
 use Rattle.book.specs.Drop.{droppedOf}
 use Rattle.book.specs.Early.{figureOf}
 use Rattle.book.specs.declared.Book.{Book}
+use Rattle.book.specs.declared.Rule.{Rule}
 use Rattle.entries.specs.Entries.{nextEntry}
+use Rattle.entries.specs.Rules.{choiceOf}
 use Rattle.promises.specs.Runs.{SizedPlan, Sized}
-use Rattle.promises.specs.Says.{SharedHold, ReadyLate, FirstFaultyLine, LineCode, EntrySays, FirstFaulty, BeginsLate, ReadingSays, OpeningSays, ReportSays, DropSays, FigureSays, WriteSays}
+use Rattle.promises.specs.Says.{SharedHold, ReadyLate, FirstFaultyLine, LineCode, EntrySays, ChoiceSays, FirstFaulty, BeginsLate, ReadingSays, OpeningSays, ReportSays, DropSays, FigureSays, WriteSays}
 use Rattle.promises.proofs.Judged as judged
 use Rattle.promises.proofs.codes.EntryLine as entry-line
+use Rattle.promises.proofs.codes.RuleLine as rule-line
 use Rattle.promises.proofs.codes.Reading as read-codes
 use Rattle.promises.proofs.codes.Book as book-codes
 use Rattle.promises.proofs.codes.Writing as write-codes
@@ -58,6 +61,11 @@ reading-unready = read-codes.reading-unready false
 pub entry-says : (text : List ℕ) → EntrySays text (nextEntry text)
 entry-says = entry-line.entry-says
 
+-- the first line of ends.txt chooses the clash rule where it is `rule`, `clash`; one whose word is `rule` and that is not so is
+-- refused with 3 and names its column
+pub choice-says : (text : List ℕ) → ChoiceSays text (choiceOf text)
+choice-says = rule-line.choice-says
+
 -- refused with 6, 7 or 8 it names the first faulty pair, by a, then by b
 pub reading-pair :
     (text : List ℕ) → 6 ≤ readingOf text .answer .code → readingOf text .answer .code ≤ 8
@@ -84,10 +92,10 @@ pub plan-accepted :
     × ((a b : ℕ) → a ≤ b → b < plan .tasks → pairCode (taskAt plan) a b ≡ 0))
 plan-accepted = judged.plan-accepted
 
-pub opening-code : (plan : Plan) → (openingOf plan .answer .code ≡ 0) ⊎ (openingOf plan .answer .code ≡ 9)
+pub opening-code : (plan : Plan) (rule : Rule) → (openingOf plan rule .answer .code ≡ 0) ⊎ (openingOf plan rule .answer .code ≡ 9)
 opening-code = book-codes.opening-code
 
-pub opening-says : (plan : Plan) → OpeningSays plan (openingOf plan)
+pub opening-says : (plan : Plan) (rule : Rule) → OpeningSays plan rule (openingOf plan rule)
 opening-says = book-codes.opening-says
 
 pub report-code :
@@ -127,7 +135,7 @@ write-says = write-codes.write-says
 pub reading-sized : (text : List ℕ) → SizedPlan (readingOf text .plan)
 reading-sized = read-codes.reading-sized false
 
-pub opening-sized : (plan : Plan) → SizedPlan plan → Sized (openingOf plan .book)
+pub opening-sized : (plan : Plan) (rule : Rule) → SizedPlan plan → Sized (openingOf plan rule .book)
 opening-sized = book-codes.opening-sized
 
 pub report-sized : (book : Book) (task tick : ℕ) → Sized book → Sized (reportedOf book task tick .book)

@@ -20,6 +20,8 @@ use Rattle.book.specs.Report.{reportedOf}
 use Rattle.book.specs.Drop.{droppedOf}
 use Rattle.book.specs.Early.{figureOf}
 use Rattle.book.specs.declared.Book.{Book}
+use Rattle.book.specs.Open.{ruleNumber}
+use Rattle.book.specs.declared.Rule.{Rule}
 use Rattle.promises.specs.Runs.{SizedPlan, Sized, openedBook, runOf, Waiting, Ended, Started, Dropped, startOf, endOf}
 use Rattle.promises.specs.Runs.{WaitsFor, dueOf, startDueOf, AllEnded, StartsExactly, Term}
 use Rattle.promises.proofs.SoundBook as sound-book
@@ -60,67 +62,70 @@ due-none = sound-book.due-none
 pub report-drops : (book : Book) → Sized book → (task tick : ℕ) → reportedOf book task tick .book .dropped ≡ book .dropped
 report-drops = told.report-drops
 
--- of an accepted plan, its opened book and any list of reports and drops
-module _ (plan : Plan) (size : SizedPlan plan) (ok : isAccepted plan ≡ true) where
+-- of an accepted plan, its book opened by either rule and any list of reports and drops
+module _ (plan : Plan) (rule : Rule) (size : SizedPlan plan) (ok : isAccepted plan ≡ true) where
   -- A task that waits for nobody starts at its ready tick, and no other at opening
   pub opening-starts :
-      (i : ℕ) → i < openedBook plan .tasks
-      → (Started (openedBook plan) i ↔ ((j : ℕ) → j < openedBook plan .tasks → WaitsFor (openedBook plan) i j → ⊥))
-      × (Started (openedBook plan) i → startOf (openedBook plan) i ≡ at (plan .ready) i)
-  opening-starts = sound-run.opened-starts plan size ok
+      (i : ℕ) → i < openedBook plan rule .tasks
+      → (Started (openedBook plan rule) i ↔ ((j : ℕ) → j < openedBook plan rule .tasks → WaitsFor (openedBook plan rule) i j → ⊥))
+      × (Started (openedBook plan rule) i → startOf (openedBook plan rule) i ≡ at (plan .ready) i)
+  opening-starts = sound-run.opened-starts plan rule size ok
 
   module _ (events : List Event) where
-    -- the plan stays, the book is sound, the arrays keep their lengths
-    pub run-plan : planIn (runOf plan events) ≡ plan
-    run-plan = sound-run.on-run plan size ok events .same
+    -- the plan and the rule stay, the book is sound, the arrays keep their lengths
+    pub run-plan : planIn (runOf plan rule events) ≡ plan
+    run-plan = sound-run.on-run plan rule size ok events .same
 
-    pub run-sound : isSound (runOf plan events) ≡ true
-    run-sound = sound-run.on-run plan size ok events .good .sound
+    pub run-rule : runOf plan rule events .rule ≡ ruleNumber rule
+    run-rule = sound-run.on-run plan rule size ok events .by
 
-    pub run-sized : Sized (runOf plan events)
-    run-sized = sound-run.on-run plan size ok events .good .sized
+    pub run-sound : isSound (runOf plan rule events) ≡ true
+    run-sound = sound-run.on-run plan rule size ok events .good .sound
+
+    pub run-sized : Sized (runOf plan rule events)
+    run-sized = sound-run.on-run plan rule size ok events .good .sized
 
     -- its start is the later of its ready tick and the latest of the ends of those it waits for
     pub start-is-due :
-        (i : ℕ) → i < runOf plan events .tasks → Started (runOf plan events) i → (Dropped (runOf plan events) i → ⊥)
-        → startOf (runOf plan events) i ≡ startDueOf (runOf plan events) i
-    start-is-due = sound-book.start-due (runOf plan events) (sound-run.on-run plan size ok events .good)
+        (i : ℕ) → i < runOf plan rule events .tasks → Started (runOf plan rule events) i → (Dropped (runOf plan rule events) i → ⊥)
+        → startOf (runOf plan rule events) i ≡ startDueOf (runOf plan rule events) i
+    start-is-due = sound-book.start-due (runOf plan rule events) (sound-run.on-run plan rule size ok events .good)
 
     -- a dropped task's ready tick is ignored
     pub dropped-is-due :
-        (i : ℕ) → i < runOf plan events .tasks → Started (runOf plan events) i → Dropped (runOf plan events) i
-        → startOf (runOf plan events) i ≡ dueOf (runOf plan events) i
-    dropped-is-due = sound-book.skip-due (runOf plan events) (sound-run.on-run plan size ok events .good)
+        (i : ℕ) → i < runOf plan rule events .tasks → Started (runOf plan rule events) i → Dropped (runOf plan rule events) i
+        → startOf (runOf plan rule events) i ≡ dueOf (runOf plan rule events) i
+    dropped-is-due = sound-book.skip-due (runOf plan rule events) (sound-run.on-run plan rule size ok events .good)
 
     -- a start that lies past the clock is the ready tick
     pub ahead-at-ready :
-        (i : ℕ) → i < runOf plan events .tasks → Started (runOf plan events) i
-        → runOf plan events .clock < startOf (runOf plan events) i
-        → startOf (runOf plan events) i ≡ at (runOf plan events .ready) i
-    ahead-at-ready = sound-book.ahead-ready (runOf plan events) (sound-run.on-run plan size ok events .good)
+        (i : ℕ) → i < runOf plan rule events .tasks → Started (runOf plan rule events) i
+        → runOf plan rule events .clock < startOf (runOf plan rule events) i
+        → startOf (runOf plan rule events) i ≡ at (runOf plan rule events .ready) i
+    ahead-at-ready = sound-book.ahead-ready (runOf plan rule events) (sound-run.on-run plan rule size ok events .good)
 
     -- a task has started exactly when all it waits for have ended
     pub started-when-free :
-        (i : ℕ) → i < runOf plan events .tasks → Started (runOf plan events) i ↔ AllEnded (runOf plan events) i
-    started-when-free = sound-book.started-free (runOf plan events) (sound-run.on-run plan size ok events .good)
+        (i : ℕ) → i < runOf plan rule events .tasks → Started (runOf plan rule events) i ↔ AllEnded (runOf plan rule events) i
+    started-when-free = sound-book.started-free (runOf plan rule events) (sound-run.on-run plan rule size ok events .good)
 
     -- every waiting task has one it waits for that has not ended
     pub waiting-for-one :
-        (i : ℕ) → i < runOf plan events .tasks → Waiting (runOf plan events) i
-        → (j : ℕ) × (j < runOf plan events .tasks) × WaitsFor (runOf plan events) i j × (Ended (runOf plan events) j → ⊥)
-    waiting-for-one = sound-book.waiting-for (runOf plan events) (sound-run.on-run plan size ok events .good)
+        (i : ℕ) → i < runOf plan rule events .tasks → Waiting (runOf plan rule events) i
+        → (j : ℕ) × (j < runOf plan rule events .tasks) × WaitsFor (runOf plan rule events) i j × (Ended (runOf plan rule events) j → ⊥)
+    waiting-for-one = sound-book.waiting-for (runOf plan rule events) (sound-run.on-run plan rule size ok events .good)
 
     -- a dropped task takes no time: once its start is known it has ended, its end being its start
     pub dropped-at-once :
-        (i : ℕ) → i < runOf plan events .tasks → Dropped (runOf plan events) i → Started (runOf plan events) i
-        → Ended (runOf plan events) i × (endOf (runOf plan events) i ≡ startOf (runOf plan events) i)
-    dropped-at-once = told.dropped-at-once (runOf plan events) (sound-run.on-run plan size ok events .good)
+        (i : ℕ) → i < runOf plan rule events .tasks → Dropped (runOf plan rule events) i → Started (runOf plan rule events) i
+        → Ended (runOf plan rule events) i × (endOf (runOf plan rule events) i ≡ startOf (runOf plan rule events) i)
+    dropped-at-once = told.dropped-at-once (runOf plan rule events) (sound-run.on-run plan rule size ok events .good)
 
     -- and is one that waits for somebody
     pub dropped-waits :
-        (i : ℕ) → i < runOf plan events .tasks → Dropped (runOf plan events) i
-        → (j : ℕ) × (j < runOf plan events .tasks) × WaitsFor (runOf plan events) i j
-    dropped-waits = told.dropped-waits (runOf plan events) (sound-run.on-run plan size ok events .good)
+        (i : ℕ) → i < runOf plan rule events .tasks → Dropped (runOf plan rule events) i
+        → (j : ℕ) × (j < runOf plan rule events .tasks) × WaitsFor (runOf plan rule events) i j
+    dropped-waits = told.dropped-waits (runOf plan rule events) (sound-run.on-run plan rule size ok events .good)
 
 -- of any sound book and an accepted report
 module _ (book : Book) (size : Sized book) (sound : isSound book ≡ true) where

@@ -21,6 +21,7 @@ use Rattle.book.specs.Report.{codeOf, reportedOf}
 use Rattle.book.specs.Drop.{dropCodeOf, droppedOf}
 use Rattle.book.specs.Early.{figureOf}
 use Rattle.book.specs.declared.Book.{Book}
+use Rattle.book.specs.declared.Rule.{Rule}
 use Rattle.promises.specs.Runs.{SizedPlan, runOf, Running, startOf}
 use Rattle.promises.specs.Says.{codesOf}
 use Rattle.promises.specs.Edition1.{NoReady, plainOpening, plainIsSound, plainReport, plainDrop, plainFigure, plainBookAfter, withReady, sevenReading, sevenAccepted, sevenText}
@@ -49,7 +50,7 @@ pub text-unmoved : (plan : Plan) → plan .edition ≡ 1 → textOf plan ≡ sev
 text-unmoved = value.text-seven
 
 -- the opened book, or 9
-pub opening-unmoved : (plan : Plan) → NoReady plan → openingOf plan ≡ plainOpening plan
+pub opening-unmoved : (plan : Plan) (rule : Rule) → NoReady plan → openingOf plan rule ≡ plainOpening plan rule
 opening-unmoved = unmoved.opening-unmoved
 
 module _ (book : Book) (none : NoReady (planIn book)) where
@@ -74,8 +75,8 @@ module _ (book : Book) (none : NoReady (planIn book)) where
 
 -- the book after any reports and drops
 pub run-unmoved :
-    (plan : Plan) → SizedPlan plan → isAccepted plan ≡ true → NoReady plan → (events : List Event)
-    → runOf plan events ≡ plainBookAfter (plainOpening plan .book) events
+    (plan : Plan) (rule : Rule) → SizedPlan plan → isAccepted plan ≡ true → NoReady plan → (events : List Event)
+    → runOf plan rule events ≡ plainBookAfter (plainOpening plan rule .book) events
 run-unmoved = unmoved.run-unmoved
 
 -- the codes 10 to 15 and 19 look at no ready tick: they are the same over any others

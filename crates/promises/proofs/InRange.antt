@@ -30,7 +30,7 @@ module _ (book : Book) (g : Good book) where
   limit-in-range : (k : ℕ) → k < book .tasks → Running book k → limitOf book k ≤ 1000000
   limit-in-range k l m =
       let early =
-      order.never-late (planView book) (bookView book) (facts .sound) (plan-lawful (planIn book) (facts .accepted)) k l
+      order.never-late (planView book) (bookView book) (facts .sound) (plan-lawful (planIn book) (facts .accepted) (book .rule)) k l
       (λ z. omega (arith, m, z)) in
       let t = plan .task k l in
       omega (arith, early, t .lasts, t .by-most)

@@ -33,7 +33,7 @@ first-run plan ok i j k lj lk same sooner waits =
     ⊎-elim
     (λ w. let f = leb-true (at (plan .finish) k) (at (plan .begin) j) w in omega (arith, f, lasts, waits))
     (λ w. let f = leb-true (at (plan .finish) j) (at (plan .begin) k) w in absurd (omega (arith, f, lasts, sooner)))
-    (plan-turns plan ok j k lj lk (λ e. differ e) (sym same))
+    (plan-turns 0 plan ok j k lj lk (λ e. differ e) (sym same))
   where
     differ : j ≡ k → ⊥
     differ e = let q : at (plan .begin) k < at (plan .begin) k = rw e at sooner in omega (arith, q)

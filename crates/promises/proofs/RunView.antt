@@ -18,18 +18,19 @@ use Rattle.plan.specs.Value.{at, isAccepted}
 use Rattle.plan.specs.declared.Plan.{Plan}
 use Rattle.book.specs.View.{planIn, planView, bookView}
 use Rattle.book.specs.Sound.{isSound}
-use Rattle.book.specs.Open.{openedOn, openingOf}
+use Rattle.book.specs.Open.{ruleNumber, openedOn, openingOf}
 use Rattle.book.specs.Report.{codeOf, reportAnswer, reportedOf}
 use Rattle.book.specs.Drop.{dropCodeOf, dropAnswer, droppedOf}
 use Rattle.book.specs.Event.{answerTo, bookTold}
 use Rattle.book.specs.declared.Book.{Book}
 use Rattle.book.specs.declared.Opening.{Opening}
+use Rattle.book.specs.declared.Rule.{Rule}
 use Rattle.view.specs.View.{planFor}
 use Rattle.view.proofs.Accepted.{plan-lawful}
-use Rattle.book.proofs.Sizes.{SizedPlan, Sized, sized-opened, plan-opened}
+use Rattle.book.proofs.Sizes.{SizedPlan, Sized, sized-opened, plan-opened, rule-opened}
 use Rattle.book.proofs.Soundness.{SoundFacts, is-sound-facts, opened-is-sound}
 use Rattle.book.proofs.ReportLaws.{code-zero, drop-zero}
-use Rattle.book.proofs.Reports.{codeIn, theoryTask, theoryEvent, code-seen-by, event-plan, event-sized, event-sound, event-view}
+use Rattle.book.proofs.Reports.{codeIn, theoryTask, theoryEvent, code-seen-by, event-plan, event-rule, event-sized, event-sound, event-view}
 use Rattle.promises.specs.Runs.{openedBook, bookAfter, acceptedOf, SameEvents}
 
 -- a sound book whose arrays have their lengths
@@ -58,6 +59,11 @@ unfolding bookAfter
 plan-run book [] g = refl
 plan-run book (e ∷ es) g = plan-run (bookTold book e) es (good-event book e g) ∙ event-plan book (g .sound) e
 
+pub rule-run : (book : Book) (es : List Event) → Good book → (bookAfter book es) .rule ≡ book .rule
+unfolding bookAfter
+rule-run book [] g = refl
+rule-run book (e ∷ es) g = rule-run (bookTold book e) es (good-event book e g) ∙ event-rule book (g .sound) e
+
 pub view-run :
     (book : Book) (es : List Event) → Good book
     → bookView (bookAfter book es) ≡ run (planView book) (bookView book) (map (theoryEvent (book .tasks)) es)
@@ -66,7 +72,7 @@ view-run book [] g = refl
 view-run book (e ∷ es) g =
     let c = bookTold book e in
     view-run c es (good-event book e g)
-    ∙ ap (λ (p : Plan). run (planFor p) (bookView c) (map (theoryEvent (p .tasks)) es)) (event-plan book (g .sound) e)
+    ∙ (let p = event-plan book (g .sound) e in let r = event-rule book (g .sound) e in λ i. run (planFor (r i) (p i)) (bookView c) (map (theoryEvent (p i .tasks)) es))
     ∙ ap (λ (b : theory-book.Book). run (planView book) b (map (theoryEvent (book .tasks)) es))
     (event-view book (g .sound) e)
 
@@ -129,7 +135,7 @@ accepted-seen book (e ∷ es) g =
     let c = bookTold book e in
     let later =
     accepted-seen c es (good-event book e g)
-    ∙ ap (λ (p : Plan). map named (accepted (planFor p) (bookView c) (map (theoryEvent (p .tasks)) es))) (event-plan book (g .sound) e)
+    ∙ (let p = event-plan book (g .sound) e in let r = event-rule book (g .sound) e in λ i. map named (accepted (planFor (r i) (p i)) (bookView c) (map (theoryEvent (p i .tasks)) es)))
     ∙ ap (λ (b : theory-book.Book). map named (accepted (planView book) b (map (theoryEvent (book .tasks)) es)))
     (event-view book (g .sound) e) in
     by-eq (codeIn book e) 0
@@ -141,15 +147,16 @@ accepted-seen book (e ∷ es) g =
     λ z. n (code-seen-by book e ∙ z) in
     rw (granted-seen book (g .sound) e, ne-eqb _ 0 code) later)
 
--- a book is its plan and what is seen of it
+-- a book is its plan, its rule and what is seen of it
 pub book-path :
-    (book other : Book) → Sized book → Sized other → planIn book ≡ planIn other → bookView book ≡ bookView other
-    → book ≡ other
-book-path book other s t p v =
+    (book other : Book) → Sized book → Sized other → planIn book ≡ planIn other → book .rule ≡ other .rule
+    → bookView book ≡ bookView other → book ≡ other
+book-path book other s t p r v =
     λ i. record {
       edition = p i .edition;
       boards = p i .boards;
       tasks = p i .tasks;
+      rule = r i;
       clock = v i .clock;
       board = p i .board;
       ready = p i .ready;
@@ -194,9 +201,9 @@ pub same-after :
     → bookAfter book es ≡ bookAfter book fs
 same-after book es fs g same =
     book-path (bookAfter book es) (bookAfter book fs) (good-run book es g .sized) (good-run book fs g .sized)
-    (plan-run book es g ∙ sym (plan-run book fs g))
+    (plan-run book es g ∙ sym (plan-run book fs g)) (rule-run book es g ∙ sym (rule-run book fs g))
     (view-run book es g
-    ∙ same-book (planView book) (bookView book) (plan-lawful (planIn book) (facts .accepted)) (facts .sound)
+    ∙ same-book (planView book) (bookView book) (plan-lawful (planIn book) (facts .accepted) (book .rule)) (facts .sound)
     (map (theoryEvent (book .tasks)) es) (map (theoryEvent (book .tasks)) fs)
     (λ e. (one es fs (λ x. same x .0) e, one fs es (λ x. same x .1) e))
     ∙ sym (view-run book fs g))
@@ -211,17 +218,20 @@ same-after book es fs g same =
     one xs ys f e m =
         mem-back _ (rw (accepted-seen book ys g) at (f (named e) (rw (accepted-seen book xs g) (mem-named m))))
 
--- the book opened on an accepted plan
-module _ (plan : Plan) (ok : isAccepted plan ≡ true) where
-  pub opening-is : openingOf plan ≡ record { answer = granted; book = openedOn plan }
+-- the book opened on an accepted plan by a rule
+module _ (plan : Plan) (rule : Rule) (ok : isAccepted plan ≡ true) where
+  pub opening-is : openingOf plan rule ≡ record { answer = granted; book = openedOn plan rule }
   unfolding openingOf
   opening-is = rw ok
 
-  pub opened-is : openedBook plan ≡ openedOn plan
+  pub opened-is : openedBook plan rule ≡ openedOn plan rule
   opened-is = ap (λ (x : Opening). x .book) opening-is
 
-  pub opened-plan : planIn (openedBook plan) ≡ plan
-  opened-plan = ap (λ (b : Book). planIn b) opened-is ∙ plan-opened plan
+  pub opened-plan : planIn (openedBook plan rule) ≡ plan
+  opened-plan = ap (λ (b : Book). planIn b) opened-is ∙ plan-opened plan rule
 
-  pub opened-good : SizedPlan plan → Good (openedBook plan)
-  opened-good s = rw opened-is (record { sized = sized-opened plan s; sound = opened-is-sound plan ok })
+  pub opened-rule : (openedBook plan rule) .rule ≡ ruleNumber rule
+  opened-rule = ap (λ (b : Book). b .rule) opened-is ∙ rule-opened plan rule
+
+  pub opened-good : SizedPlan plan → Good (openedBook plan rule)
+  opened-good s = rw opened-is (record { sized = sized-opened plan rule s; sound = opened-is-sound plan rule ok })

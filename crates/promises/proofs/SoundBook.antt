@@ -4,8 +4,8 @@ use native.Mathlib.Omega.{arith}
 use mathlib.Core.Bool.{true}
 use mathlib.Core.List.{List, map}
 use mathlib.Core.Path.{_≡_, ap, subst, _∙_}
-use mathlib.Core.Logic.{_↔_, _⊎_, inl, inr, ⊎-elim}
-use borrow.Author.Tests.{ne-eqb, le-leb, leb-true}
+use mathlib.Core.Logic.{_↔_, _⊎_}
+use borrow.Author.Tests.{ne-eqb}
 use Rattle.laws.proofs.Latest.{latest-over, latest-met, latest-none}
 use Rattle.theory.specs.Plan as theory-plan
 use Rattle.theory.specs.Book as theory-book
@@ -51,38 +51,31 @@ module _ (book : Book) where
   -- what due says
   pub due-over : (i j : ℕ) → j < book .tasks → WaitsFor book i j → endOf book j ≤ dueOf book i
   due-over i j l w =
-      latest-over (book .tasks) (planView book .waits i) (at (book .end)) j l
-      (le-leb (at (book .finish) j) (at (book .begin) i) w)
+      latest-over (book .tasks) (planView book .waits i) (at (book .end)) j l w
 
   pub due-met :
       (i : ℕ) → (dueOf book i ≡ 0) ⊎ ((j : ℕ) × (j < book .tasks) × WaitsFor book i j × (endOf book j ≡ dueOf book i))
   due-met i =
-      ⊎-elim (λ z. inl z) (λ r. inr (r .0, r .1, leb-true (at (book .finish) (r .0)) (at (book .begin) i) (r .2), r .3))
-      (latest-met (book .tasks) (planView book .waits i) (at (book .end)))
+      latest-met (book .tasks) (planView book .waits i) (at (book .end))
 
   pub due-none : (i : ℕ) → ((j : ℕ) → j < book .tasks → WaitsFor book i j → ⊥) → dueOf book i ≡ 0
   due-none i none =
       latest-none (book .tasks) (planView book .waits i) (at (book .end))
-      (λ j l w. absurd (none j l (leb-true (at (book .finish) j) (at (book .begin) i) w)))
+      (λ j l w. absurd (none j l w))
 
 module _ (book : Book) (g : Good book) where
   pub facts : SoundFacts book
   facts = is-sound-facts book .0 (g .sound)
 
   pub lawful : theory-plan.Lawful (planView book)
-  lawful = plan-lawful (planIn book) (facts .accepted)
+  lawful = plan-lawful (planIn book) (facts .accepted) (book .rule)
 
   pub few : book .tasks ≤ 64
   few = plan-facts (planIn book) (facts .accepted) .tasks-to
 
   -- all it waits for have ended, as a test and as a fact
   pub all-ended : (i : ℕ) → (theory-book.allEnded (planView book) (at (book .mark)) i ≡ true) ↔ AllEnded book i
-  all-ended i = (
-    λ h j l w. all-ended-at (planView book) (at (book .mark)) i h j l (le-leb (at (book .finish) j) (at (book .begin) i) w),
-    λ f.
-        all-ended-of (planView book) (at (book .mark)) i
-        (λ j l w. f j l (leb-true (at (book .finish) j) (at (book .begin) i) w)),
-  )
+  all-ended i = (all-ended-at (planView book) (at (book .mark)) i, all-ended-of (planView book) (at (book .mark)) i)
 
   -- a start is the later of its ready tick and what is due; a dropped task's ready tick is ignored
   pub start-due : (i : ℕ) → i < book .tasks → Started book i → (Dropped book i → ⊥) → startOf book i ≡ startDueOf book i
@@ -106,7 +99,7 @@ module _ (book : Book) (g : Good book) where
   pub waiting-for : (i : ℕ) → i < book .tasks → Waiting book i → (j : ℕ) × (j < book .tasks) × WaitsFor book i j × (Ended book j → ⊥)
   waiting-for i l z =
       let b = waiting-why (facts .sound .task i l) z in
-      (b .who, b .task, leb-true (at (book .finish) (b .who)) (at (book .begin) i) (b .held), b .still)
+      (b .who, b .task, b .held, b .still)
 
   pub started-free : (i : ℕ) → i < book .tasks → Started book i ↔ AllEnded book i
   started-free i l = (

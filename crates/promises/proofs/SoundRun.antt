@@ -1,9 +1,9 @@
 -- What holds of every book that reports and drops leave on one plan, and that sound books are these.
-use Prim.Native.Nat.{ℕ, _≤_, _<_}
+use Prim.Native.Nat.{ℕ, zero, suc, _≤_, _<_}
 use native.Mathlib.Omega.{arith}
 use mathlib.Core.Bool.{true}
 use mathlib.Core.List.{List, _++_, map}
-use mathlib.Core.Path.{_≡_, sym, ap, subst, _∙_}
+use mathlib.Core.Path.{_≡_, refl, sym, ap, subst, _∙_}
 use mathlib.Core.Logic.{_≢_, _↔_, _⊎_, inl, inr, ⊎-elim}
 use borrow.Author.Tests.{leb-true}
 use Rattle.theory.specs.Plan as theory-plan
@@ -23,47 +23,57 @@ use Rattle.plan.specs.declared.Plan.{Plan}
 use Rattle.book.specs.View.{planIn, planView, bookView}
 use Rattle.book.specs.Sound.{isSound}
 use Rattle.book.specs.Early.{figureOf}
+use Rattle.book.specs.Open.{ruleNumber}
 use Rattle.book.specs.declared.Book.{Book}
-use Rattle.view.specs.View.{planFor}
+use Rattle.book.specs.declared.Rule.{Rule}
+use Rattle.book.specs.declared.Rule.the-variants.{EarlyStart, Clash}
+use Rattle.view.specs.View.{isRule, planFor}
 use Rattle.view.proofs.Accepted.{plan-facts, plan-lawful, clash-waits}
 use Rattle.book.specs.Sized.{SizedPlan}
 use Rattle.book.proofs.Views.{view-opened}
 use Rattle.book.proofs.Reports.{theoryEvent}
 use Rattle.promises.specs.Runs.{openedBook, bookAfter, Running, Ended, Started, Dropped, startOf, NotBegun, WaitsFor, InOrder, EarlyBy, runOf, AllInRange, Reached}
 use Rattle.promises.proofs.InRange.{accepted-in-range}
-use Rattle.promises.proofs.RunView.{Good, named, good-run, plan-run, view-run, after-append, book-path, opened-is, opened-plan, opened-good}
+use Rattle.promises.proofs.RunView.{Good, named, good-run, plan-run, rule-run, view-run, after-append, book-path, opened-is, opened-plan, opened-rule, opened-good}
 use Rattle.promises.proofs.SoundBook.{view-named, accepted-named, due-none, facts, lawful, start-due, started-free}
 
 -- a book on an accepted plan after any reports and drops
-pub record OnPlan (plan : Plan) (book : Book) : Type 0 where
+pub record OnPlan (plan : Plan) (rule : Rule) (book : Book) : Type 0 where
   pub good : Good book
   pub same : planIn book ≡ plan
+  pub by : book .rule ≡ ruleNumber rule
 
-module _ (plan : Plan) (size : SizedPlan plan) (ok : isAccepted plan ≡ true) where
-  pub on-run : (reports : List Event) → OnPlan plan (runOf plan reports)
+module _ (plan : Plan) (rule : Rule) (size : SizedPlan plan) (ok : isAccepted plan ≡ true) where
+  abbrev seen-plan : theory-plan.Plan
+  seen-plan = planFor (ruleNumber rule) plan
+
+  pub on-run : (reports : List Event) → OnPlan plan rule (runOf plan rule reports)
   on-run reports =
-      let g = opened-good plan ok size in
-      record { good = good-run _ reports g; same = plan-run _ reports g ∙ opened-plan plan ok }
+      let g = opened-good plan rule ok size in
+      record { good = good-run _ reports g; same = plan-run _ reports g ∙ opened-plan plan rule ok; by = rule-run _ reports g ∙ opened-rule plan rule ok }
 
-  law : theory-plan.Lawful (planFor plan)
-  law = plan-lawful plan ok
+  law : theory-plan.Lawful seen-plan
+  law = plan-lawful plan ok (ruleNumber rule)
 
-  module _ (book : Book) (on : OnPlan plan book) where
-    sound-on : Sound (planFor plan) (bookView book)
-    sound-on = subst (λ (p : Plan). Sound (planFor p) (bookView book)) (on .same) (facts book (on .good) .sound)
+  module _ (book : Book) (on : OnPlan plan rule book) where
+    view-is : planView book ≡ seen-plan
+    view-is = λ i. planFor (on .by i) (on .same i)
 
-    in-order : (a b : ℕ) → a < plan .tasks → b < plan .tasks → (planFor plan) .waits b a ≡ true → InOrder plan book a b
+    sound-on : Sound seen-plan (bookView book)
+    sound-on = subst (λ (p : theory-plan.Plan). Sound p (bookView book)) view-is (facts book (on .good) .sound)
+
+    in-order : (a b : ℕ) → a < plan .tasks → b < plan .tasks → seen-plan .waits b a ≡ true → InOrder plan book a b
     in-order a b la lb w = record {
-      planned = leb-true (at (plan .finish) a) (at (plan .begin) b) w;
-      over = λ n. order.in-order (planFor plan) (bookView book) sound-on b a lb la w n .0;
-      after = λ n. order.in-order (planFor plan) (bookView book) sound-on b a lb la w n .1;
+      planned = law .before b a lb la w;
+      over = λ n. order.in-order seen-plan (bookView book) sound-on b a lb la w n .0;
+      after = λ n. order.in-order seen-plan (bookView book) sound-on b a lb la w n .1;
     }
 
     pub clash-order :
         (a b : ℕ) → a < plan .tasks → b < plan .tasks → a ≢ b → clash (taskAt plan) a b ≡ true
         → InOrder plan book a b ⊎ InOrder plan book b a
     clash-order a b la lb n h =
-        ⊎-elim (λ w. inr (in-order b a lb la w)) (λ w. inl (in-order a b la lb w)) (clash-waits plan ok a b la lb n h)
+        ⊎-elim (λ w. inr (in-order b a lb la w)) (λ w. inl (in-order a b la lb w)) (clash-waits plan ok (ruleNumber rule) a b la lb n h)
 
     pub never-both :
         (a b : ℕ) → a < plan .tasks → b < plan .tasks → a ≢ b → clash (taskAt plan) a b ≡ true → Running book a → Running book b
@@ -73,31 +83,31 @@ module _ (plan : Plan) (size : SizedPlan plan) (ok : isAccepted plan ≡ true) w
         (clash-order a b la lb n h)
 
     pub not-late : (i : ℕ) → i < plan .tasks → Started book i → startOf book i ≤ at (plan .begin) i
-    not-late = order.never-late (planFor plan) (bookView book) sound-on law
+    not-late = order.never-late seen-plan (bookView book) sound-on law
 
     -- nobody starts before its ready tick unless dropped
     pub not-unready : (i : ℕ) → i < plan .tasks → Started book i → (Dropped book i → ⊥) → at (plan .ready) i ≤ startOf book i
-    not-unready = order.never-unready (planFor plan) (bookView book) sound-on
+    not-unready = order.never-unready seen-plan (bookView book) sound-on
 
-    figure-is : figureOf book .early ≡ minimumEarly (planFor plan) (bookView book)
+    figure-is : figureOf book .early ≡ minimumEarly seen-plan (bookView book)
     unfolding figureOf
     figure-is =
         let e : figureOf book .early ≡ minimumEarly (planView book) (bookView book) = rw (on .good .sound) in
-        e ∙ ap (λ (p : Plan). minimumEarly (planFor p) (bookView book)) (on .same)
+        e ∙ ap (λ (p : theory-plan.Plan). minimumEarly p (bookView book)) view-is
 
     later-is :
         (later : List Event)
-        → bookView (bookAfter book later) ≡ run (planFor plan) (bookView book) (map (theoryEvent (plan .tasks)) later)
+        → bookView (bookAfter book later) ≡ run seen-plan (bookView book) (map (theoryEvent (plan .tasks)) later)
     later-is later =
         view-run book later (on .good)
-        ∙ ap (λ (p : Plan). run (planFor p) (bookView book) (map (theoryEvent (p .tasks)) later)) (on .same)
+        ∙ ap (λ (p : theory-plan.Plan). run p (bookView book) (map (theoryEvent (p .tasks)) later)) view-is
 
     abbrev laterSeen : List Event → theory-book.Book
-    laterSeen later = run (planFor plan) (bookView book) (map (theoryEvent (plan .tasks)) later)
+    laterSeen later = run seen-plan (bookView book) (map (theoryEvent (plan .tasks)) later)
 
     early-said :
         (later : List Event) (i : ℕ)
-        → kept.EarlyBy (planFor plan) (minimumEarly (planFor plan) (bookView book)) (laterSeen later) i
+        → kept.EarlyBy seen-plan (minimumEarly seen-plan (bookView book)) (laterSeen later) i
         → EarlyBy plan (figureOf book .early) (bookAfter book later) i
     early-said later i f =
         let m = ap (λ (b : theory-book.Book). b .mark i) (later-is later) in
@@ -113,79 +123,79 @@ module _ (plan : Plan) (size : SizedPlan plan) (ok : isAccepted plan ≡ true) w
         (later : List Event) (i : ℕ) → i < plan .tasks → (Ended book i → ⊥)
         → EarlyBy plan (figureOf book .early) (bookAfter book later) i
     early-kept later i l n =
-        early-said later i (kept.figure-kept (planFor plan) law (bookView book) sound-on (map (theoryEvent (plan .tasks)) later) i l n)
+        early-said later i (kept.figure-kept seen-plan law (bookView book) sound-on (map (theoryEvent (plan .tasks)) later) i l n)
 
     -- a start that is not known or lies past the clock
     pub unbegun-kept :
         (later : List Event) (i : ℕ) → i < plan .tasks → NotBegun book i
         → EarlyBy plan (figureOf book .early) (bookAfter book later) i
     unbegun-kept later i l n =
-        early-said later i (kept.begins-early (planFor plan) law (bookView book) sound-on (map (theoryEvent (plan .tasks)) later) i l n)
+        early-said later i (kept.begins-early seen-plan law (bookView book) sound-on (map (theoryEvent (plan .tasks)) later) i l n)
 
 pub kept-run :
-    (plan : Plan) → SizedPlan plan → isAccepted plan ≡ true → (reports later : List Event) (i : ℕ) → i < plan .tasks
-    → (Ended (runOf plan reports) i → ⊥) → EarlyBy plan (figureOf (runOf plan reports) .early) (runOf plan (reports ++ later)) i
-kept-run plan size ok reports later i l n =
-    rw (after-append (openedBook plan) reports later)
-    (early-kept plan size ok (runOf plan reports) (on-run plan size ok reports) later i l n)
+    (plan : Plan) (rule : Rule) → SizedPlan plan → isAccepted plan ≡ true → (reports later : List Event) (i : ℕ) → i < plan .tasks
+    → (Ended (runOf plan rule reports) i → ⊥) → EarlyBy plan (figureOf (runOf plan rule reports) .early) (runOf plan rule (reports ++ later)) i
+kept-run plan rule size ok reports later i l n =
+    rw (after-append (openedBook plan rule) reports later)
+    (early-kept plan rule size ok (runOf plan rule reports) (on-run plan rule size ok reports) later i l n)
 
 pub kept-unbegun :
-    (plan : Plan) → SizedPlan plan → isAccepted plan ≡ true → (reports later : List Event) (i : ℕ) → i < plan .tasks
-    → NotBegun (runOf plan reports) i → EarlyBy plan (figureOf (runOf plan reports) .early) (runOf plan (reports ++ later)) i
-kept-unbegun plan size ok reports later i l n =
-    rw (after-append (openedBook plan) reports later)
-    (unbegun-kept plan size ok (runOf plan reports) (on-run plan size ok reports) later i l n)
+    (plan : Plan) (rule : Rule) → SizedPlan plan → isAccepted plan ≡ true → (reports later : List Event) (i : ℕ) → i < plan .tasks
+    → NotBegun (runOf plan rule reports) i → EarlyBy plan (figureOf (runOf plan rule reports) .early) (runOf plan rule (reports ++ later)) i
+kept-unbegun plan rule size ok reports later i l n =
+    rw (after-append (openedBook plan rule) reports later)
+    (unbegun-kept plan rule size ok (runOf plan rule reports) (on-run plan rule size ok reports) later i l n)
 
 -- opening
-module _ (plan : Plan) (size : SizedPlan plan) (ok : isAccepted plan ≡ true) where
-  nobody-ended : (j : ℕ) → j < openedBook plan .tasks → Ended (openedBook plan) j → ⊥
+module _ (plan : Plan) (rule : Rule) (size : SizedPlan plan) (ok : isAccepted plan ≡ true) where
+  nobody-ended : (j : ℕ) → j < openedBook plan rule .tasks → Ended (openedBook plan rule) j → ⊥
   nobody-ended j l h =
-      let view = ap (λ (b : Book). bookView b) (opened-is plan ok) ∙ view-opened plan (plan-facts plan ok .tasks-to) in
-      let t : openedBook plan .tasks ≡ plan .tasks = ap (λ (p : Plan). p .tasks) (opened-plan plan ok) in
-      opened-none (planFor plan) j (omega arith) (sym (ap (λ (b : theory-book.Book). b .mark j) view) ∙ h)
+      let view = ap (λ (b : Book). bookView b) (opened-is plan rule ok) ∙ view-opened plan rule (plan-facts plan ok .tasks-to) in
+      let t : openedBook plan rule .tasks ≡ plan .tasks = ap (λ (p : Plan). p .tasks) (opened-plan plan rule ok) in
+      opened-none (planFor (ruleNumber rule) plan) j (omega arith) (sym (ap (λ (b : theory-book.Book). b .mark j) view) ∙ h)
 
   -- and nobody is dropped
-  undropped : (i : ℕ) → Dropped (openedBook plan) i → ⊥
+  undropped : (i : ℕ) → Dropped (openedBook plan rule) i → ⊥
   unfolding theory-report.opened
   undropped i d =
-      let view = ap (λ (b : Book). bookView b) (opened-is plan ok) ∙ view-opened plan (plan-facts plan ok .tasks-to) in
-      let z : at (openedBook plan .dropped) i ≡ 0 = ap (λ (b : theory-book.Book). b .dropped i) view in
+      let view = ap (λ (b : Book). bookView b) (opened-is plan rule ok) ∙ view-opened plan rule (plan-facts plan ok .tasks-to) in
+      let z : at (openedBook plan rule .dropped) i ≡ 0 = ap (λ (b : theory-book.Book). b .dropped i) view in
       omega arith
 
   pub opened-starts :
-      (i : ℕ) → i < openedBook plan .tasks
-      → (Started (openedBook plan) i ↔ ((j : ℕ) → j < openedBook plan .tasks → WaitsFor (openedBook plan) i j → ⊥))
-      × (Started (openedBook plan) i → startOf (openedBook plan) i ≡ at (plan .ready) i)
+      (i : ℕ) → i < openedBook plan rule .tasks
+      → (Started (openedBook plan rule) i ↔ ((j : ℕ) → j < openedBook plan rule .tasks → WaitsFor (openedBook plan rule) i j → ⊥))
+      × (Started (openedBook plan rule) i → startOf (openedBook plan rule) i ≡ at (plan .ready) i)
   opened-starts i l =
-      let g = opened-good plan ok size in
-      let f = started-free (openedBook plan) g i l in
-      let none : Started (openedBook plan) i → (j : ℕ) → j < openedBook plan .tasks → WaitsFor (openedBook plan) i j → ⊥ =
+      let g = opened-good plan rule ok size in
+      let f = started-free (openedBook plan rule) g i l in
+      let none : Started (openedBook plan rule) i → (j : ℕ) → j < openedBook plan rule .tasks → WaitsFor (openedBook plan rule) i j → ⊥ =
       λ n j lj w. nobody-ended j lj (f .0 n j lj w) in
-      let ready = ap (λ (p : Plan). at (p .ready) i) (opened-plan plan ok) in (
+      let ready = ap (λ (p : Plan). at (p .ready) i) (opened-plan plan rule ok) in (
         (none, λ h. f .1 (λ j lj w. absurd (h j lj w))),
         λ n.
-            let d = due-none (openedBook plan) i (none n) in
-            let s = start-due (openedBook plan) g i l n (undropped i) in
+            let d = due-none (openedBook plan rule) i (none n) in
+            let s = start-due (openedBook plan rule) g i l n (undropped i) in
             omega arith,
       )
 
 -- what is seen of the opened book is the theory's
-module _ (plan : Plan) (size : SizedPlan plan) (ok : isAccepted plan ≡ true) where
-  opened-seen : bookView (openedBook plan) ≡ theory-report.opened (planFor plan)
-  opened-seen = ap (λ (b : Book). bookView b) (opened-is plan ok) ∙ view-opened plan (plan-facts plan ok .tasks-to)
+module _ (plan : Plan) (rule : Rule) (size : SizedPlan plan) (ok : isAccepted plan ≡ true) where
+  opened-seen : bookView (openedBook plan rule) ≡ theory-report.opened (planFor (ruleNumber rule) plan)
+  opened-seen = ap (λ (b : Book). bookView b) (opened-is plan rule ok) ∙ view-opened plan rule (plan-facts plan ok .tasks-to)
 
   module _ (rs : List Event) where
-    seen-run : run (planView (openedBook plan)) (bookView (openedBook plan)) rs ≡ run (planFor plan) (theory-report.opened (planFor plan)) rs
+    seen-run : run (planView (openedBook plan rule)) (bookView (openedBook plan rule)) rs ≡ run (planFor (ruleNumber rule) plan) (theory-report.opened (planFor (ruleNumber rule) plan)) rs
     seen-run =
-        ap (λ (p : Plan). run (planFor p) (bookView (openedBook plan)) rs) (opened-plan plan ok)
-        ∙ ap (λ (b : theory-book.Book). run (planFor plan) b rs) opened-seen
+        (λ i. run (planFor (opened-rule plan rule ok i) (opened-plan plan rule ok i)) (bookView (openedBook plan rule)) rs)
+        ∙ ap (λ (b : theory-book.Book). run (planFor (ruleNumber rule) plan) b rs) opened-seen
 
     seen-accepted :
-        accepted (planFor plan) (theory-report.opened (planFor plan)) rs ≡ rs
-        → accepted (planView (openedBook plan)) (bookView (openedBook plan)) rs ≡ rs
+        accepted (planFor (ruleNumber rule) plan) (theory-report.opened (planFor (ruleNumber rule) plan)) rs ≡ rs
+        → accepted (planView (openedBook plan rule)) (bookView (openedBook plan rule)) rs ≡ rs
     seen-accepted e =
-        ap (λ (p : Plan). accepted (planFor p) (bookView (openedBook plan)) rs) (opened-plan plan ok)
-        ∙ ap (λ (b : theory-book.Book). accepted (planFor plan) b rs) opened-seen
+        (λ i. accepted (planFor (opened-rule plan rule ok i) (opened-plan plan rule ok i)) (bookView (openedBook plan rule)) rs)
+        ∙ ap (λ (b : theory-book.Book). accepted (planFor (ruleNumber rule) plan) b rs) opened-seen
         ∙ e
 
 -- places past the tasks hold nothing, as in the opened book
@@ -200,30 +210,42 @@ past book g =
       drops = λ i l. o .drops i l ∙ sym (p .dropped i l);
     }
 
+-- a rule's number is a rule
+numbered : (n : ℕ) → isRule n ≡ true → (rule : Rule) × (ruleNumber rule ≡ n)
+numbered zero h = (EarlyStart, refl)
+numbered (suc zero) h = (Clash, refl)
+numbered (suc (suc n)) h = absurd (omega (arith, leb-true (suc (suc n)) 1 h))
+
 -- the sound books are those that are reached
 module _ (book : Book) where
   pub reached-sound : Reached book → isSound book ≡ true
-  reached-sound r = rw (← r .leads) (good-run _ (r .events) (opened-good (r .plan) (r .accepted) (r .sized)) .sound)
+  reached-sound r = rw (← r .leads) (good-run _ (r .events) (opened-good (r .plan) (r .rule) (r .accepted) (r .sized)) .sound)
 
   pub sound-reached : Good book → Reached book
   sound-reached g =
       let plan = planIn book in
+      let known = numbered (book .rule) (facts book g .rule) in
+      let rule = known .0 in
       let ok = facts book g .accepted in
       let size = g .sized .plan in
-      let o = opened-good plan ok size in
+      let o = opened-good plan rule ok size in
       let way = reachable (planView book) (lawful book g) (bookView book) .0 (facts book g .sound, past book g) in
       let rs = way .events in
-      let p = opened-plan plan ok in
-      let each = accepted-named (openedBook plan) o rs (seen-accepted plan size ok rs (way .each-accepted)) in
+      let own : planFor (ruleNumber rule) plan ≡ planView book = ap (λ (n : ℕ). planFor n plan) (known .1) in
+      let taken = subst (λ (p : theory-plan.Plan). accepted p (theory-report.opened p) rs ≡ rs) (sym own) (way .each-accepted) in
+      let led = subst (λ (p : theory-plan.Plan). run p (theory-report.opened p) rs ≡ bookView book) (sym own) (way .leads) in
+      let each = accepted-named (openedBook plan rule) o rs (seen-accepted plan rule size ok rs taken) in
       record {
         plan = plan;
+        rule = rule;
         sized = size;
         accepted = ok;
         events = map named rs;
         each-accepted = each;
-        in-range = subst AllInRange each (accepted-in-range (openedBook plan) (map named rs) o);
+        in-range = subst AllInRange each (accepted-in-range (openedBook plan rule) (map named rs) o);
         leads =
-            book-path (runOf plan (map named rs)) book (good-run _ (map named rs) o .sized) (g .sized)
-            (plan-run _ (map named rs) o ∙ p)
-            (view-named (openedBook plan) o rs ∙ seen-run plan size ok rs ∙ way .leads);
+            book-path (runOf plan rule (map named rs)) book (good-run _ (map named rs) o .sized) (g .sized)
+            (plan-run _ (map named rs) o ∙ opened-plan plan rule ok)
+            (rule-run _ (map named rs) o ∙ opened-rule plan rule ok ∙ known .1)
+            (view-named (openedBook plan rule) o rs ∙ seen-run plan rule size ok rs ∙ led);
       }

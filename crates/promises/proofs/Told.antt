@@ -7,7 +7,8 @@ use mathlib.Core.Path.{_≡_, refl, sym, ap, subst, _∙_}
 use mathlib.Core.Logic.{_≢_, _↔_}
 use lib.ListN.{length}
 use lib.Seq.{ext-getD}
-use borrow.Author.Tests.{eq-eqb, ne-eqb, leb-true}
+use borrow.Author.Tests.{eq-eqb, ne-eqb}
+use Rattle.theory.specs.Plan as theory-plan
 use Rattle.theory.specs.Book as theory-book
 use Rattle.theory.specs.Report as theory-report
 use Rattle.theory.specs.Events.{Event, Accepts}
@@ -20,7 +21,6 @@ use Rattle.theory.proofs.Order as order
 use Rattle.theory.proofs.Reach.{drop-waits}
 use Rattle.plan.specs.Value.{at}
 use Rattle.plan.specs.declared.Answer.{Answer}
-use Rattle.plan.specs.declared.Plan.{Plan}
 use Rattle.book.specs.View.{planView, bookView}
 use Rattle.book.specs.Sized.{Sized}
 use Rattle.book.specs.Sound.{isSound}
@@ -31,7 +31,7 @@ use Rattle.book.specs.declared.Book.{Book}
 use Rattle.book.specs.declared.Reported.{Reported}
 use Rattle.view.specs.View.{planFor}
 use Rattle.book.proofs.ReportLaws.{code-zero, drop-zero}
-use Rattle.book.proofs.Reports.{codeIn, theoryTask, theoryEvent, code-seen-by, event-plan, event-view}
+use Rattle.book.proofs.Reports.{codeIn, theoryTask, theoryEvent, code-seen-by, event-plan, event-rule, event-view}
 use Rattle.promises.specs.Runs.{Waiting, Ended, Started, Dropped, startOf, endOf, WaitsFor, StartsExactly}
 use Rattle.promises.specs.Says.{ReportSays}
 use Rattle.promises.proofs.RunView.{Good, good-event, answer-code}
@@ -74,8 +74,8 @@ module _ (book : Book) (g : Good book) (task tick : ℕ) (z : codeOf book task t
   exact-after i l w =
       let f = order.start-exact (planView book) (bookView book) (task - 1) tick ok (facts book g .sound) i l w in
       let f′ : order.StartsExactly (planView book) tick (bookView (reportedOf book task tick .book)) i = rw seen-after f in
-      subst (λ (p : Plan). order.StartsExactly (planFor p) tick (bookView (reportedOf book task tick .book)) i)
-      (sym (event-plan book (g .sound) (Event.ends task tick))) f′
+      subst (λ (p : theory-plan.Plan). order.StartsExactly p tick (bookView (reportedOf book task tick .book)) i)
+      (λ k. planFor (sym (event-rule book (g .sound) (Event.ends task tick)) k) (sym (event-plan book (g .sound) (Event.ends task tick)) k)) f′
 
   pub report-starts : (i : ℕ) → i < book .tasks → Waiting book i → StartsExactly tick (reportedOf book task tick .book) i
   report-starts i l w =
@@ -186,4 +186,4 @@ pub dropped-waits :
     (book : Book) (g : Good book) (i : ℕ) → i < book .tasks → Dropped book i → (j : ℕ) × (j < book .tasks) × WaitsFor book i j
 dropped-waits book g i l d =
     let w = drop-waits (facts book g .sound .task i l) d in
-    (w .who, w .task, leb-true (at (book .finish) (w .who)) (at (book .begin) i) (w .held))
+    (w .who, w .task, w .held)

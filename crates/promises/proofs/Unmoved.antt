@@ -20,12 +20,12 @@ use Rattle.plan.specs.declared.Plan.{Plan}
 use Rattle.plan.proofs.Judged.{accepted-ranges}
 use Rattle.plan.proofs.PlanTasks.{ranges-kept, task-kept}
 use Rattle.plan.proofs.ReadOk.{read-answer, read-plan, read-accepted}
-use Rattle.view.specs.View.{planFor}
+use Rattle.view.specs.View.{isRule, planFor}
 use Rattle.view.proofs.Accepted.{plan-lawful}
 use Rattle.sound.specs.Sound.{nothingPast, soundOn}
 use Rattle.book.specs.View.{planIn, planView, bookView, layOut}
 use Rattle.book.specs.Sound.{isSound}
-use Rattle.book.specs.Open.{blankBook, openedOn, openingOf}
+use Rattle.book.specs.Open.{ruleNumber, blankBook, openedOn, openingOf}
 use Rattle.book.specs.Report.{codeOf, reportAnswer, nextBook, reportedOf}
 use Rattle.book.specs.Drop.{dropCodeOf, dropAnswer, droppedIn, droppedOf}
 use Rattle.book.specs.Early.{figureOf}
@@ -33,6 +33,7 @@ use Rattle.book.specs.Event.{bookTold}
 use Rattle.book.specs.Sized.{SizedPlan}
 use Rattle.book.specs.declared.Book.{Book}
 use Rattle.book.specs.declared.Opening.{Opening}
+use Rattle.book.specs.declared.Rule.{Rule}
 use Rattle.book.specs.declared.Reported.{Reported}
 use Rattle.book.specs.declared.Dropped.{Dropped}
 use Rattle.book.proofs.Reports.{event-plan}
@@ -63,19 +64,19 @@ module _ (text : List ℕ) (z : readingOf text .answer .code ≡ 0) (one : editi
       edition-unready (readingOf text .plan) (read-accepted false text (sym (ap (λ (x : Answer). x .code) (read-answer false text)) ∙ z)) read-edition
 
 -- opening
-pub opening-unmoved : (plan : Plan) → NoReady plan → openingOf plan ≡ plainOpening plan
+pub opening-unmoved : (plan : Plan) (rule : Rule) → NoReady plan → openingOf plan rule ≡ plainOpening plan rule
 unfolding openingOf openedOn
-opening-unmoved plan none =
+opening-unmoved plan rule none =
     ap
-    (λ (b : Book). cond {A = Opening} (isAccepted plan) (record { answer = granted; book = b }) (record { answer = refuse 9 0 0; book = blankBook zeroPlan }))
-    (ap (layOut plan) (opened-plain (planFor plan) none))
+    (λ (b : Book). cond {A = Opening} (isAccepted plan) (record { answer = granted; book = b }) (record { answer = refuse 9 0 0; book = blankBook 0 zeroPlan }))
+    (ap (layOut (ruleNumber rule) plan) (opened-plain (planFor (ruleNumber rule) plan) none))
 
 module _ (book : Book) (none : NoReady (planIn book)) where
   pub sound-unmoved : isSound book ≡ plainIsSound book
   unfolding soundOn
   sound-unmoved =
       ap
-      (λ (b : Bool). isAccepted (planIn book) && (b && nothingPast (book .tasks) (book .mark) (book .start) (book .end) (book .dropped)))
+      (λ (b : Bool). (isAccepted (planIn book) && isRule (book .rule)) && (b && nothingPast (book .tasks) (book .mark) (book .start) (book .end) (book .dropped)))
       (sound-plain (planView book) none (bookView book))
 
   answer-unmoved :
@@ -88,7 +89,7 @@ module _ (book : Book) (none : NoReady (planIn book)) where
   unfolding reportedOf reportAnswer nextBook
   report-unmoved task tick =
       let said = answer-unmoved (codeOf book task tick) task tick in
-      let after = ap (layOut (planIn book)) (next-plain (planView book) none (bookView book) (task - 1) tick) in
+      let after = ap (layOut (book .rule) (planIn book)) (next-plain (planView book) none (bookView book) (task - 1) tick) in
       λ i. record { answer = said i; book = cond (isGranted (said i)) (after i) book }
 
   pub drop-unmoved : (task : ℕ) → droppedOf book task ≡ plainDrop book task
@@ -107,10 +108,10 @@ module _ (book : Book) (none : NoReady (planIn book)) where
 
     -- nobody's start lies past the clock
     pub starts-by-clock : (i : ℕ) → i < book .tasks → Running book i → startOf book i ≤ book .clock
-    starts-by-clock = begun-by (planView book) none (plan-lawful (planIn book) (facts .accepted)) (bookView book) (facts .sound)
+    starts-by-clock = begun-by (planView book) none (plan-lawful (planIn book) (facts .accepted) (book .rule)) (bookView book) (facts .sound)
 
     early-unmoved : minimumEarly (planView book) (bookView book) ≡ plainEarly (planView book) (bookView book)
-    early-unmoved = figure-plain (planView book) none (plan-lawful (planIn book) (facts .accepted)) (bookView book) (facts .sound)
+    early-unmoved = figure-plain (planView book) none (plan-lawful (planIn book) (facts .accepted) (book .rule)) (bookView book) (facts .sound)
 
   pub figure-unmoved : figureOf book ≡ plainFigure book
   unfolding figureOf
@@ -127,11 +128,11 @@ after-unmoved book (event ∷ later) none g =
     ∙ ap (λ (b : Book). plainBookAfter b later) (told-unmoved book none event)
 
 pub run-unmoved :
-    (plan : Plan) → SizedPlan plan → isAccepted plan ≡ true → NoReady plan → (events : List Event)
-    → runOf plan events ≡ plainBookAfter (plainOpening plan .book) events
-run-unmoved plan size ok none events =
-    after-unmoved (openedBook plan) events (subst NoReady (sym (opened-plan plan ok)) none) (opened-good plan ok size)
-    ∙ ap (λ (x : Opening). plainBookAfter (x .book) events) (opening-unmoved plan none)
+    (plan : Plan) (rule : Rule) → SizedPlan plan → isAccepted plan ≡ true → NoReady plan → (events : List Event)
+    → runOf plan rule events ≡ plainBookAfter (plainOpening plan rule .book) events
+run-unmoved plan rule size ok none events =
+    after-unmoved (openedBook plan rule) events (subst NoReady (sym (opened-plan plan rule ok)) none) (opened-good plan rule ok size)
+    ∙ ap (λ (x : Opening). plainBookAfter (x .book) events) (opening-unmoved plan rule none)
 
 -- the codes of reports and drops look at no ready tick
 pub report-code-unready : (book : Book) (ready : List ℕ) (task tick : ℕ) → codeOf (withReady book ready) task tick ≡ codeOf book task tick

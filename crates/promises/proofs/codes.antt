@@ -11,3 +11,4 @@ pub mod Exclusive
 pub mod Conversion
 pub mod Mended
 pub mod ConvertedLog
+pub mod RuleLine

@@ -8,3 +8,4 @@ pub mod Late
 pub mod Columns
 pub mod Ready
 pub mod Shared
+pub mod Clash

@@ -52,6 +52,7 @@ exclusiveBook book = record {
   edition = 2;
   boards = book .boards;
   tasks = book .tasks;
+  rule = book .rule;
   clock = book .clock;
   board = book .board;
   ready = book .ready;

@@ -27,10 +27,10 @@ use Rattle.plan.specs.Read.{ranged, boardsOf, tasksOf, readAs}
 use Rattle.plan.specs.declared.Answer.{Answer}
 use Rattle.plan.specs.declared.Plan.{Plan}
 use Rattle.plan.specs.declared.Reading.{Reading}
-use Rattle.view.specs.View.{planFor}
+use Rattle.view.specs.View.{isRule, planFor}
 use Rattle.sound.specs.Sound.{nothingPast}
 use Rattle.book.specs.View.{planIn, planView, bookView, layOut}
-use Rattle.book.specs.Open.{blankBook}
+use Rattle.book.specs.Open.{ruleNumber, blankBook}
 use Rattle.book.specs.Report.{codeOf}
 use Rattle.book.specs.Drop.{dropCodeOf}
 use Rattle.book.specs.declared.Book.{Book}
@@ -38,6 +38,7 @@ use Rattle.book.specs.declared.Opening.{Opening}
 use Rattle.book.specs.declared.Reported.{Reported}
 use Rattle.book.specs.declared.Dropped.{Dropped}
 use Rattle.book.specs.declared.Figure.{Figure}
+use Rattle.book.specs.declared.Rule.{Rule}
 
 -- every ready tick is 0
 abbrev pub NoReady : Plan → Type 0
@@ -45,14 +46,15 @@ NoReady plan = (i : ℕ) → i < plan .tasks → at (plan .ready) i ≡ 0
 
 -- ---- the rule: `plain` names it (theory/specs/Unready.antt)
 
-abbrev pub plainOpening : Plan → Opening
-plainOpening plan =
-    cond (isAccepted plan) (record { answer = granted; book = layOut plan (plainOpened (planFor plan)) })
-    (record { answer = refuse 9 0 0; book = blankBook zeroPlan })
+abbrev pub plainOpening : Plan → Rule → Opening
+plainOpening plan rule =
+    let number = ruleNumber rule in
+    cond (isAccepted plan) (record { answer = granted; book = layOut number plan (plainOpened (planFor number plan)) })
+    (record { answer = refuse 9 0 0; book = blankBook 0 zeroPlan })
 
 abbrev pub plainIsSound : Book → Bool
 plainIsSound book =
-    isAccepted (planIn book)
+    (isAccepted (planIn book) && isRule (book .rule))
     && (plainSound (planView book) (bookView book)
     && nothingPast (book .tasks) (book .mark) (book .start) (book .end) (book .dropped))
 
@@ -64,13 +66,13 @@ plainAnswer book code first second =
 abbrev pub plainReport : Book → ℕ → ℕ → Reported
 plainReport book task tick =
     let answer = plainAnswer book (codeOf book task tick) task tick in
-    let after = layOut (planIn book) (plainNext (planView book) (bookView book) (task - 1) tick) in
+    let after = layOut (book .rule) (planIn book) (plainNext (planView book) (bookView book) (task - 1) tick) in
     record { answer = answer; book = cond (isGranted answer) after book }
 
 abbrev pub plainDrop : Book → ℕ → Dropped
 plainDrop book task =
     let answer = plainAnswer book (dropCodeOf book task) task 0 in
-    let after = layOut (planIn book) (dropIt (bookView book) (task - 1)) in
+    let after = layOut (book .rule) (planIn book) (dropIt (bookView book) (task - 1)) in
     record { answer = answer; book = cond (isGranted answer) after book }
 
 abbrev pub plainFigure : Book → Figure
@@ -92,6 +94,7 @@ withReady book ready = record {
   edition = book .edition;
   boards = book .boards;
   tasks = book .tasks;
+  rule = book .rule;
   clock = book .clock;
   board = book .board;
   ready = ready;

@@ -15,12 +15,13 @@ use Rattle.book.specs.Open.{openingOf}
 use Rattle.book.specs.Report.{reportedOf}
 use Rattle.book.specs.Event.{answerTo, bookTold}
 use Rattle.book.specs.declared.Book.{Book}
+use Rattle.book.specs.declared.Rule.{Rule}
 -- the arrays have their lengths
 pub use Rattle.book.specs.Sized.{SizedPlan, Sized}
 
--- the book opened on a plan
-abbrev pub openedBook : Plan → Book
-openedBook plan = openingOf plan .book
+-- the book opened on a plan by a rule
+abbrev pub openedBook : Plan → Rule → Book
+openedBook plan rule = openingOf plan rule .book
 
 -- the book that reports and drops leave, refused ones among them
 unfoldable pub bookAfter : Book → List Event → Book
@@ -67,9 +68,9 @@ NotBegun book i = Started book i → book .clock < startOf book i
 abbrev pub limitOf : Book → ℕ → ℕ
 limitOf book i = theory-book.limit (planView book) (bookView book) i
 
--- task i waits for task j
+-- task i waits for task j: j is in its wait set by the book's rule
 abbrev pub WaitsFor : Book → ℕ → ℕ → Type 0
-WaitsFor book i j = at (book .finish) j ≤ at (book .begin) i
+WaitsFor book i j = planView book .waits i j ≡ true
 
 -- the latest of the ends of those it waits for, 0 where it waits for nobody
 abbrev pub dueOf : Book → ℕ → ℕ
@@ -100,8 +101,8 @@ pub data Term (book : Book) (i early : ℕ) : Type 0 where
   not-begun : (Dropped book i → ⊥) → NotBegun book i → early ≡ at (book .begin) i - at (book .ready) i → Term book i early
 
 -- a plan's opened book after reports and drops
-abbrev pub runOf : Plan → List Event → Book
-runOf plan events = bookAfter (openedBook plan) events
+abbrev pub runOf : Plan → Rule → List Event → Book
+runOf plan rule events = bookAfter (openedBook plan rule) events
 
 -- a task that waited starts when all it waits for have ended, at the later of its ready tick and this tick; a dropped one starts
 -- and ends at this tick
@@ -135,12 +136,13 @@ pub record Finishes (book : Book) : Type 0 where
   pub in-range : AllInRange events
   pub all-ended : (i : ℕ) → i < book .tasks → Ended (bookAfter book events) i
 
--- what accepted reports and drops make of an accepted plan's opened book
+-- what accepted reports and drops make of an accepted plan's book, opened by a rule
 pub record Reached (book : Book) : Type 0 where
   pub plan : Plan
+  pub rule : Rule
   pub sized : SizedPlan plan
   pub accepted : isAccepted plan ≡ true
   pub events : List Event
-  pub each-accepted : acceptedOf (openedBook plan) events ≡ events
+  pub each-accepted : acceptedOf (openedBook plan rule) events ≡ events
   pub in-range : AllInRange events
-  pub leads : runOf plan events ≡ book
+  pub leads : runOf plan rule events ≡ book

@@ -24,6 +24,7 @@ use Rattle.book.specs.Open.{blankBook, openedOn}
 use Rattle.book.specs.declared.Book.{Book}
 use Rattle.book.specs.declared.Opening.{Opening}
 use Rattle.book.specs.declared.Reported.{Reported}
+use Rattle.book.specs.declared.Rule.{Rule}
 use Rattle.book.specs.declared.Dropped.{Dropped}
 use Rattle.book.specs.declared.Figure.{Figure}
 use Rattle.laws.specs.Lists.{same}
@@ -32,6 +33,9 @@ use Rattle.text.specs.Bytes.{bytes}
 use Rattle.entries.specs.Entries.{entryCode, endCodes, dropCodes}
 use Rattle.entries.specs.declared.Entry.{Entry}
 use Rattle.entries.specs.declared.Entry.the-variants.{Refused}
+use Rattle.entries.specs.Rules.{ruleCodes}
+use Rattle.entries.specs.declared.Choice.{Choice}
+use Rattle.entries.specs.declared.Choice.the-variants.{Unsaid, Chosen, Malformed}
 use Rattle.promises.specs.Columns.{ColumnSays}
 
 -- A refused reading gives a plan of zeros
@@ -105,9 +109,9 @@ pub data ReadingSays (mends : Bool) (text : List ℕ) (r : Reading) : Type 0 whe
   late : (start : ℕ) → BeginsLate mends text start → r ≡ noPlan 17 start 0 → ReadingSays mends text r
   faulty-pair : (code a b : ℕ) → FirstFaulty (tasksOf text) (textTask mends text) code a b → r ≡ noPlan code a b → ReadingSays mends text r
 
-pub data OpeningSays (plan : Plan) (r : Opening) : Type 0 where
-  opened : isAccepted plan ≡ true → r ≡ record { answer = granted; book = openedOn plan } → OpeningSays plan r
-  refused : isAccepted plan ≡ false → r ≡ record { answer = refuse 9 0 0; book = blankBook zeroPlan } → OpeningSays plan r
+pub data OpeningSays (plan : Plan) (rule : Rule) (r : Opening) : Type 0 where
+  opened : isAccepted plan ≡ true → r ≡ record { answer = granted; book = openedOn plan rule } → OpeningSays plan rule r
+  refused : isAccepted plan ≡ false → r ≡ record { answer = refuse 9 0 0; book = blankBook 0 zeroPlan } → OpeningSays plan rule r
 
 pub data ReportSays (book : Book) (task tick : ℕ) (r : Reported) : Type 0 where
   taken : isSound book ≡ true → r .answer ≡ granted → ReportSays book task tick r
@@ -150,3 +154,12 @@ pub data EntrySays (text : List ℕ) (r : Entry) : Type 0 where
       (code column : ℕ) → same (field (before LF text) 0) (bytes "drop") ≡ false → (code ≡ 3) ⊎ (code ≡ 4)
       → ColumnSays 3 (hasLine text) (before LF text) (endCodes (hasLine text) (before LF text)) code column
       → r ≡ Refused code column → EntrySays text r
+
+-- what the first line of a text chooses: nothing where its word is not `rule`; `rule`, `clash` has two fields
+pub data ChoiceSays (text : List ℕ) (r : Choice) : Type 0 where
+  unsaid : same (field (before LF text) 0) (bytes "rule") ≡ false → r ≡ Unsaid → ChoiceSays text r
+  chosen : before LF text ≡ bytes "rule\tclash" → hasLine text ≡ true → r ≡ Chosen → ChoiceSays text r
+  malformed :
+      (column : ℕ) → same (field (before LF text) 0) (bytes "rule") ≡ true
+      → ColumnSays 2 (hasLine text) (before LF text) (ruleCodes (hasLine text) (before LF text)) 3 column
+      → r ≡ Malformed column → ChoiceSays text r

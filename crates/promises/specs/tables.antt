@@ -7,3 +7,4 @@ pub mod Late
 pub mod Columns
 pub mod Ready
 pub mod Shared
+pub mod Clash

@@ -3,11 +3,10 @@ use Prim.Native.Nat.{ℕ, _≤_}
 use mathlib.Core.List.{List}
 use mathlib.Core.Bool.{true}
 use mathlib.Core.Path.{_≡_, ap, _∙_}
-use mathlib.Core.Logic.{_≢_}
 use native.Mathlib.Omega.{arith}
 use lib.ListN.{length, take, drop}
 use lib.Seq.{sets, take-append-seam}
-use borrow.Author.Tests.{le-ltb, ne-eqb}
+use borrow.Author.Tests.{le-ltb}
 use Rattle.laws.proofs.Rows.{drop-sets-past}
 use Rattle.laws.proofs.Blank.{sets-front}
 use Rattle.plan.specs.Answer.{granted}
@@ -17,11 +16,6 @@ use Rattle.plan.specs.Write.{textOf, writeAnswer, writtenOf, bufferAfter}
 use Rattle.plan.specs.declared.Plan.{Plan}
 use Rattle.plan.proofs.PlanTasks.{SizedPlan}
 use Rattle.rounds.proofs.RoundPlan.{plan-back}
-
--- A refused writer changes no byte
-pub refused-write : (plan : Plan) (out : List ℕ) → writeAnswer plan (length out) .code ≢ 0 → bufferAfter plan out ≡ out
-unfolding bufferAfter
-refused-write plan out n = rw (ne-eqb (writeAnswer plan (length out) .code) 0 n)
 
 module _ (plan : Plan) (out : List ℕ) (ok : isAccepted plan ≡ true) (room : length (textOf plan) ≤ length out) where
   pub write-granted : writeAnswer plan (length out) ≡ granted

@@ -3,18 +3,16 @@ use Prim.Native.Nat.{ℕ}
 use mathlib.Core.Bool.{Bool, _&&_}
 use mathlib.Core.List.{List}
 use Rattle.theory.specs.Book.{soundTest}
-use Rattle.plan.specs.Value.{blankFrom, isAccepted}
-use Rattle.plan.specs.declared.Plan.{Plan}
-use Rattle.view.specs.View.{planFor, bookSeen}
+use Rattle.theory.specs.Plan.{Plan}
+use Rattle.plan.specs.Value.{blankFrom}
+use Rattle.view.specs.View.{bookSeen}
 
 -- places past T hold nothing
 abbrev pub nothingPast : ℕ → List ℕ → List ℕ → List ℕ → List ℕ → Bool
 nothingPast tasks mark start end dropped =
     blankFrom tasks start && (blankFrom tasks end && (blankFrom tasks mark && blankFrom tasks dropped))
 
--- its plan is accepted; starts, ends, waiting and running tasks and the clock are as the rules say
+-- starts, ends, waiting and running tasks and the clock are as the rules say
 unfoldable pub soundOn : Plan → List ℕ → List ℕ → List ℕ → List ℕ → ℕ → Bool
 soundOn plan mark start end dropped clock =
-    isAccepted plan
-    && (soundTest (planFor plan) (bookSeen mark start end dropped clock)
-    && nothingPast (plan .tasks) mark start end dropped)
+    soundTest plan (bookSeen mark start end dropped clock) && nothingPast (plan .tasks) mark start end dropped

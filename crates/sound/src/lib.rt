@@ -1,39 +1,33 @@
 // The test of code 9 of a book, by lent arrays, whatever they hold.
 ghost use mathlib.Core.Path.{_≡_};
-ghost use mathlib.Core.Bool.{cond};
-ghost use mathlib.Core.List.{[]};
+ghost use mathlib.Core.Bool.{not, cond, _&&_};
 ghost use Prim.Native.Nat.{_<_, _≤_, max};
+ghost use lib.Dec.{leb};
+ghost use Rattle.laws.specs.Bits.{has, setOf};
 ghost use Rattle.laws.specs.Every.{every, any};
 ghost use Rattle.laws.specs.Picked.{latest};
-ghost use Rattle.theory.specs.Book.{ended, allEnded, due, taskTest};
+ghost use Rattle.theory.specs.Book.{ended, taskTest};
 ghost use Rattle.plan.specs.Value.{at};
-ghost use Rattle.plan.specs.Value.{planWith};
 ghost use Rattle.view.specs.View.{planSeen, bookSeen};
 ghost use Rattle.sound.specs.Sound.{nothingPast, soundOn};
-use judge::value::is_accepted;
 use ranges::blank_bytes;
 use ranges::blank_ticks;
+use view::bit_of;
+use view::is_in;
 use view::limit_of;
 use view::start_of;
 use view::wide;
 
-// Have all that the task waits for ended?
-fn all_ended<'a>(
-    begin: &'a [u32; 64],
-    finish: &'a [u32; 64],
-    mark: &'a [u8; 64],
-    tasks: usize,
-    i: usize,
-) -> bool
-    requires { ⌜ (tasks ≤ 64) × (i < 64) ⌝ }
-    ensures { λ r. ⌜ r ≡ allEnded (planSeen tasks [] (now (begin .entry)) (now (finish .entry))) (at (now (mark .entry))) i ⌝ }
+// The tasks that have not ended.
+fn unended_set(mark: &[u8; 64], tasks: usize) -> u64
+    requires { ⌜ tasks ≤ 64 ⌝ }
+    ensures { λ r. ⌜ r ≡ setOf tasks (λ j. not (ended (at (now (mark .entry))) j)) ⌝ }
 {
-    let by = begin[i];
-    let mut all = true;
+    let mut set: u64 = 0;
     for j in 0..tasks {
-        all = (!(finish[j] <= by) | (mark[j] == 2)) & all;
+        set = set | bit_of(!(mark[j] == 2), j);
     }
-    all
+    set
 }
 
 fn later(picked: bool, end: u32, last: u32) -> u32
@@ -45,21 +39,14 @@ fn later(picked: bool, end: u32, last: u32) -> u32
     last
 }
 
-// The latest end of those that the task waits for.
-fn due_at<'a>(
-    begin: &'a [u32; 64],
-    finish: &'a [u32; 64],
-    end: &'a [u32; 64],
-    tasks: usize,
-    i: usize,
-) -> u32
-    requires { ⌜ (tasks ≤ 64) × (i < 64) ⌝ }
-    ensures { λ r. ⌜ r ≡ due (planSeen tasks [] (now (begin .entry)) (now (finish .entry))) (at (now (end .entry))) i ⌝ }
+// The latest end of those in a set.
+fn due_at(awaited: u64, end: &[u32; 64], tasks: usize) -> u32
+    requires { ⌜ tasks ≤ 64 ⌝ }
+    ensures { λ r. ⌜ r ≡ latest tasks (has awaited) (at (now (end .entry))) ⌝ }
 {
-    let by = begin[i];
     let mut last = 0;
     for j in 0..tasks {
-        last = later(finish[j] <= by, end[j], last);
+        last = later(is_in(awaited, j), end[j], last);
     }
     last
 }
@@ -76,15 +63,14 @@ fn last_end<'a>(mark: &'a [u8; 64], end: &'a [u32; 64], tasks: usize) -> u32
     last
 }
 
-// Does the task wait for somebody?
-fn waits_at_all<'a>(begin: &'a [u32; 64], finish: &'a [u32; 64], tasks: usize, i: usize) -> bool
-    requires { ⌜ (tasks ≤ 64) × (i < 64) ⌝ }
-    ensures { λ r. ⌜ r ≡ any tasks (planSeen tasks [] (now (begin .entry)) (now (finish .entry)) .waits i) ⌝ }
+// Is one of the tasks in a set?
+fn waits_at_all(awaited: u64, tasks: usize) -> bool
+    requires { ⌜ tasks ≤ 64 ⌝ }
+    ensures { λ r. ⌜ r ≡ any tasks (has awaited) ⌝ }
 {
-    let by = begin[i];
     let mut some = false;
     for j in 0..tasks {
-        some = (finish[j] <= by) | some;
+        some = is_in(awaited, j) | some;
     }
     some
 }
@@ -94,30 +80,33 @@ fn task_sound<'a>(
     ready: &'a [u32; 64],
     begin: &'a [u32; 64],
     finish: &'a [u32; 64],
+    waits: &'a [u64; 64],
     start: &'a [u32; 64],
     end: &'a [u32; 64],
     mark: &'a [u8; 64],
     dropped: &'a [u8; 64],
+    unended: u64,
     clock: u32,
     tasks: usize,
     i: usize,
 ) -> bool
-    requires { ⌜ (tasks ≤ 64) × (i < 64) ⌝ }
-    ensures { λ r. ⌜ r ≡ taskTest (planSeen tasks (now (ready .entry)) (now (begin .entry)) (now (finish .entry))) (bookSeen (now (mark .entry)) (now (start .entry)) (now (end .entry)) (now (dropped .entry)) clock) i ⌝ }
+    requires { ⌜ (tasks ≤ 64) × (i < 64) × (unended ≡ setOf tasks (λ j. not (ended (at (now mark)) j))) ⌝ }
+    ensures { λ r. ⌜ r ≡ taskTest (planSeen tasks (now (ready .entry)) (now (begin .entry)) (now (finish .entry)) (now (waits .entry))) (bookSeen (now (mark .entry)) (now (start .entry)) (now (end .entry)) (now (dropped .entry)) clock) i ⌝ }
 {
     let state = mark[i];
     let gone = dropped[i];
-    let awaited = ready[i];
+    let ready_at = ready[i];
     let started = start[i];
     let over = end[i];
-    let free = all_ended(begin, finish, mark, tasks, i);
+    let awaited = waits[i];
+    let free = awaited & unended == 0;
     if state == 0 {
         return (gone <= 1) & (!free & ((started == 0) & (over == 0)));
     }
-    let due = due_at(begin, finish, end, tasks, i);
-    let from = start_of(awaited, due);
+    let due = due_at(awaited, end, tasks);
+    let from = start_of(ready_at, due);
     if gone == 1 {
-        let some = waits_at_all(begin, finish, tasks, i);
+        let some = waits_at_all(awaited, tasks);
         let at_once = (started == due) & ((over == started) & (over <= clock));
         return (state == 2) & (some & (free & at_once));
     }
@@ -134,25 +123,29 @@ fn tasks_sound<'a>(
     ready: &'a [u32; 64],
     begin: &'a [u32; 64],
     finish: &'a [u32; 64],
+    waits: &'a [u64; 64],
     start: &'a [u32; 64],
     end: &'a [u32; 64],
     mark: &'a [u8; 64],
     dropped: &'a [u8; 64],
+    unended: u64,
     clock: u32,
     tasks: usize,
 ) -> bool
-    requires { ⌜ tasks ≤ 64 ⌝ }
-    ensures { λ r. ⌜ r ≡ every tasks (taskTest (planSeen tasks (now (ready .entry)) (now (begin .entry)) (now (finish .entry))) (bookSeen (now (mark .entry)) (now (start .entry)) (now (end .entry)) (now (dropped .entry)) clock)) ⌝ }
+    requires { ⌜ (tasks ≤ 64) × (unended ≡ setOf tasks (λ j. not (ended (at (now mark)) j))) ⌝ }
+    ensures { λ r. ⌜ r ≡ every tasks (taskTest (planSeen tasks (now (ready .entry)) (now (begin .entry)) (now (finish .entry)) (now (waits .entry))) (bookSeen (now (mark .entry)) (now (start .entry)) (now (end .entry)) (now (dropped .entry)) clock)) ⌝ }
 {
     for i in 0..tasks {
         if !task_sound(
             ready,
             begin,
             finish,
+            waits,
             start,
             end,
             mark,
             dropped,
+            unended,
             clock,
             tasks,
             i,
@@ -177,42 +170,44 @@ fn past_nothing<'a>(
     ticks & (blank_bytes(&mark[..], tasks) & blank_bytes(&dropped[..], tasks))
 }
 
+// Known: the plan is accepted and its rule is one of the two, so these are its wait sets.
 pub fn is_sound<'a>(
-    edition: u8,
-    boards: u8,
+    known: bool,
     tasks: u8,
     clock: u32,
-    board: &'a [u8; 64],
     ready: &'a [u32; 64],
     begin: &'a [u32; 64],
     finish: &'a [u32; 64],
+    waits: &'a [u64; 64],
     start: &'a [u32; 64],
     end: &'a [u32; 64],
     mark: &'a [u8; 64],
     dropped: &'a [u8; 64],
-    holds: &'a [u8; 2048],
-    after: &'a [u8; 4096],
 ) -> bool
-    ensures { λ r. ⌜ r ≡ soundOn (planWith edition boards tasks (now (board .entry)) (now (ready .entry)) (now (begin .entry)) (now (finish .entry)) (now (holds .entry)) (now (after .entry))) (now (mark .entry)) (now (start .entry)) (now (end .entry)) (now (dropped .entry)) clock ⌝ }
+    ensures { λ r. ⌜ r ≡ ((known && leb tasks 64) && soundOn (planSeen tasks (now (ready .entry)) (now (begin .entry)) (now (finish .entry)) (now (waits .entry))) (now (mark .entry)) (now (start .entry)) (now (end .entry)) (now (dropped .entry)) clock) ⌝ }
 {
-    if !is_accepted(
-        edition,
-        boards,
-        tasks,
-        board,
-        ready,
-        begin,
-        finish,
-        holds,
-        after,
-    ) {
+    // nothing is known of a task without a place
+    if !(known & (tasks <= 64)) {
         return false;
     }
     let n = tasks as usize;
     if !past_nothing(start, end, mark, dropped, n) {
         return false;
     }
-    if !tasks_sound(ready, begin, finish, start, end, mark, dropped, clock, n) {
+    let unended = unended_set(mark, n);
+    if !tasks_sound(
+        ready,
+        begin,
+        finish,
+        waits,
+        start,
+        end,
+        mark,
+        dropped,
+        unended,
+        clock,
+        n,
+    ) {
         return false;
     }
     clock == last_end(mark, end, n)

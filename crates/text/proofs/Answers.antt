@@ -6,7 +6,7 @@ use mathlib.Core.List.{List, _++_}
 use native.Mathlib.Omega.{arith}
 use lib.ListN.{length, drop, replicate}
 use lib.Seq.{sets, sets-eq}
-use Rattle.text.specs.Items.{holdsOk, afterOk, driveOf}
+use Rattle.text.specs.Items.{holdsOk, driveOf}
 use Rattle.text.proofs.Rise.{fine-count}
 
 drop-replicate : (k n a : ℕ) → drop k (replicate n a) ≡ replicate (n - k) a
@@ -25,7 +25,3 @@ items-kept l h =
 pub holds-count : (l : List ℕ) → holdsOk l ≡ true → length l ≤ 32
 unfolding holdsOk
 holds-count l h = fine-count driveOf 32 l h
-
-pub after-count : (tasks : ℕ) (l : List ℕ) → afterOk tasks l ≡ true → length l ≤ tasks
-unfolding afterOk
-after-count tasks l h = fine-count (λ n. n) tasks l h

@@ -142,6 +142,3 @@ digits-seven n h =
     (wider 10 1 (omega arith) (λ m g. omega (arith, width-small m g)))))))
     n
     (omega arith)
-
-pub digits-some : (n : ℕ) → 0 < length (digitsOf n)
-digits-some n = by-le 10 n (λ g. omega (arith, width-big n g)) (λ g. omega (arith, width-small n g))

@@ -13,7 +13,8 @@ pub mod Kept
 pub mod Past
 pub mod Same
 pub mod Progress
-pub mod EarlyStart
+pub mod Waits
+pub mod Alike
 pub mod Feed
 pub mod Reach
 pub mod Unready

@@ -6,11 +6,12 @@ use mathlib.Core.List.{List, [], _∷_}
 use mathlib.Core.Path.{_≡_, refl, sym, ap, _∙_}
 use mathlib.Core.Logic.{_≢_, _⊎_, inl, inr, ⊎-elim}
 use lib.Dec.{eqb, ltb, leb, lit<}
-use borrow.Author.Tests.{eqb-true, eq-eqb, ne-eqb, leb-true, ltb-false, le-leb, lt-ltb}
-use Rattle.laws.proofs.Cases.{by-le, true-false, same-test, or-at, guard-passed}
+use borrow.Author.Tests.{eqb-true, eq-eqb, ne-eqb, ltb-false, le-leb, lt-ltb}
+use Rattle.laws.proofs.Cases.{by-le, true-false, same-test, and-of, or-at, or-r, guard-passed}
 use Rattle.laws.specs.Lists.{anyOf}
 use Rattle.text.specs.Items.{driveOf, isShared}
 use Rattle.theory.specs.Plan as theory-plan
+use Rattle.theory.proofs.Waits.{minding-lawful}
 use Rattle.plan.specs.Task.{Task}
 use Rattle.plan.specs.Pairs.{overlap, sameBoard, holdsClash, clashByDrive, isListed, clash, breaksAfter, pairCode}
 use Rattle.plan.specs.Value.{at, taskAt, isAccepted}
@@ -18,7 +19,7 @@ use Rattle.plan.specs.declared.Plan.{Plan}
 use Rattle.plan.proofs.FirstFault.{NoPair}
 use Rattle.plan.proofs.Judged.{Begins, tasks-fine, accepted-ranges, accepted-tasks}
 use Rattle.plan.proofs.PlanTasks.{RangesKept, ranges-kept, task-kept, task-fits}
-use Rattle.view.specs.View.{planFor}
+use Rattle.view.specs.View.{mindsBy, planFor}
 
 pub record TaskFacts (plan : Plan) (k : ℕ) : Type 0 where
   pub board-from : 0 < at (plan .board) k
@@ -59,13 +60,11 @@ module _ (plan : Plan) (ok : isAccepted plan ≡ true) where
     pair = fine .1;
   }
 
-  -- an accepted plan is lawful
-  pub plan-lawful : theory-plan.Lawful (planFor plan)
-  plan-lawful = record {
-    ready = λ k l. task-facts k l .ready;
-    lasts = λ k l. task-facts k l .lasts;
-    before = λ i j li lj w. leb-true _ _ w;
-  }
+  -- an accepted plan is lawful by either rule
+  pub plan-lawful : (rule : ℕ) → theory-plan.Lawful (planFor rule plan)
+  plan-lawful rule =
+      minding-lawful (mindsBy rule (taskAt plan)) (plan .tasks) (at (plan .ready)) (at (plan .begin)) (at (plan .finish))
+      (λ k l. task-facts k l .ready) (λ k l. task-facts k l .lasts)
 
 -- of two tasks that do not overlap one waits for the other
 apart : (a b c d : ℕ) → (ltb a d && ltb c b) ≡ false → (leb d a ≡ true) ⊎ (leb b c ≡ true)
@@ -187,14 +186,15 @@ flip : {A B : Type 0} → A ⊎ B → B ⊎ A
 flip (inl a) = inr a
 flip (inr b) = inl b
 
-module _ (plan : Plan) (ok : isAccepted plan ≡ true) where
-  -- of two clashing tasks one waits for the other
+module _ (plan : Plan) (ok : isAccepted plan ≡ true) (rule : ℕ) where
+  -- of two clashing tasks one waits for the other, by either rule
   pub clash-waits :
       (a b : ℕ) → a < plan .tasks → b < plan .tasks → a ≢ b → clash (taskAt plan) a b ≡ true
-      → ((planFor plan) .waits a b ≡ true) ⊎ ((planFor plan) .waits b a ≡ true)
+      → ((planFor rule plan) .waits a b ≡ true) ⊎ ((planFor rule plan) .waits b a ≡ true)
   clash-waits a b la lb n h =
-      by-le a b
+      ⊎-elim (λ e. inl (and-of (or-r (eqb rule 0) h) e)) (λ e. inr (and-of (or-r (eqb rule 0) (sym (clash-swap (taskAt plan) a b) ∙ h)) e))
+      (by-le a b
       (λ l. pair-in-order (taskAt plan) a b n (plan-facts plan ok .pair a b l lb) h)
       (λ l. flip
       (pair-in-order (taskAt plan) b a (λ e. n (sym e)) (plan-facts plan ok .pair b a (omega arith) la)
-      (sym (clash-swap (taskAt plan) a b) ∙ h)))
+      (sym (clash-swap (taskAt plan) a b) ∙ h))))

@@ -1,7 +1,11 @@
 -- One turn of a walk that gathers.
-use Prim.Native.Nat.{ℕ, _+_, max}
+use Prim.Native.Nat.{ℕ, _+_, _%_, _^_, _<_, max}
+use native.Mathlib.Nat.{mod-eq-of-lt}
 use mathlib.Core.Bool.{Bool, true, false, not, cond, _&&_, _||_}
-use mathlib.Core.Path.{_≡_, refl, sym, _∙_}
+use mathlib.Core.Path.{_≡_, refl, sym, ap, _∙_}
+use lib.Bits.{bitOr}
+use Rattle.laws.specs.Bits.{has, setOf}
+use Rattle.laws.proofs.Bits.{set-turn}
 use Rattle.laws.specs.Every.{implies, every, any}
 use Rattle.laws.proofs.Every.{every-turn, any-turn}
 use Rattle.laws.specs.Picked.{latest}
@@ -28,3 +32,13 @@ latest-more n w e h k = k ∙ rw h (sym (latest-turn n w e))
 
 pub any-more : (n : ℕ) (p : ℕ → Bool) {some : Bool} → some ≡ any n p → (p n || some) ≡ any (n + 1) p
 any-more n p h = rw h (sym (any-turn n p))
+
+-- the bit of task n, which bit_of made of a test, put into the set of those below n
+pub set-more :
+    (n : ℕ) (p : ℕ → Bool) {b : Bool} {bit set : ℕ} → n < 64 → b ≡ p n → bit ≡ cond b (2 ^ (n % 64)) 0 → set ≡ setOf n p
+    → bitOr set bit ≡ setOf (n + 1) p
+set-more n p low h e k = rw (e, h, k, mod-eq-of-lt low) (sym (set-turn n p))
+
+-- and looked for
+pub bit-seen : (n set : ℕ) {b : Bool} → n < 64 → b ≡ has set (n % 64) → b ≡ has set n
+bit-seen n set low h = h ∙ ap (has set) (mod-eq-of-lt low)

@@ -1,7 +1,9 @@
-// What several functions on a book ask: a task's start and limit, ticks wide enough to be compared with it, the places of the tasks.
+// What several functions on a book ask: a task's start and limit, ticks wide enough to be compared with it, the places of the tasks, a task's bit in a set.
 ghost use mathlib.Core.Path.{_≡_};
-ghost use Prim.Native.Nat.{_+_, _-_, min, max};
+ghost use mathlib.Core.Bool.{cond};
+ghost use Prim.Native.Nat.{_+_, _-_, _%_, _^_, min, max};
 ghost use lib.ListN.{length};
+ghost use Rattle.laws.specs.Bits.{has};
 
 pub fn wide(tick: u32) -> u64
     ensures { λ r. ⌜ r ≡ tick ⌝ }
@@ -38,4 +40,21 @@ pub fn places(tasks: u8, array: &[u8]) -> usize
         return n;
     }
     array.len()
+}
+
+// The bit of a task, or none. A set has 64.
+pub fn bit_of(stands: bool, task: usize) -> u64
+    ensures { λ r. ⌜ r ≡ cond stands (2 ^ (task % 64)) 0 ⌝ }
+{
+    if stands {
+        return 1 << (task % 64);
+    }
+    0
+}
+
+// Is the task in the set?
+pub fn is_in(set: u64, task: usize) -> bool
+    ensures { λ r. ⌜ r ≡ has set (task % 64) ⌝ }
+{
+    (set >> (task % 64)) % 2 == 1
 }

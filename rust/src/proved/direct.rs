@@ -1,7 +1,9 @@
 //! The library, linked and called over the C ABI. Plans and books cross by value.
 
 use super::{Function, Measured, Register, REGISTERS};
-use crate::values::{Answer, Book, Dropped, Figure, Opening, Plan, Reading, Reported, Written};
+use crate::values::{
+    Answer, Book, Dropped, Figure, Opening, Plan, Reading, Reported, Rule, Written,
+};
 use std::arch::asm;
 use std::ptr;
 
@@ -9,7 +11,7 @@ extern "C" {
     fn dispatch_read_plan(text: *const u8, length: usize) -> Reading;
     fn dispatch_is_accepted(plan: Plan) -> u32;
     fn dispatch_write_plan(plan: Plan, out: *mut u8, length: usize) -> Written;
-    fn dispatch_open_book(plan: Plan) -> Opening;
+    fn dispatch_open_book(plan: Plan, clash: bool) -> Opening;
     fn dispatch_is_sound(book: Book) -> u32;
     fn dispatch_report(book: Book, task: u32, tick: u32) -> Reported;
     fn dispatch_drop(book: Book, task: u32) -> Dropped;
@@ -45,8 +47,8 @@ pub fn write_plan(plan: &Plan, out: &mut [u8]) -> Written {
     unsafe { dispatch_write_plan(*plan, out.as_mut_ptr(), out.len()) }
 }
 
-pub fn open_book(plan: &Plan) -> Opening {
-    unsafe { dispatch_open_book(*plan) }
+pub fn open_book(plan: &Plan, rule: Rule) -> Opening {
+    unsafe { dispatch_open_book(*plan, rule == Rule::Clash) }
 }
 
 pub fn is_sound(book: &Book) -> u32 {

@@ -2,7 +2,7 @@
 //! toolchain's emulator runs and which says there how requests and answers look.
 
 use super::{Function, Measured, Register, REGISTERS};
-use crate::values::{Book, Dropped, Figure, Opening, Plan, Reading, Reported, Written};
+use crate::values::{Book, Dropped, Figure, Opening, Plan, Reading, Reported, Rule, Written};
 use std::cell::RefCell;
 use std::io::{BufReader, Error, Read, Write};
 use std::mem::MaybeUninit;
@@ -25,8 +25,9 @@ pub fn write_plan(plan: &Plan, out: &mut [u8]) -> Written {
     request.answer_and_lent(out)
 }
 
-pub fn open_book(plan: &Plan) -> Opening {
-    Request::to(Function::OpenBook).value(plan).answer()
+pub fn open_book(plan: &Plan, rule: Rule) -> Opening {
+    let request = Request::to(Function::OpenBook).value(plan);
+    request.value(&u8::from(rule == Rule::Clash)).answer()
 }
 
 pub fn is_sound(book: &Book) -> u32 {

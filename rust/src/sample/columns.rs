@@ -34,6 +34,9 @@ task\t2\t2\t3\t5\t7\te3\t1
 task\t3\t1\t9\t8\t9\ts1\t1,2
 ";
 
+/// Its first line is damaged, and the second accepted on plan A.
+const RULED_ENDS: &str = "rule\tclash\nend\t2\t3\n";
+
 /// The second line is damaged. On plan A the first is refused and read on from,
 /// and the third accepted.
 const ENDS: [&str; 4] = [
@@ -64,6 +67,16 @@ pub fn every_damaged_ends() -> Vec<Vec<u8>> {
     for text in ENDS {
         put_damaged(&mut texts, text, 1, 3);
     }
+    texts
+}
+
+/// Ends with their first line, which chooses the rule, damaged, before an `end` line and
+/// as the only one, with LF and without.
+pub fn every_damaged_rule_line() -> Vec<Vec<u8>> {
+    let mut texts = Vec::new();
+    put_damaged(&mut texts, RULED_ENDS, 0, 3);
+    let only_line = RULED_ENDS.split_inclusive('\n').next();
+    put_damaged(&mut texts, only_line.unwrap_or_default(), 0, 3);
     texts
 }
 

@@ -1,8 +1,9 @@
 //! Plan and book values with some bytes changed.
 
 use super::faults::{late_plan, sharing_plan};
+use super::waiting::{awaited, rule_of};
 use super::Rng;
-use crate::values::{Book, Plan, DROPPED, ENDED, RUNNING, WAITING};
+use crate::values::{Book, Plan, Rule, DROPPED, ENDED, RUNNING, WAITING};
 
 const LIKELY_BYTES: [u8; 12] = [0, 1, 2, 3, 8, 9, 32, 64, 65, 66, 67, 255];
 const LIKELY_TICKS: [u32; 8] = [0, 1, 2, 3, 999_999, 1_000_000, 1_000_001, u32::MAX];
@@ -25,12 +26,32 @@ pub fn mutated_book(rng: &mut Rng, book: &Book) -> Book {
     changed
 }
 
+/// The same morning by the other rule, by which some other start may be due.
+pub fn by_the_other_rule(book: &Book) -> Book {
+    let other = match rule_of(book) {
+        Rule::EarlyStart => Rule::Clash,
+        Rule::Clash => Rule::EarlyStart,
+    };
+    Book {
+        rule: other as u8,
+        ..*book
+    }
+}
+
+/// The book with a rule that there is not; never sound.
+pub fn ruleless_book(rng: &mut Rng, book: &Book) -> Book {
+    Book {
+        rule: rng.within(2, 255) as u8,
+        ..*book
+    }
+}
+
 /// The book with one drop that no run gives; never sound.
 pub fn wrongly_dropped_book(rng: &mut Rng, book: &Book) -> Book {
     let mut wrong = *book;
     let count = usize::from(book.tasks);
     let i = rng.index(count);
-    let waits = (0..count).any(|j| book.finish[j] <= book.begin[i]);
+    let waits = !awaited(&book.plan(), rule_of(book), i).is_empty();
     match (book.mark[i], book.dropped[i], waits) {
         _ if count < 64 && rng.chance(10) => wrong.dropped[count + rng.index(64 - count)] = 1,
         _ if rng.chance(10) => wrong.dropped[i] = rng.pick(&[2, 3, 255]),
@@ -88,7 +109,7 @@ fn mutate_plan_once(rng: &mut Rng, plan: &mut Plan) {
 
 fn mutate_book_once(rng: &mut Rng, book: &mut Book) {
     let i = likely_index(rng, book.tasks.min(64).into());
-    match rng.within(1, 14) {
+    match rng.within(1, 15) {
         1 => book.clock = nearby_tick(rng, book.clock),
         2 => book.start[i] = nearby_tick(rng, book.start[i]),
         3 => book.end[i] = nearby_tick(rng, book.end[i]),
@@ -107,6 +128,7 @@ fn mutate_book_once(rng: &mut Rng, book: &mut Book) {
         // As if it were ready, or as if nobody had to be waited for.
         12 => book.start[i] = rng.pick(&[book.clock, book.ready[i]]),
         13 if (1..=64).contains(&book.tasks) => *book = sharing_book(rng, book),
+        14 => book.rule = rng.pick(&[0, 0, 1, 1, 2, 255]),
         _ => mutate_plan_of(rng, book),
     }
 }
@@ -149,15 +171,16 @@ pub fn sharing_book(rng: &mut Rng, book: &Book) -> Book {
     on_other_plan(book, &sharing_plan(rng, &book.plan()))
 }
 
-/// The same morning on another plan.
+/// The same morning on another plan, by the same rule.
 pub fn on_other_plan(book: &Book, plan: &Plan) -> Book {
     Book {
+        rule: book.rule,
         clock: book.clock,
         start: book.start,
         end: book.end,
         mark: book.mark,
         dropped: book.dropped,
-        ..Book::on(plan)
+        ..Book::on(plan, Rule::EarlyStart)
     }
 }
 

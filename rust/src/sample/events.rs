@@ -2,10 +2,11 @@
 
 use super::plans::random_plan;
 use super::reports::{accepted_report, any_report, running_tasks};
+use super::waiting::{either_rule, rule_of, waits_for};
 use super::Rng;
 use crate::book::{drop_task, open_book, report};
 use crate::fields::line_of;
-use crate::values::{Answer, Book, DROPPED, ENDED, WAITING};
+use crate::values::{Answer, Book, Rule, DROPPED, ENDED, WAITING};
 
 /// What a line of `ends.txt` says.
 #[derive(Clone, Copy, PartialEq, Eq, Debug)]
@@ -43,9 +44,25 @@ pub fn event_line(event: Event) -> Vec<u8> {
     }
 }
 
-/// A random book some accepted reports and drops into its morning.
+/// The text of `ends.txt` that chooses the rule and says these events.
+pub fn ends_text(rule: Rule, events: &[Event]) -> Vec<u8> {
+    let mut text = rule_line(rule).to_vec();
+    text.extend(events.iter().copied().flat_map(event_line));
+    text
+}
+
+/// The first line of `ends.txt` that chooses the rule; none chooses Early Start.
+pub fn rule_line(rule: Rule) -> &'static [u8] {
+    match rule {
+        Rule::EarlyStart => b"",
+        Rule::Clash => b"rule\tclash\n",
+    }
+}
+
+/// A random book by either rule, some accepted reports and drops into its morning.
 pub fn random_book(rng: &mut Rng) -> Book {
-    let mut book = open_book(&random_plan(rng)).book;
+    let (plan, rule) = (random_plan(rng), either_rule(rng));
+    let mut book = open_book(&plan, rule).book;
     for task in first_drops(rng, &book) {
         book = must_take(&book, Event::Drop(task));
     }
@@ -145,7 +162,11 @@ pub fn passed_tasks(before: &Book, now: &Book) -> Vec<usize> {
 
 /// Whether one of these tasks waits for another one on another board.
 pub fn is_chain_over_boards(book: &Book, tasks: &[usize]) -> bool {
+    if tasks.len() < 2 {
+        return false;
+    }
+    let (plan, rule) = (book.plan(), rule_of(book));
     let follows =
-        |a: usize, b: usize| book.finish[a] <= book.begin[b] && book.board[a] != book.board[b];
+        |a: usize, b: usize| plan.board[a] != plan.board[b] && waits_for(&plan, rule, b, a);
     tasks.iter().any(|&a| tasks.iter().any(|&b| follows(a, b)))
 }

@@ -2,7 +2,7 @@
 
 use super::events::{take, Event};
 use crate::book::open_book;
-use crate::values::{Book, Plan};
+use crate::values::{Book, Plan, Rule};
 use std::collections::HashSet;
 
 /// Tasks 3, 4, 5 and 1 follow each other over three boards; 4, 5 and 1 can be dropped.
@@ -24,7 +24,7 @@ task\t4\t1\t3\t3\t4\te1\t-
 task\t5\t3\t2\t4\t6\t-\t4
 ";
 
-/// What a book holds beside its plan and clock.
+/// What a book holds beside its plan, rule and clock.
 pub type Morning = ([u32; 64], [u32; 64], [u8; 64], [u8; 64]);
 
 pub fn morning_of(book: &Book) -> Morning {
@@ -32,8 +32,8 @@ pub fn morning_of(book: &Book) -> Morning {
 }
 
 /// All books that accepted reports and drops give on a plan, the fresh one first.
-pub fn every_book(plan: &Plan) -> Vec<Book> {
-    let mut books = vec![open_book(plan).book];
+pub fn every_book(plan: &Plan, rule: Rule) -> Vec<Book> {
+    let mut books = vec![open_book(plan, rule).book];
     let mut known: HashSet<Morning> = books.iter().map(morning_of).collect();
     let mut looked_at = 0;
     while looked_at < books.len() {

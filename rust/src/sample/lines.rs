@@ -17,7 +17,7 @@ const USUAL_BYTES: &[u8] = b"\t\t\t\n\n-,es0123456789plantask";
 
 /// Lines of `ends.txt` that are not well formed or out of range, and some that
 /// are neither but look so.
-const ODD_ENDS_LINES: [&[u8]; 30] = [
+const ODD_ENDS_LINES: [&[u8]; 32] = [
     b"drop\n",
     b"drop\t\n",
     b"drop\t1",
@@ -48,6 +48,48 @@ const ODD_ENDS_LINES: [&[u8]; 30] = [
     b"drop\t1000000\n",
     b"drop\t0\n",
     b"drop\t65\n",
+    b"rule\tclash\n",
+    b"rule\n",
+];
+
+/// The first line that chooses the clash rule, and what may stand in its place.
+const ODD_RULE_LINES: [&[u8]; 36] = [
+    b"rule\tclash\n",
+    b"rule\n",
+    b"rule\t\n",
+    b"rule\tClash\n",
+    b"rule\tclas\n",
+    b"rule\tclashh\n",
+    b"rule\tclash \n",
+    b"rule\tclash\r\n",
+    b"rule\tclash\0\n",
+    b"rule\t clash\n",
+    b"rule\tearly\n",
+    b"rule\tearly start\n",
+    b"rule\t0\n",
+    b"rule\t1\n",
+    b"rule\t2\n",
+    b"rule\t-\n",
+    b"rule\t\tclash\n",
+    b"rule\tclash\t\n",
+    b"rule\tclash\tclash\n",
+    b"rule\tclash\t\t\n",
+    b"rule\tend\t2\t3\n",
+    b"rule\tclash\tend\t2\t3\n",
+    b"rule\tclash\nrule\tclash\n",
+    b"rule\tclash\n\n",
+    b"Rule\tclash\n",
+    b"RULE\tclash\n",
+    b"rule \tclash\n",
+    b" rule\tclash\n",
+    b"rules\tclash\n",
+    b"rul\tclash\n",
+    b"rule clash\n",
+    b"rule\r\n",
+    b"\trule\tclash\n",
+    b"\nrule\tclash\n",
+    b"clash\trule\n",
+    b"clash\n",
 ];
 
 /// The text with an odd line of `ends.txt` put between two of its lines.
@@ -55,6 +97,41 @@ pub fn with_odd_ends_line(rng: &mut Rng, text: &[u8]) -> Vec<u8> {
     let mut lines: Vec<&[u8]> = text.split_inclusive(|&byte| byte == b'\n').collect();
     lines.insert(rng.index(lines.len() + 1), rng.pick(&ODD_ENDS_LINES));
     lines.concat()
+}
+
+/// The text with an odd line put before it, or in the place of its first line.
+pub fn with_odd_rule_line(rng: &mut Rng, text: &[u8]) -> Vec<u8> {
+    let odd = rng.pick(&ODD_RULE_LINES);
+    let mut lines = text.split_inclusive(|&byte| byte == b'\n');
+    if rng.chance(50) {
+        lines.next();
+    }
+    let rest: Vec<&[u8]> = lines.collect();
+    [odd, &rest.concat()].concat()
+}
+
+/// Every odd first line, with its LF and without, and each beginning of the right one.
+pub fn damaged_rule_lines() -> Vec<Vec<u8>> {
+    let right = ODD_RULE_LINES[0];
+    let beginnings = (0..=right.len()).map(|length| &right[..length]);
+    let without_lf = ODD_RULE_LINES.iter().map(|line| &line[..line.len() - 1]);
+    let lines = ODD_RULE_LINES.into_iter().chain(without_lf);
+    lines.chain(beginnings).map(<[u8]>::to_vec).collect()
+}
+
+/// The line that chooses the clash rule with one byte replaced, taken out or put in.
+pub fn rule_lines_with_one_byte_wrong() -> Vec<Vec<u8>> {
+    let right = ODD_RULE_LINES[0];
+    let mut lines = Vec::new();
+    for at in 0..right.len() {
+        let (before, behind) = (&right[..at], &right[at + 1..]);
+        lines.push([before, behind].concat());
+        for byte in (0..=255).filter(|&byte| byte != right[at]) {
+            lines.push([before, &[byte], behind].concat());
+            lines.push([before, &[byte], &right[at..]].concat());
+        }
+    }
+    lines
 }
 
 /// The text with lines swapped, doubled, moved, taken out or cut off.

@@ -11,6 +11,7 @@ pub mod mixtures;
 pub mod mornings;
 pub mod old_texts;
 pub mod one_fault;
+pub mod pairs;
 pub mod plan_a;
 pub mod plan_b;
 pub mod plans;
@@ -18,6 +19,7 @@ pub mod program;
 pub mod reports;
 pub mod rng;
 pub mod tally;
+pub mod waiting;
 pub mod wild;
 
 pub use rng::{announced_seed, Rng};

@@ -3,7 +3,7 @@
 use super::events::{accepted_event, first_drops, must_take, Event};
 use super::Rng;
 use crate::book::open_book;
-use crate::values::{Answer, Book, Plan};
+use crate::values::{Answer, Book, Plan, Rule};
 
 /// A whole morning: every book from the fresh one to the last, and between
 /// each two the report or drop that made the second of the first.
@@ -13,8 +13,8 @@ pub struct Morning {
 }
 
 impl Morning {
-    pub fn new(plan: &Plan) -> Morning {
-        let opening = open_book(plan);
+    pub fn new(plan: &Plan, rule: Rule) -> Morning {
+        let opening = open_book(plan, rule);
         assert_eq!(opening.answer, Answer::ACCEPTED);
         Morning {
             books: vec![opening.book],
@@ -33,8 +33,8 @@ impl Morning {
 }
 
 /// Reports to the end, drops before them and, in some mornings, between them.
-pub fn random_morning(rng: &mut Rng, plan: &Plan) -> Morning {
-    let mut morning = Morning::new(plan);
+pub fn random_morning(rng: &mut Rng, plan: &Plan, rule: Rule) -> Morning {
+    let mut morning = Morning::new(plan, rule);
     for task in first_drops(rng, morning.now()) {
         morning.take(Event::Drop(task));
     }

@@ -161,9 +161,9 @@ pub fn moved_later(plan: &Plan, by: u32) -> Plan {
 
 fn random_shape(rng: &mut Rng) -> Shape {
     Shape {
-        hold_percent: rng.pick(&[0, 2, 5, 15, 60, 100]),
-        exclusive_percent: rng.pick(&[0, 10, 50, 100]),
-        after_percent: rng.pick(&[0, 3, 20, 70, 100]),
+        hold_percent: rng.pick(&[0, 2, 5, 5, 15, 60, 100]),
+        exclusive_percent: rng.pick(&[0, 10, 30, 50, 100]),
+        after_percent: rng.pick(&[0, 0, 0, 3, 20, 70, 100]),
         // 64 tasks one after the other must still finish by the last tick.
         longest: rng.pick(&[1, 2, 4, 10, 100, 15_000]),
         widest_gap: rng.pick(&[0, 0, 1, 5, 600]),

@@ -34,6 +34,19 @@ pub fn folders_below(folder: &Path) -> Vec<PathBuf> {
     entries.map(|entry| entry.unwrap().path()).collect()
 }
 
+/// The folders below that one, at any depth, in which a log is kept.
+pub fn cases_below(folder: &Path) -> Vec<PathBuf> {
+    let mut cases = Vec::new();
+    for below in folders_below(folder) {
+        if below.join("log.txt").exists() {
+            cases.push(below);
+        } else if below.is_dir() {
+            cases.extend(cases_below(&below));
+        }
+    }
+    cases
+}
+
 /// What a file holds; a missing one counts as empty.
 pub fn contents(file: &Path) -> Vec<u8> {
     if file.exists() {

@@ -1,6 +1,7 @@
 //! Plan and book values far from any rule, or breaking just one.
 
 use super::faults::{late_plan, sharing_plan};
+use super::waiting::either_rule;
 use super::Rng;
 use crate::values::{items, made_exclusive, Book, Plan, AFTER_PLACES, EDITION_2, HOLD_PLACES};
 
@@ -32,8 +33,8 @@ pub fn wild_plan(rng: &mut Rng) -> Plan {
 /// A book of random bytes, in some books on the plan of a sound one.
 pub fn wild_book(rng: &mut Rng, sound: &Book) -> Book {
     if rng.chance(20) {
-        let plan = wild_plan(rng);
-        return with_wild_morning(rng, &Book::on(&plan));
+        let (plan, rule) = (wild_plan(rng), either_rule(rng));
+        return with_wild_morning(rng, &Book::on(&plan, rule));
     }
     with_wild_morning(rng, sound)
 }
@@ -143,7 +144,8 @@ fn put_past_the_last_task(rng: &mut Rng, plan: &mut Plan) {
     }
 }
 
-/// Random clock, starts, ends, marks and drops, past the last task only sometimes.
+/// Random clock, starts, ends, marks and drops, past the last task only sometimes,
+/// and in some books a random rule.
 fn with_wild_morning(rng: &mut Rng, book: &Book) -> Book {
     let mut wild = *book;
     let tame = rng.chance(80);
@@ -169,6 +171,9 @@ fn with_wild_morning(rng: &mut Rng, book: &Book) -> Book {
     }
     if rng.chance(50) {
         wild.clock = wild.end.iter().max().copied().unwrap_or(0);
+    }
+    if rng.chance(20) {
+        wild.rule = rng.byte();
     }
     wild
 }

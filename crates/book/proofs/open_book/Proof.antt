@@ -1,52 +1,68 @@
 use Rattle.book.proofs.ReportLaws.{opening-refused, opening-granted}
 use Rattle.book.proofs.Fits.{fit-blank}
-use Rattle.book.proofs.Handed.{blank-plan, none-dropped, cleared, opened-laid}
+use Rattle.book.proofs.Handed.{blank-plan, blank-rule, none-dropped, cleared, opened-laid}
+use Rattle.book.proofs.WaitLaws.{known-is, known-accepted, fit-seen, settled-seen}
+use Rattle.book.specs.Open.{blankBook}
 use Rattle.book.specs.View.{planIn}
 use Rattle.plan.specs.Value.{isAccepted}
+use Rattle.view.specs.View.{isRule}
+use Prim.Native.Nat.{ℕ}
+use mathlib.Core.Bool.{_&&_}
 use mathlib.Core.Logic.{⊎-elim}
-use mathlib.Core.Path.{sym, ap, _∙_}
+use mathlib.Core.Path.{ap, _∙_}
 use borrow.Author.Needs.{needs}
 use Rattle.book.proofs.open_book.Statement.{statement}
 use Rattle.book.proofs.open_book.Tie as tie
 
+number-of-requires : tie.Need-number-of-requires
+number-of-requires c κs = search needs
+
 blank-book-requires : tie.Need-blank-book-requires
 blank-book-requires c κs = search needs
 
-is-accepted-requires : tie.Need-is-accepted-requires
-is-accepted-requires c κs = search needs
+wait-sets-requires : tie.Need-wait-sets-requires
+wait-sets-requires c κs = search needs
 
 unmoved-requires : tie.Need-unmoved-requires
 unmoved-requires c κs = search needs
 
 cast-settle : tie.Need-cast-settle
-cast-settle c = search needs
+cast-settle c = search (needs, c .before .before .before .before .before .before .before .before .before .before .before .before .before .before .before .before .before .blank-book .ok .1 .1 .1 .1 .0)
 
 settle-requires : tie.Need-settle-requires
 settle-requires c κs =
-    let book = c .before .before .before .before .before .before .before .before .before .before .before .before .before .before .before .before .blank-book .result in
-    fit-blank (planIn book) (sym (c .before .before .before .before .before .before .before .before .is-accepted .ensures) ∙ c .before .before .before .before .before .before .before .if1 .taken) (book .dropped) (c .unmoved .ensures)
-    (none-dropped (c .before .before .before .before .before .before .before .before .before .before .before .before .before .before .before .before .before .args .plan) (c .before .before .before .before .before .before .before .before .before .before .before .before .before .before .before .before .blank-book .ensures))
+    let a = c .before .before .before .before .before .before .before .before .before .before .before .before .before .before .before .before .before .before .before .args in
+    let book = c .before .before .before .before .before .before .before .before .before .before .before .before .before .before .before .before .before .blank-book .result in
+    let blank = c .before .before .before .before .before .before .before .before .before .before .before .before .before .before .before .before .before .blank-book .ensures ∙ ap (λ (n : ℕ). blankBook n (a .plan)) (c .before .before .before .before .before .before .before .before .before .before .before .before .before .before .before .before .before .before .number-of .ensures) in
+    let waits = c .before .before .before .before .before .before .before .before .before .wait-sets .ensures in
+    let known = c .before .before .before .before .before .before .before .before .if1 .taken in
+    fit-seen book waits known _
+    (fit-blank (book .rule) (planIn book) (known-accepted (book .rule) (planIn book) waits known) (book .dropped) (c .unmoved .ensures) (none-dropped (a .plan) (a .rule) blank))
 
 answer-of-requires : tie.Need-answer-of-requires
 answer-of-requires c κs = search needs
 
 returns : tie.Need-returns
 returns c =
-    let plan = c .before .before .before .before .before .before .before .before .before .before .before .args .plan in
-    let b = c .before .before .before .before .before .before .before .before .before .before .blank-book .ensures in
-    let ok = c .before .before .is-accepted .ensures ∙ ap isAccepted (blank-plan plan b) in
+    let a = c .before .before .before .before .before .before .before .before .before .before .before .before .args in
+    let book = c .before .before .before .before .before .before .before .before .before .before .blank-book .result in
+    let b = c .before .before .before .before .before .before .before .before .before .before .blank-book .ensures ∙ ap (λ (n : ℕ). blankBook n (a .plan)) (c .before .before .before .before .before .before .before .before .before .before .before .number-of .ensures) in
+    let waits = c .before .before .wait-sets .ensures in
+    let ok = known-is (book .rule) (planIn book) waits ∙ (λ i. isAccepted (blank-plan (a .plan) (a .rule) b i) && isRule (blank-rule (a .plan) (a .rule) b i)) in
     ⊎-elim
     (λ w.
-    opening-granted plan ok (c .answer-of .ensures) (w .0 .taken) (w .13) (w .12 ∙ opened-laid plan b (w .7 .ensures) (w .8 .ensures)))
-    (λ w. opening-refused plan ok (c .answer-of .ensures) (w .0 .left) (w .8) (w .7 ∙ cleared plan b))
+    opening-granted (a .plan) (a .rule) ok (c .answer-of .ensures) (w .0 .taken) (w .14)
+    (w .13 ∙ opened-laid (a .plan) (a .rule) b (w .8 .ensures) (settled-seen book waits (w .0 .taken) _ (w .9 .ensures))))
+    (λ w. opening-refused (a .plan) (a .rule) ok (c .answer-of .ensures) (w .0 .left) (w .8) (w .7 ∙ cleared (a .plan) (a .rule) b))
     (c .before .if1 .came)
 
 pub open-book-spec : {M : Type 1} → statement M
 open-book-spec =
     tie.close
     (tie.spec
+    number-of-requires
     blank-book-requires
-    is-accepted-requires
+    wait-sets-requires
     unmoved-requires
     cast-settle
     settle-requires

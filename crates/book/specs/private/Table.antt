@@ -9,7 +9,7 @@ use lib.ListN.{getD}
 use Rattle.laws.specs.Each.{each}
 use Rattle.laws.specs.Every.{every}
 use Rattle.laws.specs.Picked.{lastOf}
-use Rattle.theory.specs.Plan.{Plan, Lawful}
+use Rattle.theory.specs.Plan.{Plan}
 use Rattle.theory.specs.Book.{Book, waiting, ended, isDropped}
 use Rattle.plan.specs.Value.{at}
 use Rattle.view.specs.View.{bookSeen, laid}
@@ -93,6 +93,10 @@ InTurn plan board =
     (i j : ℕ) → i < plan .tasks → j < plan .tasks → i ≢ j → board i ≡ board j
     → (plan .waits i j ≡ true) ⊎ (plan .waits j i ≡ true)
 
+-- who waits for a task is planned to finish after it
+abbrev pub Onward : Plan → Type 0
+Onward plan = (i j : ℕ) → i < plan .tasks → j < plan .tasks → plan .waits i j ≡ true → plan .finish j < plan .finish i
+
 -- whoever a started task waits for has ended
 abbrev pub Closed : Plan → (ℕ → ℕ) → Type 0
 Closed plan mark =
@@ -108,7 +112,7 @@ pub record Past (n : ℕ) (book : Book) : Type 0 where
 -- what the start rule asks
 pub record Fit (plan : Plan) (board : ℕ → ℕ) (book : Book) : Type 0 where
   pub few : plan .tasks ≤ 64
-  pub law : Lawful plan
+  pub onward : Onward plan
   pub on : OnEight plan board
   pub turn : InTurn plan board
   pub closed : Closed plan (book .mark)

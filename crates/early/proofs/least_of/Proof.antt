@@ -12,7 +12,7 @@ use Rattle.early.proofs.least_of.Tie as tie
 
 abbrev Inv-loop : tie.InvT-loop
 Inv-loop ready begin start mark dropped clock n least₀ found₀ i₀ least found i =
-    (i ≤ n) × LeastTo i (counts (bookSeen mark start [] dropped clock)) (earlyBy (planSeen n ready begin []) (bookSeen mark start [] dropped clock)) found least
+    (i ≤ n) × LeastTo i (counts (bookSeen mark start [] dropped clock)) (earlyBy (planSeen n ready begin [] []) (bookSeen mark start [] dropped clock)) found least
 
 abbrev μ-loop : tie.MeasureT-loop
 μ-loop ready begin start mark dropped clock n least₀ found₀ i₀ least found i = n - i

@@ -1,15 +1,14 @@
 -- Short names for what single functions say of lent arrays.
-use Prim.Native.Nat.{ℕ, _+_, _-_, _/_, _%_, _^_, _≤_, _<_}
+use Prim.Native.Nat.{ℕ, _+_, _-_, _≤_, _<_}
 use mathlib.Core.Path.{_≡_}
-use mathlib.Core.Bool.{Bool, true, false, not, _&&_, _||_}
+use mathlib.Core.Bool.{Bool, true, false, not, cond, _&&_, _||_}
 use mathlib.Core.List.{List}
 use lib.Dec.{ltb, eqb}
-use Rattle.laws.specs.Lists.{allOf, anyOf}
-use Rattle.text.specs.Items.{between, driveOf, isShared}
+use Rattle.laws.specs.Lists.{anyOf}
 use Rattle.plan.specs.Task.{Task, taskOf}
 use Rattle.plan.specs.Pairs.{isListed}
 use Rattle.plan.specs.Value.{at, row, items}
-use Rattle.judge.specs.declared.Sets.{Sets}
+use Rattle.drives.specs.Drives.{setsClash}
 
 -- the tasks that arrays hold, whose ready ticks no pair looks at
 abbrev pub tasksIn : List ℕ → List ℕ → List ℕ → List ℕ → List ℕ → ℕ → Task
@@ -24,6 +23,17 @@ meetIn begin finish a b = not (eqb a b) && overlapsIn begin finish a b
 
 abbrev pub breaksIn : List ℕ → List ℕ → List ℕ → ℕ → ℕ → Bool
 breaksIn begin finish after a b = ltb (at begin a) (at finish b) && isListed (items (row 64 after a)) (b + 1)
+
+-- by the sets of the drives that each task holds exclusively and of all that it holds
+abbrev pub drivesMeet : List ℕ → List ℕ → ℕ → ℕ → Bool
+drivesMeet exclusive held a b = setsClash (at exclusive a) (at held a) (at exclusive b) (at held b)
+
+-- the code of a pair, by these sets
+abbrev pub codeIn : List ℕ → List ℕ → List ℕ → List ℕ → List ℕ → List ℕ → ℕ → ℕ → ℕ
+codeIn board begin finish exclusive held after a b =
+    cond (meetIn begin finish a b && eqb (at board a) (at board b)) 6
+    (cond (meetIn begin finish a b && drivesMeet exclusive held a b) 7
+    (cond (breaksIn begin finish after a b || breaksIn begin finish after b a) 8 0))
 
 -- the listed task is no task, or its planned finish is past the tick
 abbrev pub isLate : List ℕ → ℕ → ℕ → Bool
@@ -42,39 +52,3 @@ PairInOrder begin finish after ordered a b =
 pub record PassedOver (begin finish : List ℕ) (ordered : Bool) (a b tasks r : ℕ) : Type 0 where
   pub onward : b ≤ r
   pub idle : (j : ℕ) → b ≤ j → j < r → (j < tasks) × (ordered ≡ true) × (overlapsIn begin finish a j ≡ false)
-
--- a hold whose drive is one of the 32, and so a bit
-abbrev pub isDrive : ℕ → Bool
-isDrive h = between 1 32 (driveOf h)
-
--- bit d of a set
-abbrev pub has : ℕ → ℕ → Bool
-has set d = eqb (set / 2 ^ d % 2) 1
-
--- bit d stands where drive d + 1 is among those holds of the list that are of this kind
-abbrev pub SetOf : (ℕ → Bool) → List ℕ → ℕ → Type 0
-SetOf kind l set = (d : ℕ) → has set d ≡ anyOf (λ h. eqb (driveOf h) (d + 1) && kind h) l
-
-abbrev pub isExclusive : ℕ → Bool
-isExclusive h = not (isShared h)
-
-abbrev pub isAny : ℕ → Bool
-isAny h = true
-
-pub record Gathered (l : List ℕ) (sets : Sets) : Type 0 where
-  pub exclusive : SetOf isExclusive l (sets .exclusive)
-  pub held : SetOf isAny l (sets .held)
-
--- the holds of a task are of drives that can be bits
-abbrev pub RowInRange : List ℕ → ℕ → Type 0
-RowInRange holds k = allOf isDrive (items (row 32 holds k)) ≡ true
-
-pub record PairInRange (holds : List ℕ) (a b : ℕ) : Type 0 where
-  pub below-a : a < 64
-  pub below-b : b < 64
-  pub range-a : RowInRange holds a
-  pub range-b : RowInRange holds b
-
-pub record RowsInRange (holds : List ℕ) (tasks : ℕ) : Type 0 where
-  pub few : tasks ≤ 64
-  pub range : (k : ℕ) → k < tasks → RowInRange holds k

@@ -25,7 +25,8 @@ roomFor book = 52 * toCome (book .mark) (book .dropped) (book .tasks)
 abbrev pub endsMost : Book → List ℕ → ℕ
 endsMost book ends = roomFor book + 6 * length ends + 41
 
-pub record EndsFit (out : List ℕ) (from : ℕ) (book : Book) (ends : List ℕ) : Type 0 where
+pub record EndsFit (out : List ℕ) (from : ℕ) (book : Book) (line : ℕ) (ends : List ℕ) : Type 0 where
+  pub begun : line ≤ 2
   pub short : length ends ≤ 32768
   pub sized : Sized book
   pub room : from + endsMost book ends + 3432 ≤ length out

@@ -9,9 +9,13 @@ use Rattle.theory.specs.Book.{isDropped}
 use Rattle.plan.specs.Answer.{isGranted}
 use Rattle.plan.specs.Value.{at}
 use Rattle.plan.specs.declared.Answer.{Answer}
+use Rattle.book.specs.declared.Rule.{Rule}
+use Rattle.book.specs.declared.Rule.the-variants.{EarlyStart, Clash}
+use Rattle.entries.specs.declared.Choice.{Choice}
+use Rattle.entries.specs.declared.Choice.the-variants.{Unsaid, Chosen, Malformed}
 use Rattle.entries.specs.declared.Entry.{Entry}
 use Rattle.entries.specs.declared.Entry.the-variants.{End, Drop, Refused}
-use Rattle.lines.specs.Lines.{numbersLine, taskLine, startWord, refusedLine}
+use Rattle.lines.specs.Lines.{numbersLine, runBy, taskLine, startWord, refusedLine}
 
 -- task i waited by the old marks and waits no longer by the new ones
 abbrev pub starting : List ℕ → List ℕ → ℕ → Bool
@@ -31,9 +35,9 @@ startsIn old mark dropped board begin start (suc n) =
 abbrev pub earlyIn : ℕ → ℕ → List ℕ
 earlyIn clock early = numbersLine (bytes "early") (clock ∷ early ∷ [])
 
-abbrev pub openedIn : ℕ → ℕ → List ℕ → List ℕ → List ℕ → List ℕ → List ℕ → ℕ → ℕ → List ℕ
-openedIn boards tasks mark dropped board begin start clock early =
-    numbersLine (bytes "run") (1 ∷ boards ∷ tasks ∷ [])
+abbrev pub openedIn : ℕ → ℕ → ℕ → List ℕ → List ℕ → List ℕ → List ℕ → List ℕ → ℕ → ℕ → List ℕ
+openedIn rule boards tasks mark dropped board begin start clock early =
+    runBy rule boards tasks
     ++ (startsIn (replicate 64 0) mark dropped board begin start tasks ++ earlyIn clock early)
 
 -- what a report prints but for the `early` line
@@ -76,3 +80,9 @@ abbrev pub Named : Entry → ℕ → Type 0
 Named (End task tick) tasks = (0 < task) × (task ≤ 64) × (tasks ≤ 64)
 Named (Drop task) tasks = (0 < task) × (task ≤ 64) × (0 ≤ tasks)
 Named (Refused code column) tasks = 0 ≤ tasks
+
+-- the rule that a book is opened by
+abbrev pub ruleOf : Choice → Rule
+ruleOf Unsaid = EarlyStart
+ruleOf Chosen = Clash
+ruleOf (Malformed column) = EarlyStart

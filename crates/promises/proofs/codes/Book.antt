@@ -23,6 +23,7 @@ use Rattle.book.specs.Drop.{dropCodeOf, dropAnswer, droppedOf}
 use Rattle.book.specs.Early.{figureOf}
 use Rattle.book.specs.declared.Book.{Book}
 use Rattle.book.specs.declared.Opening.{Opening}
+use Rattle.book.specs.declared.Rule.{Rule}
 use Rattle.book.specs.declared.Reported.{Reported}
 use Rattle.book.specs.declared.Dropped.{Dropped}
 use Rattle.book.specs.declared.Figure.{Figure}
@@ -33,24 +34,24 @@ use Rattle.promises.specs.Says.{OpeningSays, ReportSays, DropSays, Figur
 use Rattle.promises.proofs.RunView.{answer-code}
 use Rattle.promises.proofs.codes.Reading.{zero-sized}
 
-pub opening-says : (plan : Plan) → OpeningSays plan (openingOf plan)
+pub opening-says : (plan : Plan) (rule : Rule) → OpeningSays plan rule (openingOf plan rule)
 unfolding openingOf
-opening-says plan =
+opening-says plan rule =
     by-bool (isAccepted plan) (λ h. OpeningSays.opened h (rw h)) (λ h. OpeningSays.refused h (rw h))
 
-pub opening-code : (plan : Plan) → (openingOf plan .answer .code ≡ 0) ⊎ (openingOf plan .answer .code ≡ 9)
-opening-code plan = go (openingOf plan) (opening-says plan)
+pub opening-code : (plan : Plan) (rule : Rule) → (openingOf plan rule .answer .code ≡ 0) ⊎ (openingOf plan rule .answer .code ≡ 9)
+opening-code plan rule = go (openingOf plan rule) (opening-says plan rule)
   where
-    go : (r : Opening) → OpeningSays plan r → (r .answer .code ≡ 0) ⊎ (r .answer .code ≡ 9)
+    go : (r : Opening) → OpeningSays plan rule r → (r .answer .code ≡ 0) ⊎ (r .answer .code ≡ 9)
     go r (OpeningSays.opened h e) = inl (rw e)
     go r (OpeningSays.refused h e) = inr (rw e)
 
-pub opening-sized : (plan : Plan) → SizedPlan plan → Sized (openingOf plan .book)
-opening-sized plan s = go (openingOf plan) (opening-says plan)
+pub opening-sized : (plan : Plan) (rule : Rule) → SizedPlan plan → Sized (openingOf plan rule .book)
+opening-sized plan rule s = go (openingOf plan rule) (opening-says plan rule)
   where
-    go : (r : Opening) → OpeningSays plan r → Sized (r .book)
-    go r (OpeningSays.opened h e) = rw e (sized-opened plan s)
-    go r (OpeningSays.refused h e) = rw e (sized-laid zeroPlan blank zero-sized)
+    go : (r : Opening) → OpeningSays plan rule r → Sized (r .book)
+    go r (OpeningSays.opened h e) = rw e (sized-opened plan rule s)
+    go r (OpeningSays.refused h e) = rw e (sized-laid 0 zeroPlan blank zero-sized)
 
 -- a report
 abbrev ReportNumber : ℕ → Type 0

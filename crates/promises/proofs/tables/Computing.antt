@@ -27,14 +27,16 @@ use Rattle.book.specs.Report.{codeOf, reportAnswer, nextBook, reportedOf}
 use Rattle.book.specs.Drop.{dropCodeOf, dropAnswer, droppedIn, droppedOf}
 use Rattle.book.specs.Early.{figureOf}
 use Rattle.entries.specs.Entries.{endCodes, dropCodes, entryOf, nextEntry}
-use Rattle.lines.specs.Lines.{numbersLine}
+use Rattle.entries.specs.Rules.{ruleCodes, choiceIn, choiceOf}
+use Rattle.lines.specs.Lines.{numbersLine, runBy}
 use Rattle.log.specs.Lines.{startLines}
-use Rattle.log.specs.Log.{openLog, toldOf, toldLog, endsLog, logOf}
+use Rattle.log.specs.Log.{openLog, toldOf, toldLog, endsLog, chosenLog, logOf}
 use Rattle.promises.specs.Runs.{bookAfter}
 use Rattle.promises.specs.tables.PlanA.{planA}
 use Rattle.promises.specs.tables.Impostors.{onlyEnds, firstOnly, startOn, ownBoard, planFour, startFree, shortcut}
 use Rattle.promises.specs.tables.Weaker.{planTwo}
 use Rattle.promises.specs.tables.Ready.{planB}
+use Rattle.promises.specs.tables.Clash.{planC}
 
 -- by crate: laws, text, plan, theory, book with those below it, log with those below it, promises
 unfoldable pub computing : Bool
@@ -48,6 +50,6 @@ unfolding
     allEnded taskTest soundTest nonePast reportCode dropCode goes skipTimes next opened minimumEarly
     laid soundOn layOut openedOn openingOf codeOf reportAnswer nextBook reportedOf
     dropCodeOf dropAnswer droppedIn droppedOf figureOf
-    endCodes dropCodes entryOf nextEntry numbersLine startLines openLog toldOf toldLog endsLog logOf
-    bookAfter planA onlyEnds firstOnly startOn ownBoard planFour startFree shortcut planTwo planB
+    endCodes dropCodes entryOf nextEntry ruleCodes choiceIn choiceOf numbersLine runBy startLines openLog toldOf toldLog endsLog chosenLog logOf
+    bookAfter planA onlyEnds firstOnly startOn ownBoard planFour startFree shortcut planTwo planB planC
 computing = true

@@ -6,6 +6,7 @@ use Rattle.plan.specs.Read.{readingOf}
 use Rattle.theory.specs.Report.{opened}
 use Rattle.book.specs.Report.{reportedOf}
 use Rattle.book.specs.Early.{figureOf}
+use Rattle.book.specs.declared.Rule.the-variants.{EarlyStart}
 use Rattle.promises.specs.Runs.{openedBook, runOf}
 use Rattle.promises.specs.tables.PlanA.{textA, planA, end, bookA}
 use Rattle.promises.specs.tables.Impostors.{toFour, toSix, toNine, alwaysZero, fromReport, greatest, overBoards, fixedReader, textOne, firstOnly, ownBoard, planFour, shortcut, strictly}
@@ -61,12 +62,12 @@ own-board-shortcut = (refl, refl, refl)
 
 -- task 4 would start at 4 and hold drive 1 until 7, so task 3, planned for 5, starts at 7; we start task 3 at 5 and task 4 at 6
 pub board-free-shortcut :
-    (at (shortcut (openedBook planFour) (end 1 4 ∷ []) .start) 3 ≡ 4)
-    × (at (shortcut (openedBook planFour) (end 1 4 ∷ end 2 5 ∷ []) .mark) 2 ≡ 0)
-    × (at (shortcut (openedBook planFour) (end 1 4 ∷ end 2 5 ∷ end 4 7 ∷ []) .start) 2 ≡ 7)
-    × (at (runOf planFour (end 1 4 ∷ end 2 5 ∷ end 3 6 ∷ end 4 9 ∷ []) .start) 2 ≡ 5)
-    × (at (runOf planFour (end 1 4 ∷ end 2 5 ∷ end 3 6 ∷ end 4 9 ∷ []) .start) 3 ≡ 6)
-    × (at (runOf planFour (end 1 4 ∷ end 2 5 ∷ end 3 6 ∷ end 4 9 ∷ []) .end) 3 ≡ 9)
+    (at (shortcut (openedBook planFour EarlyStart) (end 1 4 ∷ []) .start) 3 ≡ 4)
+    × (at (shortcut (openedBook planFour EarlyStart) (end 1 4 ∷ end 2 5 ∷ []) .mark) 2 ≡ 0)
+    × (at (shortcut (openedBook planFour EarlyStart) (end 1 4 ∷ end 2 5 ∷ end 4 7 ∷ []) .start) 2 ≡ 7)
+    × (at (runOf planFour EarlyStart (end 1 4 ∷ end 2 5 ∷ end 3 6 ∷ end 4 9 ∷ []) .start) 2 ≡ 5)
+    × (at (runOf planFour EarlyStart (end 1 4 ∷ end 2 5 ∷ end 3 6 ∷ end 4 9 ∷ []) .start) 3 ≡ 6)
+    × (at (runOf planFour EarlyStart (end 1 4 ∷ end 2 5 ∷ end 3 6 ∷ end 4 9 ∷ []) .end) 3 ≡ 9)
 unfolding computing
 board-free-shortcut = (refl, refl, refl, refl, refl, refl)
 

@@ -6,6 +6,7 @@ use Rattle.laws.specs.Lists.{allOf}
 use Rattle.plan.specs.Value.{at}
 use Rattle.log.specs.Log.{logOf}
 use Rattle.book.specs.Open.{openingOf}
+use Rattle.book.specs.declared.Rule.the-variants.{EarlyStart}
 use Rattle.book.specs.Report.{reportedOf}
 use Rattle.book.specs.Early.{figureOf}
 use Rattle.promises.specs.Runs.{dueOf}
@@ -15,7 +16,7 @@ use Rattle.promises.specs.tables.Late.{answered}
 use Rattle.promises.specs.tables.Ready.{textB, planB, bookB, endsB, logB, toEight, readyItems, readyRows, runningOnly, withDropped, nonePastBegun, planCalledOne}
 use Rattle.promises.proofs.tables.Computing.{computing}
 
-pub ready-items : allOf (holdsOn planB) readyItems ≡ true
+pub ready-items : allOf (holdsOn planB EarlyStart) readyItems ≡ true
 unfolding computing
 ready-items = refl
 
@@ -53,6 +54,6 @@ unfolding computing
 ready-figure-impostors = (refl, refl, refl, refl)
 
 -- a plan of edition 1 with a ready tick gets 9
-pub edition-impostor : (openingOf planB .answer .code ≡ 0) × (openingOf planCalledOne .answer .code ≡ 9)
+pub edition-impostor : (openingOf planB EarlyStart .answer .code ≡ 0) × (openingOf planCalledOne EarlyStart .answer .code ≡ 9)
 unfolding computing
 edition-impostor = (refl, refl)

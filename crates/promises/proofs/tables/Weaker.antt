@@ -9,6 +9,7 @@ use Rattle.plan.specs.Value.{at, taskAt, isAccepted}
 use Rattle.book.specs.Sized.{SizedPlan}
 use Rattle.book.specs.Report.{reportedOf}
 use Rattle.book.specs.Early.{figureOf}
+use Rattle.book.specs.declared.Rule.the-variants.{EarlyStart}
 use Rattle.promises.specs.tables.PlanA.{textA, planA, end, drop, bookA}
 use Rattle.promises.specs.tables.Impostors.{toSix}
 use Rattle.promises.specs.tables.Weaker.{ByNumber, StrictOrder, KeptByEnded, StartsLater, StartsAtOnce, DroppedReady, textTwo, planTwo}
@@ -27,7 +28,7 @@ two = (refl, refl, refl, refl, refl)
 
 pub not-by-number : ByNumber → ⊥
 not-by-number every =
-    let order = every planTwo sized-two (two .0) [] 0 1 (omega arith) (omega (arith, two .1)) (two .2) in
+    let order = every planTwo EarlyStart sized-two (two .0) [] 0 1 (omega arith) (omega (arith, two .1)) (two .2) in
     omega (arith, order .planned, two .3, two .4)
 
 sized-a : SizedPlan planA
@@ -51,7 +52,7 @@ six = (refl, refl, refl)
 
 pub not-by-ended : KeptByEnded → ⊥
 not-by-ended every =
-    let kept = every planA sized-a (plan-a .0) toSix [] 1 (omega (arith, plan-a .1)) in
+    let kept = every planA EarlyStart sized-a (plan-a .0) toSix [] 1 (omega (arith, plan-a .1)) in
     omega (arith, kept .ends (six .1), plan-a .3, six .0, six .2)
 
 -- end 2 at 3 lets task 3 go, at 3
@@ -61,7 +62,7 @@ third = (refl, refl, refl, refl, refl)
 
 pub not-later : StartsLater → ⊥
 not-later every =
-    let good = on-run planA sized-a (plan-a .0) [] .good in
+    let good = on-run planA EarlyStart sized-a (plan-a .0) [] .good in
     let late =
     every (bookA []) (good .sized) (good .sound) 2 3 (third .0) 2 (omega (arith, third .1)) (third .2) (λ z. omega (arith, z, third .3)) in
     omega (arith, late, third .4)
@@ -77,7 +78,7 @@ fourth = (refl, refl, refl, refl, refl, refl, refl)
 
 pub not-at-once : StartsAtOnce → ⊥
 not-at-once every =
-    let good = on-run planB sized-b (fourth .0) (end 1 1 ∷ []) .good in
+    let good = on-run planB EarlyStart sized-b (fourth .0) (end 1 1 ∷ []) .good in
     let soon =
     every (bookB (end 1 1 ∷ [])) (good .sized) (good .sound) 2 3 (fourth .2) 2 (omega (arith, fourth .3)) (fourth .4) (λ z. omega (arith, z, fourth .5)) in
     omega (arith, soon, fourth .6)
@@ -88,5 +89,5 @@ passed = (refl, refl, refl)
 
 pub not-dropped-ready : DroppedReady → ⊥
 not-dropped-ready every =
-    let late = every planB sized-b (fourth .0) (drop 4 ∷ toEight) 3 (omega (arith, fourth .1)) (λ z. omega (arith, z, passed .0)) in
+    let late = every planB EarlyStart sized-b (fourth .0) (drop 4 ∷ toEight) 3 (omega (arith, fourth .1)) (λ z. omega (arith, z, passed .0)) in
     omega (arith, late, passed .1, passed .2)

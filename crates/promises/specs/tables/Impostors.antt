@@ -77,6 +77,7 @@ withState book clock start end mark = record {
   edition = book .edition;
   boards = book .boards;
   tasks = book .tasks;
+  rule = book .rule;
   clock = clock;
   board = book .board;
   ready = book .ready;

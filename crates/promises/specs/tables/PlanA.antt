@@ -6,6 +6,7 @@ use Rattle.plan.specs.Read.{readingOf}
 use Rattle.plan.specs.declared.Plan.{Plan}
 use Rattle.theory.specs.Events.{Event}
 use Rattle.book.specs.declared.Book.{Book}
+use Rattle.book.specs.declared.Rule.the-variants.{EarlyStart}
 use Rattle.promises.specs.Runs.{runOf}
 
 abbrev pub textA : List ℕ
@@ -25,4 +26,4 @@ abbrev pub drop : ℕ → Event
 drop task = Event.drops task
 
 abbrev pub bookA : List Event → Book
-bookA events = runOf planA events
+bookA events = runOf planA EarlyStart events

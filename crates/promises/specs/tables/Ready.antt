@@ -17,6 +17,7 @@ use Rattle.plan.specs.Read.{readingOf}
 use Rattle.plan.specs.declared.Plan.{Plan}
 use Rattle.book.specs.View.{planView, bookView}
 use Rattle.book.specs.declared.Book.{Book}
+use Rattle.book.specs.declared.Rule.the-variants.{EarlyStart}
 use Rattle.promises.specs.Runs.{limitOf, runOf}
 use Rattle.promises.specs.tables.PlanA.{end, drop}
 use Rattle.promises.specs.tables.Starred.{Item, gives, shows, starts, ends}
@@ -33,7 +34,7 @@ unfoldable pub planB : Plan
 planB = readingOf textB .plan
 
 abbrev pub bookB : List Event → Book
-bookB events = runOf planB events
+bookB events = runOf planB EarlyStart events
 
 -- tasks 1 to 3 end at 5, 3 and 8
 abbrev pub toEight : List Event

@@ -8,6 +8,8 @@ use Rattle.book.specs.Event.{answerTo}
 use Rattle.book.specs.Early.{figureOf}
 use Rattle.plan.specs.Value.{at}
 use Rattle.plan.specs.declared.Plan.{Plan}
+use Rattle.book.specs.declared.Rule.{Rule}
+use Rattle.book.specs.declared.Rule.the-variants.{EarlyStart}
 use Rattle.promises.specs.Runs.{runOf}
 use Rattle.promises.specs.tables.PlanA.{end, drop, planA}
 
@@ -18,16 +20,16 @@ pub data Item : Type 0 where
   starts : List Event → ℕ → ℕ → Item
   ends : List Event → ℕ → ℕ → Item
 
-abbrev pub holdsOn : Plan → Item → Bool
-holdsOn plan (gives events event code) = eqb (answerTo (runOf plan events) event .code) code
-holdsOn plan (shows events early) = eqb (figureOf (runOf plan events) .early) early
-holdsOn plan (starts events task tick) =
-    let book = runOf plan events in not (eqb (at (book .mark) (task - 1)) 0) && eqb (at (book .start) (task - 1)) tick
-holdsOn plan (ends events task tick) =
-    let book = runOf plan events in eqb (at (book .mark) (task - 1)) 2 && eqb (at (book .end) (task - 1)) tick
+abbrev pub holdsOn : Plan → Rule → Item → Bool
+holdsOn plan rule (gives events event code) = eqb (answerTo (runOf plan rule events) event .code) code
+holdsOn plan rule (shows events early) = eqb (figureOf (runOf plan rule events) .early) early
+holdsOn plan rule (starts events task tick) =
+    let book = runOf plan rule events in not (eqb (at (book .mark) (task - 1)) 0) && eqb (at (book .start) (task - 1)) tick
+holdsOn plan rule (ends events task tick) =
+    let book = runOf plan rule events in eqb (at (book .mark) (task - 1)) 2 && eqb (at (book .end) (task - 1)) tick
 
 abbrev pub holds : Item → Bool
-holds item = holdsOn planA item
+holds item = holdsOn planA EarlyStart item
 
 abbrev pub starredItems : List Item
 starredItems =

@@ -15,13 +15,14 @@ use Rattle.book.specs.Sound.{isSound}
 use Rattle.book.specs.Report.{reportedOf}
 use Rattle.book.specs.Early.{figureOf}
 use Rattle.book.specs.declared.Book.{Book}
+use Rattle.book.specs.declared.Rule.{Rule}
 use Rattle.promises.specs.Runs.{runOf, Waiting, Started, startOf, InOrder, EarlyBy}
 
 -- clashing tasks run by task number, whichever is planned first
 abbrev pub ByNumber : Type 0
 ByNumber =
-    (plan : Plan) → SizedPlan plan → isAccepted plan ≡ true → (events : List Event) (a b : ℕ) → a < b → b < plan .tasks
-    → clash (taskAt plan) a b ≡ true → InOrder plan (runOf plan events) a b
+    (plan : Plan) (rule : Rule) → SizedPlan plan → isAccepted plan ≡ true → (events : List Event) (a b : ℕ) → a < b → b < plan .tasks
+    → clash (taskAt plan) a b ≡ true → InOrder plan (runOf plan rule events) a b
 
 -- of clashing tasks one is planned to finish strictly before the other begins
 abbrev pub StrictOrder : Type 0
@@ -33,8 +34,8 @@ StrictOrder =
 -- the figure is kept by tasks that had ended already, too
 abbrev pub KeptByEnded : Type 0
 KeptByEnded =
-    (plan : Plan) → SizedPlan plan → isAccepted plan ≡ true → (events later : List Event) (i : ℕ) → i < plan .tasks
-    → EarlyBy plan (figureOf (runOf plan events) .early) (runOf plan (events ++ later)) i
+    (plan : Plan) (rule : Rule) → SizedPlan plan → isAccepted plan ≡ true → (events later : List Event) (i : ℕ) → i < plan .tasks
+    → EarlyBy plan (figureOf (runOf plan rule events) .early) (runOf plan rule (events ++ later)) i
 
 -- a task starts one tick after the report that lets it go
 abbrev pub StartsLater : Type 0
@@ -53,8 +54,8 @@ StartsAtOnce =
 -- nobody starts before its ready tick, dropped or not
 abbrev pub DroppedReady : Type 0
 DroppedReady =
-    (plan : Plan) → SizedPlan plan → isAccepted plan ≡ true → (events : List Event) (i : ℕ) → i < plan .tasks
-    → Started (runOf plan events) i → at (plan .ready) i ≤ startOf (runOf plan events) i
+    (plan : Plan) (rule : Rule) → SizedPlan plan → isAccepted plan ≡ true → (events : List Event) (i : ℕ) → i < plan .tasks
+    → Started (runOf plan rule events) i → at (plan .ready) i ≤ startOf (runOf plan rule events) i
 
 -- two tasks of one board, the second planned first
 abbrev pub textTwo : List ℕ

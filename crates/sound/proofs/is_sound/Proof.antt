@@ -1,40 +1,55 @@
-use Rattle.sound.proofs.SoundLaws.{unsound-plan, few-tasks, unsound-past, unsound-task, sound-clock}
+use mathlib.Core.Bool.{_&&_}
+use lib.Dec.{leb}
+use Rattle.view.specs.View.{planSeen}
+use Rattle.sound.proofs.SoundLaws.{unsound-unknown, few-tasks, unsound-past, unsound-task, sound-clock}
 use borrow.Author.Needs.{needs}
 use Rattle.sound.proofs.is_sound.Statement.{statement}
 use Rattle.sound.proofs.is_sound.Tie as tie
 
-is-accepted-requires : tie.Need-is-accepted-requires
-is-accepted-requires c κs = search needs
-
 returns : tie.Need-returns
-returns c = unsound-plan _ _ _ _ _ _ (c .before .is-accepted .ensures) (c .if1 .taken)
+returns c =
+    let a = c .before .args in
+    unsound-unknown (planSeen (a .tasks) (a .ready .now) (a .begin .now) (a .finish .now) (a .waits .now)) (a .mark .now) (a .start .now) (a .end .now) (a .dropped .now) (a .clock) (a .known && leb (a .tasks) 64)
+    (c .if1 .taken)
 
 past-nothing-requires : tie.Need-past-nothing-requires
 past-nothing-requires c κs = search needs
 
 returns-2 : tie.Need-returns-2
-returns-2 c = unsound-past _ _ _ _ _ _ (c .before .before .before .is-accepted .ensures) (c .before .before .if1 .left) (c .before .past-nothing .ensures) (c .if2 .taken)
+returns-2 c =
+    let a = c .before .before .before .args in
+    unsound-past (planSeen (a .tasks) (a .ready .now) (a .begin .now) (a .finish .now) (a .waits .now)) (a .mark .now) (a .start .now) (a .end .now) (a .dropped .now) (a .clock) (a .known && leb (a .tasks) 64)
+    (c .before .before .if1 .left) (c .before .past-nothing .ensures) (c .if2 .taken)
+
+unended-set-requires : tie.Need-unended-set-requires
+unended-set-requires c κs = few-tasks (c .before .before .before .args .tasks) (c .before .before .before .args .known) (c .before .before .if1 .left)
 
 tasks-sound-requires : tie.Need-tasks-sound-requires
-tasks-sound-requires c κs = few-tasks _ (c .before .before .before .is-accepted .ensures) (c .before .before .if1 .left)
+tasks-sound-requires c κs = (few-tasks (c .before .before .before .before .args .tasks) (c .before .before .before .before .args .known) (c .before .before .before .if1 .left), c .unended-set .ensures)
 
 returns-3 : tie.Need-returns-3
-returns-3 c = unsound-task _ _ _ _ _ _ (c .before .before .before .before .before .is-accepted .ensures) (c .before .before .before .before .if1 .left) (c .before .before .before .past-nothing .ensures) (c .before .before .if2 .left) (c .before .tasks-sound .ensures) (c .if3 .taken)
+returns-3 c =
+    let a = c .before .before .before .before .before .before .args in
+    unsound-task (planSeen (a .tasks) (a .ready .now) (a .begin .now) (a .finish .now) (a .waits .now)) (a .mark .now) (a .start .now) (a .end .now) (a .dropped .now) (a .clock) (a .known && leb (a .tasks) 64)
+    (c .before .before .before .before .before .if1 .left) (c .before .before .before .before .past-nothing .ensures) (c .before .before .before .if2 .left) (c .before .tasks-sound .ensures) (c .if3 .taken)
 
 last-end-requires : tie.Need-last-end-requires
-last-end-requires c κs = few-tasks _ (c .before .before .before .before .before .is-accepted .ensures) (c .before .before .before .before .if1 .left)
+last-end-requires c κs = few-tasks (c .before .before .before .before .before .before .args .tasks) (c .before .before .before .before .before .before .args .known) (c .before .before .before .before .before .if1 .left)
 
 returns-4 : tie.Need-returns-4
-returns-4 c = sound-clock _ _ _ _ _ _ (c .before .before .before .before .before .before .is-accepted .ensures) (c .before .before .before .before .before .if1 .left) (c .before .before .before .before .past-nothing .ensures) (c .before .before .before .if2 .left) (c .before .before .tasks-sound .ensures) (c .before .if3 .left) (c .last-end .ensures)
+returns-4 c =
+    let a = c .before .before .before .before .before .before .before .args in
+    sound-clock (planSeen (a .tasks) (a .ready .now) (a .begin .now) (a .finish .now) (a .waits .now)) (a .mark .now) (a .start .now) (a .end .now) (a .dropped .now) (a .clock) (a .known && leb (a .tasks) 64)
+    (c .before .before .before .before .before .before .if1 .left) (c .before .before .before .before .before .past-nothing .ensures) (c .before .before .before .before .if2 .left) (c .before .before .tasks-sound .ensures) (c .before .if3 .left) (c .last-end .ensures)
 
 pub is-sound-spec : {M : Type 1} → statement M
 is-sound-spec =
     tie.close
     (tie.spec
-    is-accepted-requires
     returns
     past-nothing-requires
     returns-2
+    unended-set-requires
     tasks-sound-requires
     returns-3
     last-end-requires

@@ -1,6 +1,8 @@
-use Rattle.sound.proofs.SoundLaws.{test-waiting, test-skipped, test-running, test-ended}
+use Rattle.sound.proofs.SoundLaws.{free-is, test-waiting, test-skipped, test-running, test-ended}
+use Rattle.plan.specs.Value.{at}
+use Rattle.view.specs.View.{planSeen}
 use Prim.Native.Nat.{max}
-use mathlib.Core.Path.{ap, _∙_}
+use mathlib.Core.Path.{refl, ap, _∙_}
 use borrow.Author.Needs.{needs}
 use Rattle.sound.proofs.task_sound.Statement.{statement}
 use Rattle.sound.proofs.task_sound.Tie as tie
@@ -11,11 +13,11 @@ element-copy-out-state c = search needs
 element-copy-out-gone : tie.Need-element-copy-out-gone
 element-copy-out-gone c = search needs
 
-mul-awaited : tie.Need-mul-awaited
-mul-awaited c = search needs
+mul-ready-at : tie.Need-mul-ready-at
+mul-ready-at c = search needs
 
-element-copy-out-awaited : tie.Need-element-copy-out-awaited
-element-copy-out-awaited c = search needs
+element-copy-out-ready-at : tie.Need-element-copy-out-ready-at
+element-copy-out-ready-at c = search needs
 
 mul-started : tie.Need-mul-started
 mul-started c = search needs
@@ -29,14 +31,17 @@ mul-over c = search needs
 element-copy-out-over : tie.Need-element-copy-out-over
 element-copy-out-over c = search needs
 
-all-ended-requires : tie.Need-all-ended-requires
-all-ended-requires c κs = search needs
+mul-awaited : tie.Need-mul-awaited
+mul-awaited c = search needs
+
+element-copy-out-awaited : tie.Need-element-copy-out-awaited
+element-copy-out-awaited c = search needs
 
 returns : tie.Need-returns
 returns c =
     let a = c .before .before .before .before .before .before .before .args in
-    test-waiting (a .tasks) (a .ready .now) (a .begin .now) (a .finish .now) (a .mark .now) (a .start .now) (a .end .now) (a .dropped .now) (a .clock) (a .i)
-    (c .before .all-ended .ensures) (c .if1 .taken)
+    test-waiting (a .tasks) (a .ready .now) (a .begin .now) (a .finish .now) (a .waits .now) (a .mark .now) (a .start .now) (a .end .now) (a .dropped .now) (a .clock) (a .i)
+    (free-is (planSeen (a .tasks) (a .ready .now) (a .begin .now) (a .finish .now) (a .waits .now)) (at (a .mark .now)) (a .i) _ _ (λ j. refl) (c .before .before .before .before .before .before .before .pre .2)) (c .if1 .taken)
 
 due-at-requires : tie.Need-due-at-requires
 due-at-requires c κs = search needs
@@ -50,8 +55,8 @@ waits-at-all-requires c κs = search needs
 returns-2 : tie.Need-returns-2
 returns-2 c =
     let a = c .before .before .before .before .before .before .before .before .before .before .before .args in
-    test-skipped (a .tasks) (a .ready .now) (a .begin .now) (a .finish .now) (a .mark .now) (a .start .now) (a .end .now) (a .dropped .now) (a .clock) (a .i)
-    (c .before .before .before .before .before .all-ended .ensures) (c .before .before .before .before .if1 .left) (c .before .before .before .due-at .ensures) (c .before .if2 .taken) (c .waits-at-all .ensures)
+    test-skipped (a .tasks) (a .ready .now) (a .begin .now) (a .finish .now) (a .waits .now) (a .mark .now) (a .start .now) (a .end .now) (a .dropped .now) (a .clock) (a .i)
+    (free-is (planSeen (a .tasks) (a .ready .now) (a .begin .now) (a .finish .now) (a .waits .now)) (at (a .mark .now)) (a .i) _ _ (λ j. refl) (c .before .before .before .before .before .before .before .before .before .before .before .pre .2)) (c .before .before .before .before .if1 .left) (c .before .before .before .due-at .ensures) (c .before .if2 .taken) (c .waits-at-all .ensures)
 
 mul-limit-of : tie.Need-mul-limit-of
 mul-limit-of c = search needs
@@ -74,8 +79,8 @@ wide-requires c κs = search needs
 returns-3 : tie.Need-returns-3
 returns-3 c =
     let a = c .before .before .before .before .before .before .before .before .before .before .before .before .before .before .before .args in
-    test-running (a .tasks) (a .ready .now) (a .begin .now) (a .finish .now) (a .mark .now) (a .start .now) (a .end .now) (a .dropped .now) (a .clock) (a .i)
-    (c .before .before .before .before .before .before .before .before .before .all-ended .ensures) (c .before .before .before .before .before .before .before .before .if1 .left) (c .before .before .before .before .before .before .start-of .ensures ∙ ap (max _) (c .before .before .before .before .before .before .before .due-at .ensures)) (c .before .before .limit-of .ensures)
+    test-running (a .tasks) (a .ready .now) (a .begin .now) (a .finish .now) (a .waits .now) (a .mark .now) (a .start .now) (a .end .now) (a .dropped .now) (a .clock) (a .i)
+    (free-is (planSeen (a .tasks) (a .ready .now) (a .begin .now) (a .finish .now) (a .waits .now)) (at (a .mark .now)) (a .i) _ _ (λ j. refl) (c .before .before .before .before .before .before .before .before .before .before .before .before .before .before .before .pre .2)) (c .before .before .before .before .before .before .before .before .if1 .left) (c .before .before .before .before .before .before .start-of .ensures ∙ ap (max _) (c .before .before .before .before .before .before .before .due-at .ensures)) (c .before .before .limit-of .ensures)
     (c .before .before .before .before .before .if2 .left) (c .before .if3 .taken) (c .wide .ensures)
 
 wide-requires-2 : tie.Need-wide-requires-2
@@ -84,8 +89,8 @@ wide-requires-2 c κs = search needs
 returns-4 : tie.Need-returns-4
 returns-4 c =
     let a = c .before .before .before .before .before .before .before .before .before .before .before .before .before .before .before .args in
-    test-ended (a .tasks) (a .ready .now) (a .begin .now) (a .finish .now) (a .mark .now) (a .start .now) (a .end .now) (a .dropped .now) (a .clock) (a .i)
-    (c .before .before .before .before .before .before .before .before .before .all-ended .ensures) (c .before .before .before .before .before .before .before .before .if1 .left) (c .before .before .before .before .before .before .start-of .ensures ∙ ap (max _) (c .before .before .before .before .before .before .before .due-at .ensures)) (c .before .before .limit-of .ensures)
+    test-ended (a .tasks) (a .ready .now) (a .begin .now) (a .finish .now) (a .waits .now) (a .mark .now) (a .start .now) (a .end .now) (a .dropped .now) (a .clock) (a .i)
+    (free-is (planSeen (a .tasks) (a .ready .now) (a .begin .now) (a .finish .now) (a .waits .now)) (at (a .mark .now)) (a .i) _ _ (λ j. refl) (c .before .before .before .before .before .before .before .before .before .before .before .before .before .before .before .pre .2)) (c .before .before .before .before .before .before .before .before .if1 .left) (c .before .before .before .before .before .before .start-of .ensures ∙ ap (max _) (c .before .before .before .before .before .before .before .due-at .ensures)) (c .before .before .limit-of .ensures)
     (c .before .before .before .before .before .if2 .left) (c .before .if3 .left) (c .wide2 .ensures)
 
 pub task-sound-spec : {M : Type 1} → statement M
@@ -94,13 +99,14 @@ task-sound-spec =
     (tie.spec
     element-copy-out-state
     element-copy-out-gone
-    mul-awaited
-    element-copy-out-awaited
+    mul-ready-at
+    element-copy-out-ready-at
     mul-started
     element-copy-out-started
     mul-over
     element-copy-out-over
-    all-ended-requires
+    mul-awaited
+    element-copy-out-awaited
     returns
     due-at-requires
     start-of-requires

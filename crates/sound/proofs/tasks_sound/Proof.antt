@@ -13,10 +13,10 @@ use Rattle.sound.proofs.tasks_sound.Statement.{statement}
 use Rattle.sound.proofs.tasks_sound.Tie as tie
 
 abbrev Inv-loop : tie.InvT-loop
-Inv-loop ready begin finish start end mark dropped clock tasks i₀ i = (i ≤ tasks) × (every i (taskTest (planSeen tasks ready begin finish) (bookSeen mark start end dropped clock)) ≡ true)
+Inv-loop ready begin finish waits start end mark dropped unended clock tasks i₀ i = (i ≤ tasks) × (every i (taskTest (planSeen tasks ready begin finish waits) (bookSeen mark start end dropped clock)) ≡ true)
 
 abbrev μ-loop : tie.MeasureT-loop
-μ-loop ready begin finish start end mark dropped clock tasks i₀ i = tasks - i
+μ-loop ready begin finish waits start end mark dropped unended clock tasks i₀ i = tasks - i
 
 loop-holds : tie.Need-loop-holds Inv-loop μ-loop
 unfolding every

@@ -1,7 +1,12 @@
 use Rattle.book.proofs.ReportLaws.{figure-refused, figure-granted}
+use Rattle.book.proofs.WaitLaws.{sound-seen}
+use mathlib.Core.Path.{_∙_}
 use borrow.Author.Needs.{needs}
 use Rattle.book.proofs.Book.minimum_early.Statement.{statement}
 use Rattle.book.proofs.Book.minimum_early.Tie as tie
+
+wait-sets-requires : tie.Need-wait-sets-requires
+wait-sets-requires c κs = search needs
 
 is-sound-requires : tie.Need-is-sound-requires
 is-sound-requires c κs = search needs
@@ -10,7 +15,10 @@ answer-of-requires : tie.Need-answer-of-requires
 answer-of-requires c κs = search needs
 
 returns : tie.Need-returns
-returns c = figure-refused _ (c .before .before .is-sound .ensures) (c .before .if1 .taken) (c .answer-of .ensures)
+returns c =
+    let book = c .before .before .before .before .before .before .before .before .before .before .before .before .before .before .before .before .before .before .before .before .before .args .t1 in
+    let sound = c .before .before .is-sound .ensures ∙ sound-seen book (c .before .before .before .before .before .before .before .before .before .before .before .before .before .wait-sets .ensures) in
+    figure-refused book sound (c .before .if1 .taken) (c .answer-of .ensures)
 
 answer-of-requires-2 : tie.Need-answer-of-requires-2
 answer-of-requires-2 c κs = search needs
@@ -19,12 +27,16 @@ least-early-requires : tie.Need-least-early-requires
 least-early-requires c κs = search needs
 
 returns-2 : tie.Need-returns-2
-returns-2 c = figure-granted _ (c .before .before .before .before .before .before .before .before .before .is-sound .ensures) (c .before .before .before .before .before .before .before .before .if1 .left) (c .before .before .before .before .before .before .before .answer-of2 .ensures) (c .least-early .ensures)
+returns-2 c =
+    let book = c .before .before .before .before .before .before .before .before .before .before .before .before .before .before .before .before .before .before .before .before .before .before .before .before .before .before .before .before .args .t1 in
+    let sound = c .before .before .before .before .before .before .before .before .before .is-sound .ensures ∙ sound-seen book (c .before .before .before .before .before .before .before .before .before .before .before .before .before .before .before .before .before .before .before .before .wait-sets .ensures) in
+    figure-granted book sound (c .before .before .before .before .before .before .before .before .if1 .left) (c .before .before .before .before .before .before .before .answer-of2 .ensures) (c .least-early .ensures)
 
 pub minimum-early-spec : {M : Type 1} → statement M
 minimum-early-spec =
     tie.close
     (tie.spec
+    wait-sets-requires
     is-sound-requires
     answer-of-requires
     returns

@@ -13,7 +13,7 @@ skip-free-requires c κs =
     ready-small _ _ (c .before .before .before .args .dropped .now) (c .before .before .before .args .clock) _ moved
     (record {
       fit = c .before .before .before .pre;
-      rows = seen-rows (a .tasks) (a .ready .now) (a .begin .now) (a .finish .now) _ _ _ _ (c .last-tasks .ensures);
+      rows = seen-rows (a .tasks) (a .ready .now) (a .finish .now) (a .waits .now) _ _ _ _ (c .last-tasks .ensures);
       size-mark = search needs;
       size-start = search needs;
       size-end = search needs;
@@ -27,7 +27,7 @@ start-free-requires c κs =
     (skipped-ready _ _ _ _ _ moved
     (record {
       fit = c .before .before .before .before .pre;
-      rows = seen-rows (a .tasks) (a .ready .now) (a .begin .now) (a .finish .now) _ _ _ _ (c .before .last-tasks .ensures);
+      rows = seen-rows (a .tasks) (a .ready .now) (a .finish .now) (a .waits .now) _ _ _ _ (c .before .last-tasks .ensures);
       size-mark = search needs;
       size-start = search needs;
       size-end = search needs;
@@ -42,7 +42,7 @@ returns c =
     settled-is _ _ _ _ _ moved
     (record {
       fit = c .before .before .before .before .before .pre;
-      rows = seen-rows (a .tasks) (a .ready .now) (a .begin .now) (a .finish .now) _ _ _ _ (c .before .before .last-tasks .ensures);
+      rows = seen-rows (a .tasks) (a .ready .now) (a .finish .now) (a .waits .now) _ _ _ _ (c .before .before .last-tasks .ensures);
       size-mark = search (needs, good);
       size-start = search (needs, good);
       size-end = search (needs, good);

@@ -13,10 +13,10 @@ use Rattle.book.proofs.table.last_tasks.Statement.{statement}
 use Rattle.book.proofs.table.last_tasks.Tie as tie
 
 abbrev Inv-loop : tie.InvT-loop
-Inv-loop board begin finish mark tasks last₀ i₀ last i = (i ≤ tasks) × (length last ≡ 64) × (TableTo (planSeen tasks [] begin finish) (at board) (at mark) i last)
+Inv-loop board finish waits mark tasks last₀ i₀ last i = (i ≤ tasks) × (length last ≡ 64) × (TableTo (planSeen tasks [] [] finish waits) (at board) (at mark) i last)
 
 abbrev μ-loop : tie.MeasureT-loop
-μ-loop board begin finish mark tasks last₀ i₀ last i = tasks - i
+μ-loop board finish waits mark tasks last₀ i₀ last i = tasks - i
 
 loop-holds : tie.Need-loop-holds Inv-loop μ-loop
 loop-holds c = (omega arith, search needs, table-none _ _ _ _)

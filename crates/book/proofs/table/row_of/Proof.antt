@@ -1,38 +1,35 @@
 use mathlib.Core.List.{[]}
 use Rattle.book.proofs.TableLaws.{row-none, row-passed, row-taken, row-small}
-use borrow.Author.Tests.{le-leb, lt-leb}
+use Rattle.view.proofs.Turns.{bit-seen}
 use Rattle.book.specs.private.Table.{RowTo}
 use Rattle.plan.specs.Value.{at}
 use lib.ListN.{length, length-set, getD-replicate}
 use Rattle.view.specs.View.{planSeen}
 use mathlib.Core.Logic.{⊎-elim}
 use native.Mathlib.Omega.{arith}
-use mathlib.Core.Path.{_≡_}
+use mathlib.Core.Path.{_≡_, sym, _∙_}
 use Prim.Native.Nat.{ℕ, _-_, _≤_}
 use borrow.Author.Needs.{needs}
 use Rattle.book.proofs.table.row_of.Statement.{statement}
 use Rattle.book.proofs.table.row_of.Tie as tie
 
 abbrev Inv-loop : tie.InvT-loop
-Inv-loop board begin finish tasks i by row₀ k₀ row k = (k ≤ tasks) × (length row ≡ 8) × (RowTo (planSeen tasks [] begin finish) (at board) i k row)
+Inv-loop board finish waits tasks i awaited row₀ k₀ row k = (k ≤ tasks) × (length row ≡ 8) × (RowTo (planSeen tasks [] [] finish waits) (at board) i k row)
 
 abbrev μ-loop : tie.MeasureT-loop
-μ-loop board begin finish tasks i by row₀ k₀ row k = tasks - k
+μ-loop board finish waits tasks i awaited row₀ k₀ row k = tasks - k
 
-mul-by : tie.Need-mul-by Inv-loop μ-loop
-mul-by c = search needs
+mul-awaited : tie.Need-mul-awaited Inv-loop μ-loop
+mul-awaited c = search needs
 
-element-copy-out-by : tie.Need-element-copy-out-by Inv-loop μ-loop
-element-copy-out-by c = search needs
+element-copy-out-awaited : tie.Need-element-copy-out-awaited Inv-loop μ-loop
+element-copy-out-awaited c = search needs
 
 loop-holds : tie.Need-loop-holds Inv-loop μ-loop
 loop-holds c = (omega arith, search needs, row-none _ _ _ _ (λ j l. getD-replicate {A = ℕ} 8 j 0 0 l))
 
-mul-if1 : tie.Need-mul-if1 Inv-loop μ-loop
-mul-if1 c = search needs
-
-element-copy-out-if1 : tie.Need-element-copy-out-if1 Inv-loop μ-loop
-element-copy-out-if1 c = search needs
+is-in-requires : tie.Need-is-in-requires Inv-loop μ-loop
+is-in-requires c κs = search needs
 
 element-copy-out-j : tie.Need-element-copy-out-j Inv-loop μ-loop
 element-copy-out-j c = search needs
@@ -59,14 +56,15 @@ loop-less : tie.Need-loop-less Inv-loop μ-loop
 loop-less c = search needs
 
 loop-again : tie.Need-loop-again Inv-loop μ-loop
-loop-again c = let o = c .before .before .before .before .before .pre .1 (c .before .before .before .loop .k) (omega arith) in
+loop-again c = let seen = bit-seen (c .before .before .before .loop .k) _ (omega arith) (c .before .is-in .ensures) in
+    let o = c .before .before .before .before .before .pre .1 (c .before .before .before .loop .k) (omega arith) in
     ⊎-elim
     (λ w. (
       omega arith,
       rw (w .3) (simp length-set (c .before .before .before .loop .inv .1)),
-      rw (w .3) (row-taken _ _ _ _ _ _ _ (c .before .before .before .loop .inv .2) (le-leb _ _ (w .0 .taken)) (omega arith) (omega arith) (omega arith) (w .2 .ensures)),
+      rw (w .3) (row-taken _ _ _ _ _ _ _ (c .before .before .before .loop .inv .2) (sym seen ∙ w .0 .taken) (omega arith) (omega arith) (omega arith) (w .2 .ensures)),
     ))
-    (λ w. (omega arith, rw (w .1) (c .before .before .before .loop .inv .1), rw (w .1) (row-passed _ _ _ _ _ (c .before .before .before .loop .inv .2) (lt-leb _ _ (w .0 .left)))))
+    (λ w. (omega arith, rw (w .1) (c .before .before .before .loop .inv .1), rw (w .1) (row-passed _ _ _ _ _ (c .before .before .before .loop .inv .2) (sym seen ∙ w .0 .left))))
     (c .if1 .came)
 
 returns : tie.Need-returns Inv-loop μ-loop
@@ -78,11 +76,10 @@ row-of-spec =
     (tie.spec
     Inv-loop
     μ-loop
-    mul-by
-    element-copy-out-by
+    mul-awaited
+    element-copy-out-awaited
     loop-holds
-    mul-if1
-    element-copy-out-if1
+    is-in-requires
     element-copy-out-j
     sub-j
     cast-j

@@ -8,13 +8,13 @@ use Rattle.log.proofs.ends.put_ends.Statement.{statement}
 use Rattle.log.proofs.ends.put_ends.Tie as tie
 
 abbrev Inv-loop : tie.InvT-loop
-Inv-loop out₀ at ends book₀ place₀ line₀ rest₀ out book place line rest = Walk out₀ at book₀ ends out book place line rest
+Inv-loop out₀ at line₀ ends book₀ place₀ rest₀ out line book place rest = Walk out₀ at book₀ line₀ ends out book place line rest
 
 abbrev μ-loop : tie.MeasureT-loop
-μ-loop out₀ at ends book₀ place₀ line₀ rest₀ out book place line rest = length rest
+μ-loop out₀ at line₀ ends book₀ place₀ rest₀ out line book place rest = length rest
 
 loop-holds : tie.Need-loop-holds Inv-loop μ-loop
-loop-holds c = walk-start (c .before .before .pre .sized)
+loop-holds c = walk-start (c .before .before .pre .begun) (c .before .before .pre .sized)
 
 next-entry-requires : tie.Need-next-entry-requires Inv-loop μ-loop
 next-entry-requires c κs = tt

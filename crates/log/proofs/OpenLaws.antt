@@ -1,0 +1,60 @@
+-- What an opened book prints, and which of its cases the first line of ends.txt is.
+use Prim.Native.Nat.{ℕ, suc, _≤_}
+use mathlib.Core.Path.{_≡_, refl, sym, ap, _∙_}
+use mathlib.Core.List.{List, [], _∷_, _++_}
+use native.Mathlib.Omega.{arith}
+use lib.ListN.{length, replicate, length-drop}
+use types.Run.{OneOf}
+use denote.Enum.Declared
+use Rattle.laws.specs.Split.{indexOf, after}
+use Rattle.text.specs.Line.{LF}
+use Rattle.plan.specs.Answer.{granted}
+use Rattle.plan.specs.declared.Plan.{Plan}
+use Rattle.view.proofs.Laid.{zeros-laid}
+use Rattle.book.specs.Open.{ruleNumber, blankBook, openedOn}
+use Rattle.book.specs.View.{layOut}
+use Rattle.book.specs.declared.Rule.{Rule}
+use Rattle.entries.specs.declared.Choice.{Choice}
+use Rattle.entries.specs.declared.Choice.the-variants.{Unsaid, Chosen, Malformed}
+use Rattle.entries.proofs.Choice.{the-type}
+use Rattle.log.specs.Lines.{runLine, earlyLine}
+use Rattle.log.specs.Log.{shownAfter, openLog}
+use Rattle.log.specs.declared.Shown.{Shown}
+use Rattle.log.specs.private.Writes.{startsIn, openedIn}
+use Rattle.log.proofs.BookLaws.{opened-tasks}
+use Rattle.log.proofs.ReportLaws.{starts-same}
+
+-- what is printed of an opened book, made of its parts
+abbrev pub openedText : Shown → List ℕ
+openedText s =
+    openedIn (s .book .rule) (s .book .boards) (s .book .tasks) (s .book .mark) (s .book .dropped) (s .book .board) (s .book .begin) (s .book .start)
+    (s .book .clock) (s .early)
+
+module _ (plan : Plan) (rule : Rule) where
+  blank-mark : blankBook (ruleNumber rule) plan .mark ≡ replicate 64 0
+  unfolding layOut
+  blank-mark = sym (zeros-laid (plan .tasks))
+
+  pub opened-same : openedText (shownAfter granted (openedOn plan rule)) ≡ openLog plan rule
+  unfolding openLog
+  opened-same =
+      let book = openedOn plan rule in
+      let blank = blankBook (ruleNumber rule) plan in
+      ap (λ (x : List ℕ). runLine book ++ (x ++ earlyLine (shownAfter granted book)))
+      (ap (λ (m : List ℕ). startsIn m (book .mark) (book .dropped) (book .board) (book .begin) (book .start) (book .tasks)) (sym blank-mark)
+      ∙ ap (startsIn (blank .mark) (book .mark) (book .dropped) (book .board) (book .begin) (book .start)) (opened-tasks plan rule)
+      ∙ sym (starts-same blank book (plan .tasks)))
+
+-- what the code tells apart by a match
+pub is-unsaid : (choice : Choice) → OneOf (0 ∷ []) (Declared.tagOf the-type choice) → choice ≡ Unsaid
+is-unsaid Unsaid t = refl
+is-unsaid Chosen t = absurd (omega arith)
+is-unsaid (Malformed column) t = absurd (omega arith)
+
+pub is-chosen : (choice : Choice) → OneOf (1 ∷ []) (Declared.tagOf the-type choice) → choice ≡ Chosen
+is-chosen Unsaid t = absurd (omega arith)
+is-chosen Chosen t = refl
+is-chosen (Malformed column) t = absurd (omega arith)
+
+pub rest-less : (s : List ℕ) {rest : List ℕ} → rest ≡ after LF s → length rest ≤ length s
+rest-less s u = rw u (omega (arith, length-drop (suc (indexOf LF s)) s))

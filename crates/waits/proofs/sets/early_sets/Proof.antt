@@ -1,0 +1,67 @@
+use Prim.Native.Nat.{_-_, _≤_}
+use native.Mathlib.Omega.{arith}
+use mathlib.Core.Path.{_≡_, refl}
+use lib.Dec.{leb}
+use lib.ListN.{replicate}
+use Rattle.laws.specs.Bits.{setOf}
+use Rattle.laws.specs.Each.{each}
+use Rattle.plan.specs.Value.{at}
+use Rattle.waits.proofs.SetLaws.{each-more}
+use borrow.Author.Needs.{needs}
+use Rattle.waits.proofs.sets.early_sets.Statement.{statement}
+use Rattle.waits.proofs.sets.early_sets.Tie as tie
+
+abbrev Inv-loop : tie.InvT-loop
+Inv-loop begin finish tasks sets₀ i₀ sets i =
+    (i ≤ tasks) × (sets ≡ each i (λ k. setOf tasks (λ j. leb (at finish j) (at begin k))) (replicate 64 0))
+
+abbrev μ-loop : tie.MeasureT-loop
+μ-loop begin finish tasks sets₀ i₀ sets i = tasks - i
+
+loop-holds : tie.Need-loop-holds Inv-loop μ-loop
+unfolding each
+loop-holds c = (omega arith, refl)
+
+mul-finished-by : tie.Need-mul-finished-by Inv-loop μ-loop
+mul-finished-by c = search needs
+
+element-copy-out-finished-by : tie.Need-element-copy-out-finished-by Inv-loop μ-loop
+element-copy-out-finished-by c = search needs
+
+finished-by-requires : tie.Need-finished-by-requires Inv-loop μ-loop
+finished-by-requires c κs = search needs
+
+mul-sets : tie.Need-mul-sets Inv-loop μ-loop
+mul-sets c = search needs
+
+array-write-sets : tie.Need-array-write-sets Inv-loop μ-loop
+array-write-sets c = search needs
+
+add-i : tie.Need-add-i Inv-loop μ-loop
+add-i c = search needs
+
+loop-less : tie.Need-loop-less Inv-loop μ-loop
+loop-less c = search needs
+
+loop-again : tie.Need-loop-again Inv-loop μ-loop
+loop-again c = (omega arith, each-more _ _ _ (c .before .before .before .loop .inv .1) (c .finished-by .ensures))
+
+returns : tie.Need-returns Inv-loop μ-loop
+returns c = let e : c .before .loop .i ≡ c .before .before .args .tasks = omega arith in rw e at (c .before .loop .inv .1)
+
+pub early-sets-spec : {M : Type 1} → statement M
+early-sets-spec =
+    tie.close
+    (tie.spec
+    Inv-loop
+    μ-loop
+    loop-holds
+    mul-finished-by
+    element-copy-out-finished-by
+    finished-by-requires
+    mul-sets
+    array-write-sets
+    add-i
+    loop-less
+    loop-again
+    returns)
