@@ -2,14 +2,14 @@
 //! Start on random mornings. Each random test prints its seed.
 
 use dispatcher::sample::damage::by_the_other_rule;
-use dispatcher::sample::events::{must_take, random_book, take, Event};
+use dispatcher::sample::events::{check_refused, must_take, random_book, Event};
 use dispatcher::sample::mornings::random_morning;
 use dispatcher::sample::pairs::{every_pair, Pair};
 use dispatcher::sample::plans::random_plan;
 use dispatcher::sample::reports::accepted_report;
 use dispatcher::sample::waiting::{either_rule, rule_of};
 use dispatcher::sample::{announced_seed, Rng};
-use dispatcher::values::{refusal, ENDED, RUNNING, WAITING};
+use dispatcher::values::{ENDED, RUNNING, WAITING};
 use dispatcher::{
     drop_task, minimum_early, open_book, read_plan, report, sound, Answer, Book, Plan, Rule,
 };
@@ -58,16 +58,6 @@ fn book_after(text: &[u8], rule: Rule, events: &[Event]) -> Book {
 fn marked(book: &Book, mark: u8) -> Vec<usize> {
     let all = 1..=usize::from(book.tasks);
     all.filter(|task| book.mark[task - 1] == mark).collect()
-}
-
-fn check_refused(book: &Book, event: Event, code: u32) {
-    let said = match event {
-        End(task, tick) => (task, tick),
-        Drop(task) => (task, 0),
-    };
-    let (answer, after) = take(book, event);
-    assert_eq!(answer, refusal(code, said.0, said.1), "{event:?}");
-    assert_eq!(after, *book, "{event:?}");
 }
 
 #[test]

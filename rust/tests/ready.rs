@@ -1,7 +1,7 @@
 //! Request P8's ready ticks by examples worked out by hand. In plan B the two rules let
 //! the same tasks go on the same ticks, so each holds by both.
 
-use dispatcher::sample::events::{must_take, rule_line, take, Event};
+use dispatcher::sample::events::{check_refused, must_take, rule_line, Event};
 use dispatcher::sample::plan_b::{PLAN_B, REPORTS_B};
 use dispatcher::values::{refusal, ENDED, RUNNING, WAITING};
 use dispatcher::{
@@ -27,17 +27,6 @@ fn book_after(rule: Rule, events: &[Event]) -> Book {
         .fold(fresh, |book, &event| must_take(&book, event));
     assert!(sound(&book));
     book
-}
-
-/// The event is refused by that code with what it says, and leaves the book.
-fn check_refused(book: &Book, event: Event, code: u32) {
-    let said = match event {
-        End(task, tick) => (task, tick),
-        Drop(task) => (task, 0),
-    };
-    let (answer, after) = take(book, event);
-    assert_eq!(answer, refusal(code, said.0, said.1), "{event:?}");
-    assert_eq!(after, *book, "{event:?}");
 }
 
 fn figure(book: &Book) -> u32 {

@@ -1,7 +1,7 @@
 -- What the public functions answer, by the tests that lead there.
 use Prim.Native.Nat.{ℕ, _-_, _<_}
 use native.Mathlib.Omega.{arith}
-use mathlib.Core.Bool.{Bool, true, false, not, cond, _&&_, _||_}
+use mathlib.Core.Bool.{Bool, true, false, not, cond, _&&_, _||_, and-true}
 use mathlib.Core.List.{[]}
 use mathlib.Core.Path.{_≡_, refl, sym, ap, _∙_}
 use mathlib.Core.Logic.{_≢_}
@@ -41,10 +41,6 @@ either false x = refl
 -- each of the two rules has a number
 accepted-by : (plan : Plan) (rule : Rule) {ok : Bool} → ok ≡ (isAccepted plan && isRule (ruleNumber rule)) → ok ≡ isAccepted plan
 accepted-by plan rule p = p ∙ ap (λ (known : Bool). isAccepted plan && known) (number-is-rule rule) ∙ and-true (isAccepted plan)
-  where
-    and-true : (b : Bool) → (b && true) ≡ b
-    and-true true = refl
-    and-true false = refl
 
 module _ (plan : Plan) (rule : Rule) {ok : Bool} (p : ok ≡ (isAccepted plan && isRule (ruleNumber rule))) {code : ℕ} {answer : Answer}
     (a : answer ≡ cond (eqb code 0 || eqb code 9) (refuse code 0 0) (refuse code 0 0)) where

@@ -1,7 +1,7 @@
 -- What is done by the table is what the theory says: dropped tasks skipped, then whoever may go let go.
 use Prim.Native.Nat.{ℕ, zero, suc, _<_, _≤_, max}
 use native.Mathlib.Omega.{arith}
-use mathlib.Core.Bool.{Bool, true, false, cond, _&&_}
+use mathlib.Core.Bool.{false, cond, and-comm}
 use mathlib.Core.List.{List, []}
 use mathlib.Core.Path.{_≡_, refl, ap, _∙_}
 use lib.ListN.{length}
@@ -21,12 +21,6 @@ use Rattle.book.proofs.StartLaws.{put-at, length-put, go-by-row}
 use Rattle.book.proofs.SkipLaws.{waits-back}
 use Rattle.book.proofs.TableLaws.{row-small}
 use Rattle.book.proofs.Views.{past-by, own-laid}
-
-and-swap : (a b : Bool) → (a && b) ≡ (b && a)
-and-swap true true = refl
-and-swap true false = refl
-and-swap false true = refl
-and-swap false false = refl
 
 -- a round keeps marks closed
 closed-skip : (plan : Plan) (book : Book) → Closed plan (book .mark) → Closed plan ((skipOnce plan book) .mark)
@@ -66,7 +60,7 @@ module _ (plan : Plan) (board : ℕ → ℕ) (dropped : List ℕ) (clock : ℕ) 
     skip-by-row : (i : ℕ) → i < plan .tasks → skipsByRow (moved .mark) dropped table i ≡ skips plan seen i
     skip-by-row i l =
         rw (go-by-row plan board moved dropped clock table (r .fit) (r .rows) i l)
-        (and-swap (isDropped (at dropped) i) (goes plan seen i))
+        (and-comm (isDropped (at dropped) i) (goes plan seen i))
 
     skips-not : (j : ℕ) → plan .tasks ≤ j → skips plan seen j ≡ false
     unfolding goes

@@ -2,7 +2,7 @@
 use Prim.Native.Nat.{ℕ, _+_, _-_, _*_, _%_, _^_, _≤_, _<_}
 use native.Mathlib.Nat.{one-mul, zero-mul}
 use mathlib.Core.Path.{_≡_, refl, sym, ap, _∙_}
-use mathlib.Core.Bool.{Bool, true, false, not, cond, _&&_, _||_}
+use mathlib.Core.Bool.{Bool, true, false, not, cond, _&&_, _||_, and-true, and-false}
 use mathlib.Core.List.{List, [], _∷_}
 use mathlib.Core.Logic.{⊎-elim}
 use native.Mathlib.Omega.{arith}
@@ -203,19 +203,11 @@ bit-of one x d h low =
         by-eq (driveOf x) (d + 1) (λ e. eq-eqb (driveOf x - 1) d (omega arith) ∙ sym (eq-eqb (driveOf x) (d + 1) e))
         (λ n. ne-eqb (driveOf x - 1) d (λ e. n (omega arith)) ∙ sym (ne-eqb (driveOf x) (d + 1) n))
 
-    all : (b : Bool) → b ≡ (b && true)
-    all true = refl
-    all false = refl
-
-    none : (b : Bool) → false ≡ (b && false)
-    none true = refl
-    none false = refl
-
     inside : 1 ≤ driveOf x → has (one * 2 ^ (driveOf x - 1)) d ≡ (eqb (driveOf x) (d + 1) && eqb one 1)
     inside r =
         by-eq one 1
-        (λ e. rw (e, one-mul (2 ^ (driveOf x - 1))) (has-bit (driveOf x - 1) d ∙ shift r ∙ all (eqb (driveOf x) (d + 1))))
-        (λ n. let z : one ≡ 0 = omega arith in rw (z, zero-mul (2 ^ (driveOf x - 1))) (has-none d ∙ none (eqb (driveOf x) (d + 1))))
+        (λ e. rw (e, one-mul (2 ^ (driveOf x - 1))) (has-bit (driveOf x - 1) d ∙ shift r ∙ sym (and-true (eqb (driveOf x) (d + 1)))))
+        (λ n. let z : one ≡ 0 = omega arith in rw (z, zero-mul (2 ^ (driveOf x - 1))) (has-none d ∙ sym (and-false (eqb (driveOf x) (d + 1)))))
 
     outside : isDrive x ≡ false → false ≡ (eqb (driveOf x) (d + 1) && eqb one 1)
     outside r =

@@ -7,7 +7,7 @@ use borrow.Author.Tests.{eq-eqb, ne-eqb}
 use Rattle.laws.specs.Scan.{scanTo}
 use Rattle.laws.proofs.Scan.{scan-turn, scan-hit, scan-end}
 use Rattle.plan.specs.Answer.{refuse, granted, isRefused}
-use mathlib.Core.Bool.{Bool, true, false, not, cond, _&&_, _||_}
+use mathlib.Core.Bool.{Bool, true, false, not, cond, _&&_, _||_, and-false}
 use mathlib.Core.List.{List}
 use lib.Dec.{eqb}
 use Rattle.plan.specs.Task.{Task}
@@ -53,12 +53,8 @@ pub idle-pair : (task : ℕ → Task) (a b : ℕ) → overlap (task a) (task b) 
 unfolding pairCode
 idle-pair task a b o this that = sym (pair-0 (not (eqb a b) && overlap (task a) (task b)) _ _ _ _ refl (rw met-is) refl (rw met-is) refl this refl that)
   where
-    none : (x : Bool) → (x && false) ≡ false
-    none true = refl
-    none false = refl
-
     met-is : (not (eqb a b) && overlap (task a) (task b)) ≡ false
-    met-is = rw o (none (not (eqb a b)))
+    met-is = rw o (and-false (not (eqb a b)))
 
 -- The search: one pair passed, one row passed, a hit, the end.
 module _ (tasks : ℕ) (task : ℕ → Task) (a : ℕ) where

@@ -2,7 +2,7 @@
 use Prim.Native.Nat.{ℕ, zero, suc, _+_, _-_, _/_, _%_, _^_, _≤_, _<_}
 use mathlib.Core.Path.{_≡_, refl, sym, ap, _∙_}
 use mathlib.Core.Logic.{_≢_}
-use mathlib.Core.Bool.{Bool, true, false, cond, _&&_, _||_}
+use mathlib.Core.Bool.{Bool, true, false, cond, _&&_, _||_, and-false, or-false}
 use native.Mathlib.Nat.{lt-of-lt-of-le, mod-lt, div-add-mod', div-eq-of-lt, mul-one, one-mul}
 use native.Mathlib.Numerals.{one-add, add-one}
 use native.Mathlib.Omega.{arith}
@@ -123,15 +123,10 @@ has-set (suc n) p d =
     one true = refl
     one false = refl
 
-    none : (a b : Bool) → (a || (b && false)) ≡ a
-    none true b = refl
-    none false true = refl
-    none false false = refl
-
     other : (d ≡ n → ⊥) → ((ltb d n && p d) || (p n && false)) ≡ (ltb d (suc n) && p d)
     other ne =
-        none (ltb d n && p d) (p n)
-        ∙ by-le n d (λ l. rw (le-ltb d n l, le-ltb d (suc n) (omega arith))) (λ l. rw (lt-ltb d n l, lt-ltb d (suc n) (omega arith)))
+        rw (and-false (p n), or-false (ltb d n && p d))
+        (by-le n d (λ l. rw (le-ltb d n l, le-ltb d (suc n) (omega arith))) (λ l. rw (lt-ltb d n l, lt-ltb d (suc n) (omega arith))))
 
 pub has-below : (n : ℕ) (p : ℕ → Bool) (d : ℕ) → d < n → has (setOf n p) d ≡ p d
 has-below n p d l = has-set n p d ∙ rw (lt-ltb d n l)

@@ -1,7 +1,7 @@
 -- A list walked up to its first 0, each item's bit put into a set.
 use Prim.Native.Nat.{ℕ, _+_, _^_, _≤_, _<_}
-use mathlib.Core.Path.{_≡_, refl, _∙_}
-use mathlib.Core.Bool.{Bool, true, false, _||_}
+use mathlib.Core.Path.{_≡_, sym, _∙_}
+use mathlib.Core.Bool.{Bool, _||_, or-false, or-assoc}
 use mathlib.Core.List.{List, []}
 use lib.Bits.{bitOr, or-lt}
 use lib.Pow.{pow-pos}
@@ -29,11 +29,7 @@ module _ (n : ℕ) (q : ℕ → ℕ → Bool) (l : List ℕ) where
   module _ (i set : ℕ) (inv : SetFrom i set) where
     done : before 0 (drop i l) ≡ [] → set ≡ setOf n (λ d. anyOf (q d) (before 0 l))
     unfolding anyOf
-    done e = set-is n set (λ d. anyOf (q d) (before 0 l)) (inv .small) (λ d h. none (has set d) ∙ rw e at (inv .bits d h))
-      where
-        none : (x : Bool) → x ≡ (x || false)
-        none true = refl
-        none false = refl
+    done e = set-is n set (λ d. anyOf (q d) (before 0 l)) (inv .small) (λ d h. sym (or-false (has set d)) ∙ rw e at (inv .bits d h))
 
     pub gather-stop : i < length l → getD l i 0 ≡ 0 → set ≡ setOf n (λ d. anyOf (q d) (before 0 l))
     gather-stop h e = done (before-here 0 l i h e)
@@ -47,9 +43,5 @@ module _ (n : ℕ) (q : ℕ → ℕ → Bool) (l : List ℕ) where
       small = or-lt n set bit (inv .small) (b .small);
       bits = λ d k.
           rw (has-or set bit d, b .bits d k)
-          (assoc (has set d) (q d (getD l i 0)) _ ∙ rw (before-next 0 l i h z) at (inv .bits d k));
+          (or-assoc (has set d) (q d (getD l i 0)) _ ∙ rw (before-next 0 l i h z) at (inv .bits d k));
     }
-      where
-        assoc : (x y z : Bool) → ((x || y) || z) ≡ (x || (y || z))
-        assoc true y z = refl
-        assoc false y z = refl

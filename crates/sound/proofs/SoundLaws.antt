@@ -1,7 +1,7 @@
 -- The ways out of the soundness test's loops, a task's state by its mark, and the test part by part.
 use Prim.Native.Nat.{ℕ, _≤_, max}
 use native.Mathlib.Omega.{arith}
-use mathlib.Core.Bool.{Bool, true, false, not, cond, _&&_, and-false}
+use mathlib.Core.Bool.{Bool, true, false, not, cond, _&&_, and-false, and-true, and-assoc}
 use mathlib.Core.List.{List}
 use mathlib.Core.Path.{_≡_, refl, sym, ap, _∙_}
 use mathlib.Core.Logic.{_≢_}
@@ -33,10 +33,6 @@ module _ (picked : Bool) (end last : ℕ) where
       by-bool picked
       (λ e. let l = ltb-false last end (rw e at h) in rw e (omega arith))
       (λ e. rw e (omega arith))
-
-and-assoc : (a b c : Bool) → ((a && b) && c) ≡ (a && (b && c))
-and-assoc true b c = refl
-and-assoc false b c = refl
 
 pub and-four :
     {a b c d p q r t : Bool} → a ≡ p → b ≡ q → c ≡ r → d ≡ t → ((a && b) && (c && d)) ≡ (p && (q && (r && t)))
@@ -158,10 +154,6 @@ module _ (on : Plan) (mark start end dropped : List ℕ) (clock : ℕ) (good : B
       sound-clock h e =
           rw (not-false good known, sym q ∙ not-false past nothing, sym r ∙ not-false tasks h, e)
           (sym (and-true (eqb clock _)))
-        where
-          and-true : (b : Bool) → (b && true) ≡ b
-          and-true true = refl
-          and-true false = refl
 
 -- the tasks have places
 pub few-tasks : (tasks : ℕ) (known : Bool) → not (known && leb tasks 64) ≡ false → tasks ≤ 64

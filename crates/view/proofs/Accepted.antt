@@ -1,7 +1,7 @@
 -- What an accepted plan says: its ranges, that some task is planned at 0, and that of two clashing tasks one waits for the other.
 use Prim.Native.Nat.{ℕ, _+_, _<_, _≤_}
 use native.Mathlib.Omega.{arith}
-use mathlib.Core.Bool.{Bool, true, false, not, cond, _&&_, _||_}
+use mathlib.Core.Bool.{Bool, true, false, not, cond, _&&_, _||_, and-comm, or-comm}
 use mathlib.Core.List.{List, [], _∷_}
 use mathlib.Core.Path.{_≡_, refl, sym, ap, _∙_}
 use mathlib.Core.Logic.{_≢_, _⊎_, inl, inr, ⊎-elim}
@@ -152,20 +152,8 @@ module _ {A : Type 0} where
 eqb-swap : (a b : ℕ) → eqb a b ≡ eqb b a
 eqb-swap a b = same-test (eqb a b) (eqb b a) (λ h. eq-eqb b a (sym (eqb-true a b h))) (λ h. eq-eqb a b (sym (eqb-true b a h)))
 
-and-swap : (a b : Bool) → (a && b) ≡ (b && a)
-and-swap true true = refl
-and-swap true false = refl
-and-swap false true = refl
-and-swap false false = refl
-
-or-swap : (a b : Bool) → (a || b) ≡ (b || a)
-or-swap true true = refl
-or-swap true false = refl
-or-swap false true = refl
-or-swap false false = refl
-
 holds-swap : (g h : ℕ) → holdsClash g h ≡ holdsClash h g
-holds-swap g h = rw (eqb-swap (driveOf g) (driveOf h), and-swap (isShared g) (isShared h))
+holds-swap g h = rw (eqb-swap (driveOf g) (driveOf h), and-comm (isShared g) (isShared h))
 
 drive-swap : (these those : List ℕ) → clashByDrive these those ≡ clashByDrive those these
 unfolding clashByDrive
@@ -179,7 +167,7 @@ clash-swap task a b =
     rw (
       eqb-swap (task a .board) (task b .board),
       drive-swap (task a .holds) (task b .holds),
-      or-swap (isListed (task a .after) (b + 1)) (isListed (task b .after) (a + 1)),
+      or-comm (isListed (task a .after) (b + 1)) (isListed (task b .after) (a + 1)),
     )
 
 flip : {A B : Type 0} → A ⊎ B → B ⊎ A

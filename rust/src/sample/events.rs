@@ -6,7 +6,7 @@ use super::waiting::{either_rule, rule_of, waits_for};
 use super::Rng;
 use crate::book::{drop_task, open_book, report};
 use crate::fields::line_of;
-use crate::values::{Answer, Book, Rule, DROPPED, ENDED, WAITING};
+use crate::values::{refusal, Answer, Book, Rule, DROPPED, ENDED, WAITING};
 
 /// What a line of `ends.txt` says.
 #[derive(Clone, Copy, PartialEq, Eq, Debug)]
@@ -34,6 +34,17 @@ pub fn must_take(book: &Book, event: Event) -> Book {
     let (answer, next) = take(book, event);
     assert_eq!(answer, Answer::ACCEPTED, "{event:?}");
     next
+}
+
+/// The event is refused by that code with what it says, and leaves the book.
+pub fn check_refused(book: &Book, event: Event, code: u32) {
+    let said = match event {
+        Event::End(task, tick) => (task, tick),
+        Event::Drop(task) => (task, 0),
+    };
+    let (answer, after) = take(book, event);
+    assert_eq!(answer, refusal(code, said.0, said.1), "{event:?}");
+    assert_eq!(after, *book, "{event:?}");
 }
 
 /// The event as a line of `ends.txt`.

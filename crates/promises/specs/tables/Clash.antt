@@ -1,6 +1,6 @@
 -- The clash rule on a plan of three boards: items, the program's listing, and impostors of the rule.
 use Prim.Native.Nat.{ℕ, _+_}
-use mathlib.Core.Bool.{Bool, true, not, _&&_, _||_}
+use mathlib.Core.Bool.{Bool, not, _&&_, _||_}
 use mathlib.Core.List.{List, [], _∷_, _++_}
 use lib.Dec.{eqb, leb}
 use Rattle.laws.specs.Lists.{anyOf}
