@@ -25,19 +25,105 @@ crates_needed() {
         }' "$root/crates.txt"
 }
 
+can_build() {
+    command -v rt >/dev/null || die 'the program is not built, and the Rattle toolchain (rt) is not here to build it'
+    if ! mkdir -p "$root/target" 2>/dev/null || [ -n "$(find "$root/target" -maxdepth 1 -type d ! -writable -print -quit)" ]; then
+        die "the program has to be built first, and $root/target cannot be written"
+    fi
+}
+
+# A line that is written over again is for a terminal; elsewhere each crate has a line of its own.
+line_lives() {
+    [ -t 2 ] && [ "${TERM:-dumb}" != dumb ]
+}
+
+# Ends what goes on beside this script. The prover is a group of processes, most of which do not hear Ctrl-C.
+stop_beside() {
+    local group=$prover clock=$teller
+    prover='' teller=''
+    [ -z "$group" ] || kill -TERM -- "-$group" 2>/dev/null || kill -TERM "$group" 2>/dev/null
+    [ -z "$clock" ] || { kill "$clock" && wait "$clock"; } 2>/dev/null
+    ! line_lives || printf '\r\033[K' >&2
+}
+
+# break_off SIGNAL: nothing goes on behind the user's back, and whoever called sees that it was the signal.
+break_off() {
+    stop_beside
+    rm -f "$heard"
+    printf '%s: broken off; the next call goes on where this one stopped\n' "$name" >&2
+    trap - INT TERM HUP
+    kill -s "$1" "$$"
+}
+
+# tell_crate WORDS: once a crate, or where the line lives each second, as long as this script does.
+tell_crate() {
+    line_lives || { printf '%s\n' "$1" >&2; return; }
+    local began=$SECONDS
+    while kill -0 "$$" 2>/dev/null; do
+        printf '\r\033[K%s, %d s' "$1" "$((SECONDS - began))" >&2
+        sleep 1
+    done >/dev/null &
+    teller=$!
+}
+
+# prove CRATE: rt beside this script, which a signal reaches while it waits; what rt says is in $said.
+prove() {
+    local status own_group=''
+    ! command -v setsid >/dev/null || own_group=setsid
+    (cd "$root" && exec $own_group rt check "$1") >"$heard" 2>&1 </dev/null &
+    prover=$!
+    wait "$prover"
+    status=$?
+    prover=''
+    said=$(<"$heard")
+    return "$status"
+}
+
 # One crate after the other, so that what is told is what is going on.
 build() {
-    command -v rt >/dev/null || die 'the program is not built, and the Rattle toolchain (rt) is not here to build it'
-    local crates crate said k=0
+    can_build
+    local crates crate said status=0 heard prover='' teller='' k=0 anew=0
+    heard=$(mktemp) || die 'there is no room for a temporary file'
     mapfile -t crates < <(crates_needed)
-    printf '%s: the program is proved and built first, which takes some minutes\n' "$name" >&2
+    printf '%s: first the program is proved and built: minutes from nothing, seconds where all is proved already\n' "$name" >&2
+    printf '%s: Ctrl-C is safe: the next call goes on where this one stopped\n' "$name" >&2
+    trap 'break_off INT' INT
+    trap 'break_off TERM' TERM
+    trap 'break_off HUP' HUP
     for crate in "${crates[@]}"; do
         k=$((k + 1))
-        printf '%s: proving %d of %d: %s\n' "$name" "$k" "${#crates[@]}" "$crate" >&2
-        said=$(cd "$root" && rt check "$crate" 2>&1) || die "it is not proved:"$'\n'"$said"
+        tell_crate "$name: proving $k of ${#crates[@]}: $crate"
+        prove "$crate"
+        status=$?
+        stop_beside
+        [ "$status" -eq 0 ] || break
+        [[ $said == *"rt: $crate proved (unchanged since"* ]] || anew=$((anew + 1))
     done
+    trap - INT TERM HUP
+    rm -f "$heard"
+    case $status in
+    0) ;;
+    1) die "it is not proved:"$'\n'"$said" ;;
+    *) die "rt check $crate ended with status $status:"$'\n'"$said" ;;
+    esac
     [ -x "$program" ] || die "it is proved, and target/bin/$name is missing all the same: remove target/ and call again"
     touch "$program"
+    tell_built
+}
+
+tell_built() {
+    local many=${#crates[@]}
+    if [ "$anew" -eq 0 ]; then
+        printf '%s: all %d crates were proved already\n' "$name" "$many" >&2
+    else
+        printf '%s: proved and built, %d of %d crates anew, %d s\n' "$name" "$anew" "$many" "$SECONDS" >&2
+    fi
+}
+
+# On another processor the toolchain's emulator runs the program.
+can_run() {
+    [ "$(uname -m)" = x86_64 ] || [ -n "${RATTLE_HOME:-}" ] || command -v rt >/dev/null ||
+        die 'on this processor the Rattle toolchain (rt) runs the program, and it is not here'
 }
 
 # run_program NAME WORD..: runs the program in the folder that the words name, by default examples/plan-a, and ends.
@@ -45,13 +131,20 @@ run_program() {
     local name=$1 program=$root/target/bin/$1 folder said status
     shift
     take_words 1 "$@"
-    folder=${1:-$root/examples/plan-a}
-    [ -d "$folder" ] || die "$folder is no folder"
+    folder=${1-$root/examples/plan-a}
+    can_print
+    [ -d "$folder" ] || die "'$folder' is no folder"
+    # CDPATH would lead to a folder of that name elsewhere, and print it.
+    CDPATH='' cd -- "$folder" 2>/dev/null || die "'$folder' may not be entered"
     is_built || build
+    can_run
     # A Rattle program has no exit status of its own: a failure is what it says on standard error.
     exec 3>&1
-    said=$(cd "$folder" && "$root/tools/program" "$name" 2>&1 >&3)
+    said=$("$root/tools/program" "$name" 2>&1 >&3)
     status=$?
+    # A reader that goes away has what it wanted. Its going is a signal, or where the caller ignores that, a failed write.
+    [ "$status" -ne 141 ] && [ "$said" != 'standard output: Broken pipe' ] || exit 0
     [ -z "$said" ] || die "$said"
-    exit "$status"
+    [ "$status" -eq 0 ] || die "the program ended with status $status, and did not say why"
+    exit 0
 }

@@ -7,6 +7,10 @@ die() {
     exit 2
 }
 
+can_print() {
+    { true 3>&1; } 2>/dev/null || die 'standard output is closed'
+}
+
 tell_use() {
     sed -n -e '1d' -e '/^#/!q' -e 's/^# \{0,1\}//p' "$0"
 }
@@ -18,6 +22,7 @@ take_words() {
     for word in "$@"; do
         case $word in
         -h | --help)
+            can_print
             tell_use
             exit 0
             ;;

@@ -11,22 +11,21 @@
 
 use crate::judge::clashes_if_accepted;
 use crate::values::{
-    refusal, Answer, Book, Dropped, Figure, Opening, Plan, Reported, Rule, DROPPED, ENDED, RUNNING,
-    WAITING,
+    refusal, Answer, Book, Figure, Handed, Plan, Rule, DROPPED, ENDED, RUNNING, WAITING,
 };
 use crate::waits::Waits;
 
 /// A fresh book on the plan by that rule, or refusal 9 and a book of zeros.
-pub fn open_book(plan: &Plan, rule: Rule) -> Opening {
+pub fn open_book(plan: &Plan, rule: Rule) -> Handed {
     let Some(clashes) = clashes_if_accepted(plan) else {
-        return Opening {
+        return Handed {
             answer: Answer::UNSOUND,
             book: Book::ZERO,
         };
     };
     let mut book = Book::on(plan, rule);
     let_go_all_that_can(&mut book, &Waits::by(rule, plan, &clashes));
-    Opening {
+    Handed {
         answer: Answer::ACCEPTED,
         book,
     }
@@ -51,8 +50,8 @@ fn waits_if_sound(book: &Book) -> Option<Waits> {
 }
 
 /// The book after the report, or the very book given and why it was refused.
-pub fn report(book: &Book, task: u32, tick: u32) -> Reported {
-    let refused = |answer| Reported {
+pub fn report(book: &Book, task: u32, tick: u32) -> Handed {
+    let refused = |answer| Handed {
         answer,
         book: *book,
     };
@@ -69,22 +68,22 @@ pub fn report(book: &Book, task: u32, tick: u32) -> Reported {
     next.end[i] = tick;
     next.clock = tick;
     let_go_all_that_can(&mut next, &waits);
-    Reported { answer, book: next }
+    Handed { answer, book: next }
 }
 
 /// The book with that task dropped, or the very book given and why it was
 /// refused. The task goes at a later report: now somebody it waits for is left.
-pub fn drop_task(book: &Book, task: u32) -> Dropped {
+pub fn drop_task(book: &Book, task: u32) -> Handed {
     let answer = drop_answer(book, task);
     if !answer.is_accepted() {
-        return Dropped {
+        return Handed {
             answer,
             book: *book,
         };
     }
     let mut next = *book;
     next.dropped[task as usize - 1] = DROPPED;
-    Dropped { answer, book: next }
+    Handed { answer, book: next }
 }
 
 /// M, the least of the tasks' terms, 0 if there is none; or refusal 9 and 0.

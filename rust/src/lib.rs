@@ -3,6 +3,7 @@
 
 pub mod book;
 pub mod convert;
+pub mod exports;
 pub mod fields;
 pub mod judge;
 pub mod proved;
@@ -18,4 +19,4 @@ pub use convert::{convert, convert_text, read_exclusive};
 pub use judge::{accepted, first_faulty_pair};
 pub use runlog::run_log;
 pub use text::{read_plan, write_plan};
-pub use values::{Answer, Book, Dropped, Figure, Opening, Plan, Reading, Reported, Rule, Written};
+pub use values::{Answer, Book, Figure, Handed, Plan, Reading, Rule, Written};

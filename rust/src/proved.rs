@@ -3,33 +3,33 @@
 //! Each function takes what the function of the same name beside it takes, so
 //! that a test calls both alike. The library is compiled for x86-64, where it is
 //! linked and called over the C ABI; elsewhere a peer under an emulator calls it.
+//! The bindings of both ways are made by the build, from the Rattle source.
 
-use crate::values::{Book, Plan, LONGEST_TEXT};
+use crate::values::{Book, Handed, Plan, Rule, LONGEST_TEXT};
 
-#[cfg(target_arch = "x86_64")]
+#[cfg(direct)]
 mod direct;
-#[cfg(target_arch = "x86_64")]
+#[cfg(direct)]
 use direct as library;
 
-#[cfg(not(target_arch = "x86_64"))]
-mod peer;
-#[cfg(not(target_arch = "x86_64"))]
+pub mod peer;
+#[cfg(not(direct))]
 use peer as library;
 
-pub use library::{convert, drop_task, measure, minimum_early, open_book, read_exclusive};
-pub use library::{read_plan, report, write_converted, write_log, write_plan};
+pub use library::*;
+pub use library::{convert_text as write_converted, drop as drop_task, run_log as write_log};
+pub use peer::{Measured, Measuring};
 
-/// Whether the library runs under an emulator, where times say nothing.
-pub const EMULATED: bool = cfg!(not(target_arch = "x86_64"));
+include!(concat!(env!("OUT_DIR"), "/functions.rs"));
+
+/// Whether the library is called by the peer, under an emulator, where times say nothing.
+pub const EMULATED: bool = cfg!(not(direct));
 
 /// No log is longer, and a shorter buffer gets nothing.
 pub const LONGEST_LOG: usize = 212_992;
 
 /// The converter writes nothing into a shorter buffer; no text of a plan is longer.
 pub const CONVERTED_ROOM: usize = LONGEST_TEXT;
-
-/// A call is measured with so many registers: none that is measured takes more.
-pub const REGISTERS: usize = 4;
 
 pub fn accepted(plan: &Plan) -> bool {
     yes(library::is_accepted(plan))
@@ -39,47 +39,12 @@ pub fn sound(book: &Book) -> bool {
     yes(library::is_sound(book))
 }
 
+pub fn open_book(plan: &Plan, rule: Rule) -> Handed {
+    library::open_book(plan, rule == Rule::Clash)
+}
+
 /// The truth values the library answers are 1 and 0, and no other number.
 fn yes(answer: u32) -> bool {
     assert!(answer <= 1, "neither 1 nor 0 but {answer}");
     answer == 1
-}
-
-/// What can be called and measured, by its op byte in `peer/peer.c`.
-#[derive(Clone, Copy)]
-#[repr(u8)]
-pub enum Function {
-    ReadPlan = b'r',
-    IsAccepted = b'a',
-    WritePlan = b'w',
-    OpenBook = b'o',
-    IsSound = b's',
-    Report = b'e',
-    Drop = b'd',
-    MinimumEarly = b'm',
-    RunLog = b'l',
-    Convert = b'c',
-    ReadExclusive = b'x',
-    ConvertText = b't',
-    /// Two that are not the library's, to try the measure itself: this has no frame.
-    Nothing = b'0',
-    /// A frame of 20,000 bytes, and little more.
-    KnownFrame = b'1',
-}
-
-/// What a register holds when a function is called.
-pub enum Register<'a> {
-    Number(usize),
-    /// The address of these bytes.
-    Lent(&'a mut [u8]),
-    /// The address of a place for an answer too large for registers; comes first.
-    Place,
-}
-
-/// The stack that a call took, in bytes, and the code that it answered.
-#[repr(C)]
-#[derive(Clone, Copy)]
-pub struct Measured {
-    pub used: u32,
-    pub code: u32,
 }

@@ -93,23 +93,10 @@ pub struct Reading {
     pub plan: Plan,
 }
 
+/// An answer, and the book after it.
 #[repr(C)]
 #[derive(Clone, Copy, PartialEq, Eq, Debug)]
-pub struct Opening {
-    pub answer: Answer,
-    pub book: Book,
-}
-
-#[repr(C)]
-#[derive(Clone, Copy, PartialEq, Eq, Debug)]
-pub struct Reported {
-    pub answer: Answer,
-    pub book: Book,
-}
-
-#[repr(C)]
-#[derive(Clone, Copy, PartialEq, Eq, Debug)]
-pub struct Dropped {
+pub struct Handed {
     pub answer: Answer,
     pub book: Book,
 }

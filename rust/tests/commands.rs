@@ -1,14 +1,18 @@
-//! How the commands are called: their use, links to them, and what one that runs a program tells while it proves.
+//! How the commands are called: their use, links to them, how they fail, and what one that runs a program tells while it proves.
 
-use dispatcher::sample::program::{at_root, empty_folder};
-use std::os::unix::fs::{symlink, PermissionsExt};
+use dispatcher::run_log;
+use dispatcher::sample::plan_a::PLAN_A;
+use dispatcher::sample::program::{at_root, empty_folder, expect_said};
+use std::os::unix::fs::{symlink, MetadataExt, PermissionsExt};
 use std::path::{Path, PathBuf};
 use std::process::{Command, Output};
-use std::{env, fs};
+use std::time::{Duration, Instant};
+use std::{env, fs, thread};
 
-const COMMANDS: [&str; 6] = [
+const COMMANDS: [&str; 7] = [
     "runlog",
     "convert",
+    "explain",
     "test",
     "tools/bench",
     "tools/program",
@@ -87,6 +91,112 @@ fn links_to_the_commands_do_as_the_commands_do() {
     let drawn = picture.args([example.join("plan.txt"), example.join("log.txt")]);
     let committed = fs::read(example.join("picture.svg")).unwrap();
     expect_printed(&drawn.output().unwrap(), &committed);
+
+    let told = call(&at_root("explain"), &[]).stdout;
+    assert!(text(&told).starts_with("No refusals: "));
+    expect_printed(
+        &call(&link_to(&folder("link-explain"), "explain"), &[]),
+        &told,
+    );
+
+    let counted = call(&at_root("tools/believed"), &[]).stdout;
+    assert!(text(&counted).starts_with("| Crate |"));
+    let link = link_to(&folder("link-believed"), "tools/believed");
+    expect_printed(&call(&link, &[]), &counted);
+}
+
+/// Nothing is printed, one sentence says why, and the status is 2.
+fn expect_failed(output: &Output, why: &str) {
+    assert_eq!(text(&output.stdout), "");
+    expect_said(&output.stderr, "runlog");
+    assert!(
+        text(&output.stderr).contains(why),
+        "{}",
+        text(&output.stderr)
+    );
+    assert_eq!(output.status.code(), Some(2));
+}
+
+/// A folder's name that `CDPATH` would find elsewhere is that of the working directory.
+#[test]
+fn a_folder_is_found_from_where_the_command_is_called() {
+    let elsewhere = folder("cdpath");
+    fs::create_dir_all(elsewhere.join("examples/plan-a")).unwrap();
+    for command in ["runlog", "convert", "explain"] {
+        let called = |path: &Path| {
+            let mut command = Command::new(at_root(command).canonicalize().unwrap());
+            let command = command.arg("examples/plan-a").current_dir(at_root(""));
+            command.env("CDPATH", path).output().unwrap()
+        };
+        let expected = called(Path::new("")).stdout;
+        assert!(!text(&expected).contains("refused"));
+        expect_printed(&called(&elsewhere), &expected);
+    }
+}
+
+#[test]
+fn a_word_that_is_no_folder_is_said() {
+    expect_failed(&call(&at_root("runlog"), &[""]), "'' is no folder");
+    let file = at_root("README.md");
+    let output = call(&at_root("runlog"), &[file.to_str().unwrap()]);
+    expect_failed(&output, "is no folder");
+}
+
+/// The command as somebody who may do only what a file's mode allows: root's own rights are taken away.
+fn without_rights(command: &Path, words: &[&str]) -> Command {
+    // Whose process this is.
+    if fs::metadata("/proc/self").unwrap().uid() != 0 {
+        let mut plain = Command::new(command);
+        plain.args(words);
+        return plain;
+    }
+    let mut limited = Command::new("setpriv");
+    limited
+        .args(["--bounding-set=-all", "--inh-caps=-all"])
+        .arg(command)
+        .args(words);
+    limited
+}
+
+#[test]
+fn a_folder_that_may_not_be_entered_is_said() {
+    let locked = folder("locked");
+    fs::write(locked.join("plan.txt"), PLAN_A).unwrap();
+    fs::set_permissions(&locked, fs::Permissions::from_mode(0o600)).unwrap();
+    let mut command = without_rights(&at_root("runlog"), &[locked.to_str().unwrap()]);
+    let output = command.output().unwrap();
+    fs::set_permissions(&locked, fs::Permissions::from_mode(0o700)).unwrap();
+    expect_failed(&output, "may not be entered");
+}
+
+fn in_shell(line: &str, words: &[&str]) -> Output {
+    let mut shell = Command::new("bash");
+    let shell = shell.args(["-c", line, "bash"]).args(words);
+    shell.current_dir(at_root("")).output().unwrap()
+}
+
+#[test]
+fn closed_standard_output_is_said() {
+    expect_failed(&in_shell("./runlog >&-", &[]), "standard output is closed");
+    expect_failed(
+        &in_shell("./runlog --help >&-", &[]),
+        "standard output is closed",
+    );
+}
+
+/// More than a pipe holds is left when the reader goes, so that a write meets it; also where a caller ignores the signal.
+#[test]
+fn a_reader_that_goes_away_is_no_failure() {
+    let large = folder("large");
+    fs::write(large.join("plan.txt"), PLAN_A).unwrap();
+    let ends = b"drop\t0\n".repeat(4_681);
+    fs::write(large.join("ends.txt"), &ends).unwrap();
+    assert!(run_log(PLAN_A, &ends).len() > 65_536);
+    for before in ["", "trap '' PIPE; "] {
+        let line = format!("{before}./runlog \"$1\" | head -n 1; exit ${{PIPESTATUS[0]}}");
+        let output = in_shell(&line, &[large.to_str().unwrap()]);
+        expect_printed(&output, b"run\t1\t2\t5\n");
+    }
 }
 
 fn put_script(path: &Path, script: &str) {
@@ -95,9 +205,9 @@ fn put_script(path: &Path, script: &str) {
     fs::set_permissions(path, fs::Permissions::from_mode(0o755)).unwrap();
 }
 
-/// The command in a project of two programs and three crates, one of which both do without, and with an `rt`
+/// A project of two programs and three crates, one of which both do without, with the command in it and an `rt`
 /// that proves nothing: it notes what it is asked for, and talks as much as the real one.
-fn run_unbuilt(command: &str, name: &str, rt: &str) -> (Output, String) {
+fn project(command: &str, name: &str, rt: &str) -> PathBuf {
     let root = folder(name);
     fs::create_dir_all(root.join("crates")).unwrap();
     fs::create_dir_all(root.join("examples/plan-a")).unwrap();
@@ -109,29 +219,59 @@ fn run_unbuilt(command: &str, name: &str, rt: &str) -> (Output, String) {
         fs::copy(at_root(script), root.join(script)).unwrap();
     }
     put_script(&root.join("own/rt"), &format!("echo \"$*\" >>asked\n{rt}"));
+    root
+}
+
+/// Calls it with the project's own commands before all others.
+fn call_in(root: &Path, mut command: Command) -> Output {
     let path = env::var("PATH").unwrap();
     let path = format!("{}:{path}", root.join("own").display());
-    let output = Command::new(root.join(command)).env("PATH", path).output();
-    let asked = fs::read_to_string(root.join("asked")).unwrap();
-    (output.unwrap(), asked)
+    command.env("PATH", path).output().unwrap()
+}
+
+fn asked_in(root: &Path) -> String {
+    fs::read_to_string(root.join("asked")).unwrap_or_default()
+}
+
+fn run_unbuilt(command: &str, name: &str, rt: &str) -> (Output, String) {
+    let root = project(command, name, rt);
+    let output = call_in(&root, Command::new(root.join(command)));
+    (output, asked_in(&root))
 }
 
 const BUILDS: &str = "echo \"rt: $2 proved (1 s)\"; echo loud >&2; mkdir -p target/bin; touch target/bin/$2; chmod +x target/bin/$2";
+const FIRST_WORDS: &str =
+    "runlog: first the program is proved and built: minutes from nothing, seconds where all is proved already
+runlog: Ctrl-C is safe: the next call goes on where this one stopped
+";
 
 #[test]
 fn the_script_tells_which_crate_is_being_proved() {
     let (output, asked) = run_unbuilt("runlog", "proving", BUILDS);
     assert_eq!(text(&output.stdout), "runlog ran\n");
-    assert_eq!(
-        text(&output.stderr),
-        "runlog: the program is proved and built first, which takes some minutes
-runlog: proving 1 of 3: low
+    let said = text(&output.stderr).strip_prefix(FIRST_WORDS).unwrap();
+    let crates = "runlog: proving 1 of 3: low
 runlog: proving 2 of 3: high
 runlog: proving 3 of 3: runlog
-"
-    );
+runlog: proved and built, 3 of 3 crates anew, ";
+    let seconds = said.strip_prefix(crates).unwrap();
+    assert!(seconds.trim_end_matches(" s\n").parse::<u32>().is_ok());
     assert_eq!(output.status.code(), Some(0));
     assert_eq!(asked, "check low\ncheck high\ncheck runlog\n");
+}
+
+#[test]
+fn the_script_says_where_all_was_proved_already() {
+    let unchanged =
+        format!("{BUILDS}; echo \"rt: $2 proved (unchanged since it was last proved)\"");
+    let (output, _) = run_unbuilt("runlog", "proved-already", &unchanged);
+    assert_eq!(text(&output.stdout), "runlog ran\n");
+    let said = text(&output.stderr);
+    assert!(said.starts_with(FIRST_WORDS), "{said}");
+    assert!(
+        said.ends_with("runlog: all 3 crates were proved already\n"),
+        "{said}"
+    );
 }
 
 #[test]
@@ -140,7 +280,7 @@ fn each_script_builds_and_runs_its_own_program() {
     assert_eq!(text(&output.stdout), "convert ran\n");
     let said = text(&output.stderr);
     assert!(
-        said.ends_with("convert: proving 2 of 2: convert\n"),
+        said.contains("convert: proving 2 of 2: convert\n"),
         "{said}"
     );
     assert_eq!(asked, "check low\ncheck convert\n");
@@ -156,4 +296,147 @@ fn the_script_stops_at_the_first_crate_that_is_not_proved() {
     assert!(said.ends_with(ending), "{said}");
     assert_eq!(output.status.code(), Some(2));
     assert_eq!(asked, "check low\ncheck high\n");
+}
+
+#[test]
+fn an_rt_that_fails_is_not_called_a_failed_proof() {
+    let (output, _) = run_unbuilt("runlog", "rt-fails", "echo 'rt: no room'; exit 2");
+    let said = text(&output.stderr);
+    let ending = "proving 1 of 3: low\nrunlog: rt check low ended with status 2:\nrt: no room\n";
+    assert!(said.ends_with(ending), "{said}");
+    assert_eq!(output.status.code(), Some(2));
+}
+
+#[test]
+fn a_clone_that_cannot_be_written_is_said_before_anything_is_proved() {
+    let root = project("runlog", "read-only", BUILDS);
+    fs::set_permissions(&root, fs::Permissions::from_mode(0o555)).unwrap();
+    let output = call_in(&root, without_rights(&root.join("runlog"), &[]));
+    fs::set_permissions(&root, fs::Permissions::from_mode(0o755)).unwrap();
+    expect_failed(&output, "target cannot be written");
+    assert_eq!(asked_in(&root), "");
+
+    // So too where a folder below target/ is another's.
+    fs::create_dir_all(root.join("target/stamp")).unwrap();
+    fs::set_permissions(root.join("target/stamp"), fs::Permissions::from_mode(0o555)).unwrap();
+    let output = call_in(&root, without_rights(&root.join("runlog"), &[]));
+    expect_failed(&output, "target cannot be written");
+}
+
+/// The commands that the scripts use, in a folder of their own: so `rt` is not among them.
+fn path_without_rt(root: &Path) -> PathBuf {
+    let path = root.join("some");
+    fs::create_dir_all(&path).unwrap();
+    let tools = [
+        "bash", "sh", "env", "dirname", "readlink", "find", "awk", "sed", "mkdir", "uname",
+    ];
+    for tool in tools {
+        let found = in_shell("command -v \"$1\"", &[tool]);
+        symlink(text(&found.stdout).trim_end(), path.join(tool)).unwrap();
+    }
+    path
+}
+
+fn call_without_rt(root: &Path) -> Output {
+    let mut command = Command::new(root.join("runlog"));
+    let command = command.env("PATH", path_without_rt(root));
+    command.env_remove("RATTLE_HOME").output().unwrap()
+}
+
+#[test]
+fn a_missing_toolchain_is_said() {
+    let root = project("runlog", "without-rt", "");
+    expect_failed(&call_without_rt(&root), "(rt) is not here to build it");
+}
+
+/// On Arm the built program needs it too: the emulator is the toolchain's.
+#[test]
+fn a_missing_toolchain_is_said_where_it_runs_the_program() {
+    let root = project("runlog", "without-rt-on-arm", "");
+    put_script(&root.join("target/bin/runlog"), "");
+    let path = path_without_rt(&root);
+    fs::remove_file(path.join("uname")).unwrap();
+    put_script(&path.join("uname"), "echo aarch64");
+    let mut command = Command::new(root.join("runlog"));
+    let command = command.env("PATH", path).env_remove("RATTLE_HOME");
+    expect_failed(
+        &command.output().unwrap(),
+        "on this processor the Rattle toolchain (rt) runs the program",
+    );
+}
+
+#[test]
+fn a_program_that_ends_without_a_word_is_a_failure() {
+    let root = project("runlog", "killed", "");
+    put_script(&root.join("target/bin/runlog"), "");
+    put_script(&root.join("tools/program"), "kill -KILL $$");
+    let output = call_in(&root, Command::new(root.join("runlog")));
+    expect_failed(&output, "the program ended with status 137");
+}
+
+/// Runs the project's command on a terminal, and presses Ctrl-C once the pattern is shown there.
+fn on_terminal(root: &Path, pattern: &str) -> (String, Option<i32>) {
+    let mut command = Command::new("python3");
+    command
+        .arg(at_root("rust/tests/on_terminal.py"))
+        .arg(pattern)
+        .arg(root.join("runlog"))
+        .env("TERM", "xterm");
+    let output = call_in(root, command);
+    assert_eq!(text(&output.stderr), "");
+    (text(&output.stdout).to_owned(), output.status.code())
+}
+
+#[test]
+fn on_a_terminal_the_line_tells_the_seconds_and_is_gone_in_the_end() {
+    let slow = format!("[ \"$2\" != high ] || sleep 1.5; {BUILDS}");
+    let root = project("runlog", "terminal", &slow);
+    let (shown, status) = on_terminal(&root, "");
+    assert_eq!(status, Some(0));
+    let is_shown = |part: &str| shown.contains(&format!("\r\x1b[Krunlog: proving {part}"));
+    assert!(is_shown("1 of 3: low, 0 s"), "{shown:?}");
+    assert!(is_shown("2 of 3: high, 0 s"), "{shown:?}");
+    // A second later the clock's second may have passed twice.
+    assert!(
+        is_shown("2 of 3: high, 1 s") || is_shown("2 of 3: high, 2 s"),
+        "{shown:?}"
+    );
+    let (before, after) = shown.rsplit_once("\r\x1b[K").unwrap();
+    assert_eq!(before.matches("\r\n").count(), 2, "{shown:?}");
+    assert!(
+        after.starts_with("runlog: proved and built, 3 of 3 crates anew, "),
+        "{shown:?}"
+    );
+    assert!(after.ends_with("runlog ran\r\n"), "{shown:?}");
+}
+
+/// An `rt` as the real one: it keeps what it has proved, and proves beside itself, where Ctrl-C is not heard.
+const KEEPS: &str = "if [ -e proved-$2 ]; then echo \"rt: $2 proved (unchanged since it was last proved)\"; exit; fi
+[ \"$2\" != high ] || [ -e again ] || { touch again; sh -c 'echo $$ >prover; sleep 30; touch late' & wait; }
+touch proved-$2; mkdir -p target/bin; touch target/bin/$2; chmod +x target/bin/$2";
+
+#[test]
+fn ctrl_c_leaves_nothing_running_and_the_next_call_goes_on() {
+    let root = project("runlog", "ctrl-c", KEEPS);
+    let began = Instant::now();
+    let (shown, status) = on_terminal(&root, "proving 2 of 3: high, [1-9]");
+    assert_eq!(status, Some(130), "{shown:?}");
+    assert!(
+        shown.ends_with("runlog: broken off; the next call goes on where this one stopped\r\n"),
+        "{shown:?}"
+    );
+    assert!(began.elapsed() < Duration::from_secs(20));
+    let prover = fs::read_to_string(root.join("prover")).unwrap();
+    let process = Path::new("/proc").join(prover.trim_end());
+    let is_gone = || !process.exists() || (thread::sleep(Duration::from_millis(100)), false).1;
+    assert!((0..50).any(|_| is_gone()), "the prover runs on");
+
+    let output = call_in(&root, Command::new(root.join("runlog")));
+    assert_eq!(text(&output.stdout), "runlog ran\n");
+    let said = text(&output.stderr);
+    assert!(
+        said.contains("runlog: proved and built, 2 of 3 crates anew, "),
+        "{said}"
+    );
+    assert!(!root.join("late").exists());
 }

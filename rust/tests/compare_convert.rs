@@ -105,7 +105,7 @@ impl Texts {
 }
 
 fn compare_old_texts(rng: &mut Rng, texts: &mut Texts) {
-    for _ in 0..4500 {
+    for _ in 0..3000 {
         let plan = random_plan(rng);
         for _ in 0..12 {
             texts.compare(&old_text(rng, &plan));
@@ -169,9 +169,9 @@ fn texts_are_converted_alike() {
     compare_long_texts(&mut rng, &mut texts);
     compare_noise(&mut rng, &mut texts);
     let codes = [0, 1, 2, 3, 4, 5, 6, 7, 8, 17, 18];
-    texts.read.finish(60_000, &[&codes[..], &[20]].concat());
-    texts.second.finish(60_000, &codes);
-    texts.printed.finish(60_000, &codes);
+    texts.read.finish(40_000, &[&codes[..], &[20]].concat());
+    texts.second.finish(40_000, &codes);
+    texts.printed.finish(40_000, &codes);
 }
 
 /// All bytes of a buffer of that length, and of those behind it, after the call.

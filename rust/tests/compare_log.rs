@@ -19,6 +19,9 @@ use dispatcher::{open_book, run_log, Plan, Rule};
 
 const FILL: u8 = 0xa5;
 
+/// A multiple of 2100, so that every kind of pair comes as often as planned.
+const ROUNDS: u32 = 10_500;
+
 /// The rule, ends and drops of a morning to its end, wrong ones among them.
 fn morning_ends(rng: &mut Rng, plan: &Plan) -> Vec<u8> {
     let rule = either_rule(rng);
@@ -39,6 +42,12 @@ fn morning_ends(rng: &mut Rng, plan: &Plan) -> Vec<u8> {
     ends
 }
 
+fn is_untouched(bytes: &[u8]) -> bool {
+    // as a whole, since byte by byte takes longer than the log
+    static UNTOUCHED: [u8; LONGEST_LOG] = [FILL; LONGEST_LOG];
+    *bytes == UNTOUCHED[..bytes.len()]
+}
+
 /// Both logs are the same bytes, and nothing past the log is touched.
 fn compare(out: &mut [u8], plan: &[u8], ends: &[u8]) -> Vec<u8> {
     let expected = run_log(plan, ends);
@@ -49,7 +58,7 @@ fn compare(out: &mut [u8], plan: &[u8], ends: &[u8]) -> Vec<u8> {
         String::from_utf8_lossy(plan),
         String::from_utf8_lossy(ends)
     );
-    assert!(out[length..].iter().all(|byte| *byte == FILL));
+    assert!(is_untouched(&out[length..]));
     out[..length].fill(FILL);
     expected
 }
@@ -65,7 +74,7 @@ fn logs_are_the_same() {
     let mut out = vec![FILL; LONGEST_LOG];
     let (mut refused, mut late, mut unready, mut shared) = (0, 0, 0, 0);
     let (mut skipped, mut longest, mut clash, mut misruled) = (0, 0, 0, 0);
-    for round in 0..21_000u32 {
+    for round in 0..ROUNDS {
         let plan = if round % 100 == 0 {
             let full = full_plan(&mut rng, 64);
             in_either_edition(&mut rng, &full)
@@ -97,13 +106,13 @@ fn logs_are_the_same() {
         clash += u32::from(log.starts_with(b"run\t2\t"));
         misruled += u32::from(ends.starts_with(b"rule") && log.starts_with(b"run\t1\t"));
     }
-    println!("21000 pairs of texts, {refused} logs with a refusal, {skipped} with a skip");
+    println!("{ROUNDS} pairs of texts, {refused} logs with a refusal, {skipped} with a skip");
     println!("{clash} by the clash rule, {misruled} with a rule line that is none");
-    println!("the longest has {longest} bytes");
-    assert!(refused > 5_000 && refused < 20_000);
-    assert!(late >= 600 && unready >= 20 && shared >= 200);
-    assert!(skipped > 4_000 && skipped < 20_000);
-    assert!(clash > 4_000 && clash < 10_000 && misruled > 300);
+    println!("the longest has {longest} bytes; {late} are refused by 17, {unready} by 18, {shared} by 20");
+    assert!(refused > 2_500 && refused < 10_000);
+    assert!(late >= 300 && unready >= 5 && shared >= 100);
+    assert!(skipped > 1_900 && skipped < 10_000);
+    assert!(clash > 2_000 && clash < 5_000 && misruled > 150);
 }
 
 /// Each first line damaged in every way, alone, before other lines and on a refused plan.
@@ -149,5 +158,5 @@ fn ends_of_the_greatest_length() {
 fn a_shorter_buffer_gets_nothing() {
     let mut out = vec![FILL; LONGEST_LOG - 1];
     assert_eq!(write_log(b"", b"", &mut out), 0);
-    assert!(out.iter().all(|byte| *byte == FILL));
+    assert!(is_untouched(&out));
 }

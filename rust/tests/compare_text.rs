@@ -82,7 +82,7 @@ fn read_damaged_texts(rng: &mut Rng, tally: &mut Tally, text: &[u8]) {
 }
 
 fn read_random_plans(rng: &mut Rng, tally: &mut Tally) {
-    for _ in 0..2000 {
+    for _ in 0..1000 {
         let plan = random_plan(rng);
         let text = plan_text(&plan);
         compare_reading(tally, &text);
@@ -94,7 +94,7 @@ fn read_random_plans(rng: &mut Rng, tally: &mut Tally) {
 
 /// The bytes behind a cut are there, and must not be looked at.
 fn read_every_cut(rng: &mut Rng, tally: &mut Tally) {
-    for _ in 0..60 {
+    for _ in 0..30 {
         let text = plan_text(&random_plan(rng));
         for end in 0..text.len().min(1200) {
             compare_reading(tally, &text[..end]);
@@ -208,7 +208,7 @@ fn compare_value(rng: &mut Rng, tally: &mut Tally, plan: &Plan) {
 }
 
 fn judge_and_write_changed_plans(rng: &mut Rng, tally: &mut Tally) {
-    for _ in 0..2000 {
+    for _ in 0..1000 {
         let plan = random_plan(rng);
         compare_value(rng, tally, &plan);
         for _ in 0..7 {
@@ -228,7 +228,7 @@ fn judge_and_write_changed_plans(rng: &mut Rng, tally: &mut Tally) {
 
 fn judge_and_write_wild_plans(rng: &mut Rng, tally: &mut Tally) {
     compare_value(rng, tally, &Plan::ZERO);
-    for _ in 0..10_000 {
+    for _ in 0..5_000 {
         let plan = wild_plan(rng);
         compare_value(rng, tally, &plan);
     }
@@ -236,7 +236,7 @@ fn judge_and_write_wild_plans(rng: &mut Rng, tally: &mut Tally) {
 }
 
 fn write_to_every_length(rng: &mut Rng, tally: &mut Tally) {
-    for _ in 0..60 {
+    for _ in 0..30 {
         let plan = random_plan(rng);
         let needed = plan_text(&plan).len();
         // Every length for a text under 500 bytes; long texts take wider steps.
@@ -258,7 +258,7 @@ fn write_to_every_length(rng: &mut Rng, tally: &mut Tally) {
 }
 
 #[test]
-fn texts_and_plans_are_answered_alike() {
+fn texts_are_read_alike() {
     let (mut rng, mut tally) = Tally::seeded("compare_text");
     read_random_plans(&mut rng, &mut tally);
     read_every_cut(&mut rng, &mut tally);
@@ -267,8 +267,14 @@ fn texts_and_plans_are_answered_alike() {
     read_every_changed_field(&mut tally);
     read_long_texts(&mut rng, &mut tally);
     read_noise(&mut rng, &mut tally);
+    tally.finish(120_000, &[0, 1, 2, 3, 4, 5, 6, 7, 8, 17, 18, 20]);
+}
+
+#[test]
+fn plan_values_are_judged_and_written_alike() {
+    let (mut rng, mut tally) = Tally::seeded("compare_text, values");
     judge_and_write_changed_plans(&mut rng, &mut tally);
     judge_and_write_wild_plans(&mut rng, &mut tally);
     write_to_every_length(&mut rng, &mut tally);
-    tally.finish(200_000, &[1, 2, 3, 4, 5, 6, 7, 8, 9, 16, 17, 18, 20]);
+    tally.finish(60_000, &[0, 9, 16, 20]);
 }

@@ -13,7 +13,7 @@ use dispatcher::sample::waiting::either_rule;
 use dispatcher::sample::{announced_seed, Rng};
 use dispatcher::text::plan_text;
 use dispatcher::values::{drive_of, items, made_exclusive, refusal, EDITION_1, EDITION_2};
-use dispatcher::{Answer, Book, Dropped, Figure, Opening, Plan, Reading, Reported, Rule};
+use dispatcher::{Answer, Book, Figure, Handed, Plan, Reading, Rule};
 
 /// One of the two dispatchers.
 struct Side {
@@ -23,9 +23,9 @@ struct Side {
     read_exclusive: fn(&[u8]) -> Reading,
     convert_text: fn(&[u8]) -> Vec<u8>,
     run_log: fn(&[u8], &[u8]) -> Vec<u8>,
-    open_book: fn(&Plan, Rule) -> Opening,
-    report: fn(&Book, u32, u32) -> Reported,
-    drop_task: fn(&Book, u32) -> Dropped,
+    open_book: fn(&Plan, Rule) -> Handed,
+    report: fn(&Book, u32, u32) -> Handed,
+    drop_task: fn(&Book, u32) -> Handed,
     minimum_early: fn(&Book) -> Figure,
 }
 

@@ -4,7 +4,7 @@
 use dispatcher::sample::plan_a::PLAN_A;
 use dispatcher::sample::plans::{exclusively_held, full_plan};
 use dispatcher::sample::program::{
-    at_root, contents, empty_folder, expect_printed, expect_said, folders_below, make_unreadable,
+    at_root, contents, empty_folder, entries_below, expect_printed, expect_said, make_unreadable,
     program_in,
 };
 use dispatcher::sample::{announced_seed, Rng};
@@ -22,7 +22,7 @@ fn convert_in(folder: &Path) -> Command {
 
 /// Each folder with a plan, or with none, and what is typed for it.
 fn typed() -> Vec<(PathBuf, Vec<u8>)> {
-    let cases = folders_below(&at_root("rust/tests/convert"));
+    let cases = entries_below(&at_root("rust/tests/convert"));
     assert_eq!(cases.len(), 12);
     let cases = cases.into_iter().map(|case| (case, "out.txt"));
     let examples = EXAMPLES.map(|example| (at_root(example), "converted.txt"));

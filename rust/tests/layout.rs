@@ -1,6 +1,6 @@
 //! Where each field of the values lies, for callers in another language.
 
-use dispatcher::{Answer, Book, Dropped, Figure, Opening, Plan, Reading, Reported, Rule, Written};
+use dispatcher::{Answer, Book, Figure, Handed, Plan, Reading, Rule, Written};
 use std::mem::{offset_of, size_of};
 
 #[test]
@@ -47,9 +47,7 @@ fn rules_are_the_bytes_stated() {
 fn answers_stand_first() {
     assert_eq!(size_of::<Answer>(), 12);
     assert_eq!(offset_of!(Reading, plan), 12);
-    assert_eq!(offset_of!(Opening, book), 12);
-    assert_eq!(offset_of!(Reported, book), 12);
-    assert_eq!(offset_of!(Dropped, book), 12);
+    assert_eq!(offset_of!(Handed, book), 12);
     assert_eq!(offset_of!(Figure, early), 12);
     assert_eq!(offset_of!(Written, length), 12);
 }

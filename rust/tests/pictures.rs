@@ -1,7 +1,11 @@
 //! The committed pictures are what the tool draws now, and it draws nothing it should not.
 
-use dispatcher::sample::program::at_root;
+use dispatcher::run_log;
+use dispatcher::sample::plan_a::PLAN_A;
+use dispatcher::sample::program::{at_root, empty_folder};
+use std::collections::BTreeMap;
 use std::fs;
+use std::path::PathBuf;
 use std::process::{Command, Output};
 
 /// Shown in the README at the root.
@@ -17,12 +21,63 @@ const DRAWN: [&str; 6] = [
 /// Shown in the README of their own example.
 const DRAWN_BELOW: [(&str, &str); 2] = [("two-rules", "early-start"), ("two-rules", "clash")];
 
-fn draw(plan: &str, log: &str) -> Output {
+/// Drawn by drive, each from what refuses its plan; shown in the README of their own example.
+const DRAWN_BY_DRIVE: [(&str, &str); 2] = [
+    ("one-clash", "log.txt"),
+    ("old-plan-refused", "converted.txt"),
+];
+
+fn picture(options: &[&str], files: &[PathBuf]) -> Output {
     Command::new("python3")
         .arg(at_root("tools/picture"))
-        .args([at_root(plan), at_root(log)])
+        .args(options)
+        .args(files)
         .output()
         .expect("python3 is on the machine")
+}
+
+fn draw(plan: &str, log: &str) -> Output {
+    picture(&[], &[at_root(plan), at_root(log)])
+}
+
+/// What is drawn of texts of its own, put into a folder of that name; without ends the plan alone.
+fn drawn(name: &str, options: &[&str], plan: &[u8], ends: Option<&[u8]>) -> String {
+    let folder = empty_folder(env!("CARGO_TARGET_TMPDIR"), name);
+    let mut files = vec![folder.join("plan.txt")];
+    fs::write(&files[0], plan).unwrap();
+    if let Some(ends) = ends {
+        files.push(folder.join("log.txt"));
+        fs::write(&files[1], run_log(plan, ends)).unwrap();
+    }
+    let output = picture(options, &files);
+    assert_eq!(String::from_utf8_lossy(&output.stderr), "");
+    assert_eq!(output.status.code(), Some(0));
+    String::from_utf8(output.stdout).unwrap()
+}
+
+/// A shape's or text's attributes by their names, and what stands within it.
+fn parts_of(line: &str) -> (BTreeMap<&str, &str>, &str) {
+    let (head, rest) = line.split_once('>').unwrap();
+    let mut attributes = BTreeMap::new();
+    for pair in head.split("\" ") {
+        let (name, value) = pair.rsplit_once("=\"").unwrap();
+        let name = name.rsplit(' ').next().unwrap();
+        attributes.insert(name, value.trim_end_matches('"'));
+    }
+    (attributes, rest)
+}
+
+fn number(attributes: &BTreeMap<&str, &str>, name: &str) -> f64 {
+    attributes[name].parse().unwrap()
+}
+
+/// The bars that tell something of tasks where they are hovered.
+fn bars(svg: &str) -> Vec<(BTreeMap<&str, &str>, &str)> {
+    let lines = svg.lines().filter(|line| line.starts_with("<rect "));
+    let parts = lines
+        .filter(|line| line.contains("<title>task "))
+        .map(parts_of);
+    parts.collect()
 }
 
 fn expect_refused(plan: &str, log: &str, why: &str) {
@@ -43,6 +98,15 @@ fn the_committed_pictures_are_drawn_anew() {
         assert!(output.status.success());
         assert!(output.stdout == committed, "{folder}/picture.svg is old");
     }
+    for (name, refusal) in DRAWN_BY_DRIVE {
+        let file = |file: &str| at_root("examples").join(name).join(file);
+        let output = picture(&["--by", "drive"], &[file("plan.txt"), file(refusal)]);
+        assert!(output.status.success());
+        assert!(
+            output.stdout == fs::read(file("drives.svg")).unwrap(),
+            "{name}/drives.svg is old"
+        );
+    }
 }
 
 #[test]
@@ -58,29 +122,195 @@ fn the_readmes_show_them() {
         let readme = fs::read_to_string(at_root(&format!("examples/{example}/README.md"))).unwrap();
         assert!(readme.contains(&format!("({name}/picture.svg)")), "{name}");
     }
+    for (name, _) in DRAWN_BY_DRIVE {
+        let readme = fs::read_to_string(at_root(&format!("examples/{name}/README.md"))).unwrap();
+        assert!(readme.contains("(drives.svg)"), "{name}");
+    }
+}
+
+/// Sixty-four tasks of one tick over 7,900: each bar is wide enough to be seen, and no white border covers it.
+#[test]
+fn narrow_bars_are_seen() {
+    let mut plan = String::from("plan\t1\t1\t64\n");
+    let mut ends = String::new();
+    for k in 1..=64 {
+        plan += &format!(
+            "task\t{k}\t1\t{}\t{}\t-\t-\n",
+            (k - 1) * 125,
+            (k - 1) * 125 + 1
+        );
+        ends += &format!("end\t{k}\t{k}\n");
+    }
+    let svg = drawn("narrow", &[], plan.as_bytes(), Some(ends.as_bytes()));
+    let bars = bars(&svg);
+    assert_eq!(bars.len(), 128);
+    for (bar, says) in bars {
+        assert!(number(&bar, "width") >= 2.0, "{says}");
+        assert!(!bar.contains_key("stroke"), "{says}");
+    }
+    // A broad bar keeps its border, and two that touch can be told apart.
+    let svg = drawn("broad", &[], PLAN_A, None);
+    assert!(svg.contains("stroke=\"#fff\""));
+}
+
+/// The numbers of an axis have room beside each other: a digit of this size is less than 7 wide.
+#[test]
+fn tick_labels_do_not_crowd() {
+    for last in [1, 14, 201, 7_900, 99_999, 123_456, 999_999, 1_000_000] {
+        let plan = format!("plan\t1\t1\t1\ntask\t1\t1\t0\t{last}\t-\t-\n");
+        let svg = drawn(&format!("ticks-{last}"), &[], plan.as_bytes(), None);
+        let lines = svg.lines().filter(|line| line.starts_with("<text "));
+        let labels: Vec<(f64, usize)> = lines
+            .map(parts_of)
+            .filter(|(label, _)| label["fill"] == "#616e7c" && label["text-anchor"] == "middle")
+            .map(|(label, rest)| (number(&label, "x"), rest.trim_end_matches("</text>").len()))
+            .collect();
+        assert!(labels.len() >= 2, "{last}");
+        for pair in labels.windows(2) {
+            let [(left, wide), (right, wider)] = [pair[0], pair[1]];
+            let needed = 3.5 * (wide + wider) as f64 + 3.0;
+            assert!(right - left >= needed, "{last}: {left} and {right}");
+        }
+        let (x, wide) = labels[labels.len() - 1];
+        assert!(
+            x + 3.5 * wide as f64 <= 1_080.0,
+            "{last}: the last one is cut"
+        );
+    }
 }
 
 #[test]
-fn a_refused_log_and_a_log_of_another_plan_are_not_drawn() {
-    let clash = "examples/one-clash";
+fn a_bar_tells_its_task_where_it_is_hovered() {
+    let told = |svg: &str, says: &str| {
+        let title = format!("<title>{says}</title>");
+        assert!(svg.contains(&title), "{says} is not among\n{svg}");
+    };
+    let ends = b"drop\t3\nend\t2\t3\nend\t1\t4\nend\t5\t6\n";
+    let svg = drawn("titles", &[], PLAN_A, Some(ends));
+    told(
+        &svg,
+        "task 1, board 1, holds e1: planned 0 to 6, ran 0 to 4",
+    );
+    told(&svg, "task 2, board 2, holds -: planned 0 to 4, ran 0 to 3");
+    told(
+        &svg,
+        "task 3, board 2, holds s2: planned 4 to 9, dropped, skipped at 3",
+    );
+    told(
+        &svg,
+        "task 4, board 1, holds e2: planned 9 to 12, started at 4, has not ended",
+    );
+    told(
+        &svg,
+        "task 5, board 2, holds e1: planned 10 to 14, ran 4 to 6",
+    );
+    let plan = b"plan\t2\t1\t2\ntask\t1\t1\t0\t0\t4\te1,e3\t-\ntask\t2\t1\t5\t6\t8\t-\t-\n";
+    let svg = drawn("titles-ready", &[], plan, None);
+    told(&svg, "task 1, board 1, holds e1,e3: planned 0 to 4");
+    told(&svg, "task 2, board 1, holds -: planned 6 to 8, ready at 5");
+}
+
+/// Where the bars of a task and those of another stand, from above.
+fn heights(svg: &str, task: u32) -> Vec<f64> {
+    let begin = format!("<title>task {task},");
+    let of_task = bars(svg)
+        .into_iter()
+        .filter(|(_, says)| says.starts_with(&begin));
+    of_task.map(|(bar, _)| number(&bar, "y")).collect()
+}
+
+/// Tasks 1 and 2 share drive 4 at the same time, task 3 holds it alone later; drive 9 is task 3's; task 4 holds none.
+#[test]
+fn by_drive_a_row_is_a_drive_and_its_holders_are_stacked() {
+    let plan = b"plan\t1\t3\t4\ntask\t1\t1\t0\t6\ts4\t-\ntask\t2\t2\t2\t5\ts4\t-\ntask\t3\t3\t6\t9\te4,e9\t-\ntask\t4\t3\t0\t2\t-\t-\n";
+    let svg = drawn("drives", &["--by", "drive"], plan, None);
+    let rows = svg.lines().filter(|line| line.contains(">drive "));
+    let names: Vec<&str> = rows.map(|line| parts_of(line).1).collect();
+    assert_eq!(names, ["drive 4</text>", "drive 9</text>"]);
+    assert!(!svg.contains(">board "));
+    assert_eq!(bars(&svg).len(), 4);
+    let [one, two, three] = [1, 2, 3].map(|task| heights(&svg, task));
+    assert_eq!((one.len(), two.len(), three.len()), (1, 1, 2));
+    // Bars are 18 high: the one that shares stands below the other, and the later one beside the first.
+    assert!(two[0] >= one[0] + 18.0);
+    assert_eq!(three[0], one[0]);
+    assert!(three[1] >= two[0] + 18.0);
+    let fill = |task: usize| bars(&svg)[task - 1].0["fill"].to_owned();
+    assert_eq!(fill(1), fill(2));
+    assert_ne!(fill(1), fill(3));
+    assert!(svg.contains("not drawn: 1 task without a drive"));
+    // With a log actual bars stand below the planned ones of their drive.
+    let ends = b"end\t1\t3\nend\t2\t4\n";
+    let svg = drawn("drives-ran", &["--by", "drive"], plan, Some(ends));
+    assert!(svg.contains("M, how early"));
+    assert_eq!(heights(&svg, 1).len(), 2);
+}
+
+/// From the plan alone: the two are outlined, and the time in which they overlap is marked where they do.
+#[test]
+fn a_refused_pair_is_marked() {
+    let svg = fs::read_to_string(at_root("examples/one-clash/drives.svg")).unwrap();
+    assert!(svg.contains("the plan, refused by 7 (tasks 20 and 22)"));
+    assert!(svg.contains("<title>drive 26: task 20 and task 22 overlap from 36 to 40</title>"));
+    assert_eq!(svg.matches(" overlap from ").count(), 1);
+    let marked = bars(&svg)
+        .into_iter()
+        .filter(|(bar, _)| bar.get("stroke") == Some(&"#d7263d"));
+    let marked: Vec<&str> = marked.map(|(_, says)| &says[..14]).collect();
+    assert_eq!(
+        marked,
+        [
+            "<title>task 20",
+            "<title>task 20",
+            "<title>task 22",
+            "<title>task 22"
+        ]
+    );
+
+    let svg = fs::read_to_string(at_root("examples/old-plan-refused/drives.svg")).unwrap();
+    assert!(svg.contains("<title>drive 2: task 5 and task 6 overlap from 10 to 12</title>"));
+
+    let plan = b"plan\t1\t1\t2\ntask\t1\t1\t0\t6\t-\t-\ntask\t2\t1\t4\t8\t-\t-\n";
+    let svg = drawn("one-board", &[], plan, Some(b""));
+    assert!(svg.contains("refused by 6 (tasks 1 and 2)"));
+    assert!(svg.contains("<title>board 1: task 1 and task 2 overlap from 4 to 6</title>"));
+    assert!(heights(&svg, 2)[0] >= heights(&svg, 1)[0] + 18.0);
+}
+
+#[test]
+fn a_refused_text_and_a_log_of_another_plan_are_not_drawn() {
     expect_refused(
-        &format!("{clash}/plan.txt"),
-        &format!("{clash}/log.txt"),
-        "refused by 7 (20, 22)",
+        "rust/tests/cases/column-field-missing/plan.txt",
+        "rust/tests/cases/column-field-missing/log.txt",
+        "not a task line",
     );
     expect_refused(
         "examples/plan-a/plan.txt",
+        "rust/tests/cases/plan-missing/log.txt",
+        "refused by 2 (1, 0)",
+    );
+    for log in [
         "examples/full-morning/log.txt",
-        "not of this plan",
-    );
-    expect_refused(
-        "examples/plan-a/plan.txt",
         "examples/two-rules/clash/log.txt",
-        "not of this plan",
-    );
+        "examples/one-clash/log.txt",
+    ] {
+        expect_refused("examples/plan-a/plan.txt", log, "not of this plan");
+    }
     expect_refused(
         "examples/plan-a/log.txt",
         "examples/plan-a/log.txt",
         "not the first line of a plan",
     );
+}
+
+#[test]
+fn rows_are_boards_or_drives() {
+    let plan = at_root("examples/plan-a/plan.txt");
+    let plain = picture(&[], &[plan.clone()]);
+    assert!(picture(&["--by", "board"], &[plan.clone()]).stdout == plain.stdout);
+    for options in [["--by", "task"].as_slice(), &["--by"]] {
+        let output = picture(options, &[]);
+        assert_eq!(output.status.code(), Some(2));
+        assert!(String::from_utf8_lossy(&output.stderr).contains("drive or board"));
+    }
 }

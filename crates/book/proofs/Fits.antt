@@ -11,7 +11,7 @@ use Rattle.laws.proofs.Cases.{by-eq, or-l}
 use Rattle.theory.specs.Plan as theory-plan
 use Rattle.theory.specs.Book as theory-book
 use Rattle.theory.specs.Report.{endIt, blank}
-use Rattle.theory.specs.Events.{Accepts}
+use Rattle.theory.specs.words.Events.{Accepts}
 use Rattle.theory.proofs.Facts.{Sound}
 use Rattle.theory.proofs.Past.{past-end-it}
 use Rattle.theory.proofs.Reflect.{all-ended-at}

@@ -8,5 +8,5 @@ pub mod SettleLaws
 pub mod Soundness
 pub mod Fits
 pub mod ReportLaws
-pub mod Handed
+pub mod LaidOut
 pub mod Reports

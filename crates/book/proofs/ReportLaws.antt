@@ -11,7 +11,7 @@ use Rattle.laws.proofs.Cases.{by-bool, by-eq}
 use Rattle.theory.specs.Figure.{minimumEarly}
 use Rattle.theory.specs.Book.{waiting, running, isDropped, limit}
 use Rattle.theory.specs.Report.{nonePast, reportCode, dropCode}
-use Rattle.theory.specs.Events.{Accepts, AcceptsDrop}
+use Rattle.theory.specs.words.Events.{Accepts, AcceptsDrop}
 use Rattle.theory.proofs.Reflect.{code-accepts, code-accepts-drop}
 use Rattle.plan.specs.Answer.{refuse, granted}
 use Rattle.plan.specs.Value.{isAccepted, zeroPlan}
@@ -26,10 +26,8 @@ use Rattle.book.specs.Report.{codeOf, reportAnswer, nextBook, reportedOf
 use Rattle.book.specs.Drop.{dropCodeOf, dropAnswer, droppedIn, droppedOf}
 use Rattle.book.specs.Early.{figureOf}
 use Rattle.book.specs.declared.Book.{Book}
-use Rattle.book.specs.declared.Opening.{Opening}
+use Rattle.book.specs.declared.Handed.{Handed}
 use Rattle.book.specs.declared.Rule.{Rule}
-use Rattle.book.specs.declared.Reported.{Reported}
-use Rattle.book.specs.declared.Dropped.{Dropped}
 use Rattle.book.specs.declared.Figure.{Figure}
 use Rattle.book.proofs.Soundness.{SoundFacts, is-sound-facts, number-is-rule}
 
@@ -49,13 +47,13 @@ module _ (plan : Plan) (rule : Rule) {ok : Bool} (p : ok ≡ (isAccepted plan &&
 
   pub opening-refused :
       {book : Book} → ok ≡ false → code ≡ 9 → book ≡ blankBook 0 zeroPlan
-      → _≡_ {A = Opening} (record { answer = answer; book = book }) (openingOf plan rule)
+      → _≡_ {A = Handed} (record { answer = answer; book = book }) (openingOf plan rule)
   unfolding openingOf
   opening-refused h n b = rw (sym (accepted-by plan rule p) ∙ h, opening-says, n, b)
 
   pub opening-granted :
       {book : Book} → ok ≡ true → code ≡ 0 → book ≡ openedOn plan rule
-      → _≡_ {A = Opening} (record { answer = answer; book = book }) (openingOf plan rule)
+      → _≡_ {A = Handed} (record { answer = answer; book = book }) (openingOf plan rule)
   unfolding openingOf
   opening-granted h z b = rw (sym (accepted-by plan rule p) ∙ h, opening-says, z, b)
 
@@ -147,13 +145,13 @@ module _ (book : Book) (task tick : ℕ) {code : ℕ} (c : code ≡ cond (not (i
 
   pub reported-refused :
       {after : Book} → code ≢ 0 → after ≡ book
-      → _≡_ {A = Reported} (record { answer = answer; book = after }) (reportedOf book task tick)
+      → _≡_ {A = Handed} (record { answer = answer; book = after }) (reportedOf book task tick)
   unfolding reportedOf reportAnswer
   reported-refused n e = rw (its-answer, e, not-granted (isSound book) (codeOf book task tick) code task tick c n)
 
   pub reported-granted :
       {after : Book} → code ≡ 0 → after ≡ nextBook book (task - 1) tick
-      → _≡_ {A = Reported} (record { answer = answer; book = after }) (reportedOf book task tick)
+      → _≡_ {A = Handed} (record { answer = answer; book = after }) (reportedOf book task tick)
   unfolding reportedOf reportAnswer
   reported-granted z e =
       let t = told-granted (isSound book) (codeOf book task tick) code c z in rw (its-answer, e, t .0, t .1)
@@ -187,13 +185,13 @@ module _ (book : Book) (task : ℕ) {code : ℕ} (c : code ≡ cond (not (isSoun
 
   pub dropped-refused :
       {after : Book} → code ≢ 0 → after ≡ book
-      → _≡_ {A = Dropped} (record { answer = answer; book = after }) (droppedOf book task)
+      → _≡_ {A = Handed} (record { answer = answer; book = after }) (droppedOf book task)
   unfolding droppedOf dropAnswer
   dropped-refused n e = rw (drop-answer, e, not-granted (isSound book) (dropCodeOf book task) code task 0 c n)
 
   pub dropped-granted :
       {after : Book} → code ≡ 0 → after ≡ droppedIn book (task - 1)
-      → _≡_ {A = Dropped} (record { answer = answer; book = after }) (droppedOf book task)
+      → _≡_ {A = Handed} (record { answer = answer; book = after }) (droppedOf book task)
   unfolding droppedOf dropAnswer
   dropped-granted z e =
       let t = told-granted (isSound book) (dropCodeOf book task) code c z in rw (drop-answer, e, t .0, t .1)

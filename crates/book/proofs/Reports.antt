@@ -8,14 +8,14 @@ use lib.Dec.{eqb}
 use borrow.Author.Tests.{eq-eqb, ne-eqb, le-leb}
 use Rattle.laws.proofs.Cases.{by-eq}
 use Rattle.theory.specs.Report.{reportCode, dropCode}
-use Rattle.theory.specs.Events.{Event}
+use Rattle.theory.specs.words.Events.{Event}
 use Rattle.theory.proofs.Facts.{eventCode, stepTo, bookAfter}
 use Rattle.theory.proofs.Reflect.{after-taken, after-refused}
 use Rattle.book.specs.View.{planIn, planView, bookView}
 use Rattle.book.specs.Sound.{isSound}
 use Rattle.book.specs.Report.{codeOf, nextBook}
 use Rattle.book.specs.Drop.{dropCodeOf, droppedIn}
-use Rattle.book.specs.Event.{bookTold}
+use Rattle.book.specs.words.Event.{bookTold}
 use Rattle.book.specs.declared.Book.{Book}
 use Rattle.book.proofs.Sizes.{Sized, sized-next, plan-next, rule-next, sized-dropped, plan-dropped, rule-dropped}
 use Rattle.book.proofs.Views.{view-next, view-dropped}

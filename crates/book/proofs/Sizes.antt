@@ -10,7 +10,7 @@ use Rattle.book.specs.Report.{nextBook}
 use Rattle.book.specs.Drop.{droppedIn}
 use Rattle.book.specs.declared.Book.{Book}
 use Rattle.book.specs.declared.Rule.{Rule}
-pub use Rattle.book.specs.Sized.{SizedPlan, Sized}
+pub use Rattle.book.specs.words.Sized.{SizedPlan, Sized}
 
 pub sized-laid : (rule : ℕ) (plan : Plan) (seen : theory-book.Book) → SizedPlan plan → Sized (layOut rule plan seen)
 unfolding layOut

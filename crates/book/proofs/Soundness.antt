@@ -5,7 +5,7 @@ use mathlib.Core.Path.{_≡_, refl}
 use mathlib.Core.Logic.{_↔_}
 use Rattle.laws.proofs.Cases.{and-l, and-r, and-of}
 use Rattle.theory.specs.Book as theory-book
-use Rattle.theory.specs.Events.{Accepts, AcceptsDrop}
+use Rattle.theory.specs.words.Events.{Accepts, AcceptsDrop}
 use Rattle.theory.proofs.Facts.{Sound}
 use Rattle.theory.proofs.Past.{past-next, past-drop}
 use Rattle.theory.proofs.Reflect.{sound-test}

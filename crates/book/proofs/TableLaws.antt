@@ -11,13 +11,17 @@ use lib.Seq.{getD-set-same, getD-set-other}
 use borrow.Author.Tests.{eq-eqb, ne-eqb, eqb-true}
 use Rattle.laws.proofs.Cases.{by-eq, true-false, same-test, and-l, and-r, and-of}
 use Rattle.laws.proofs.Every.{every-at, every-of}
-use Rattle.laws.specs.Picked.{lastOf, laterOf}
+use Rattle.laws.specs.private.Last.{lastOf, laterOf}
 use Rattle.laws.proofs.Last.{last-taken, last-passed, Last, last-is, last-small}
 use Rattle.theory.specs.Plan.{Plan}
 use Rattle.theory.specs.Book.{allEnded}
 use Rattle.theory.proofs.Reflect.{all-ended-at, all-ended-of}
 use Rattle.plan.specs.Value.{at}
-use Rattle.book.specs.private.Table.{waitsOn, lastTask, hasEnded, rowEnded, SmallRow, RowTo, TableTo, OnEight, InTurn, Onward, Closed}
+use Rattle.book.specs.private.Table.{waitsOn, hasEnded, rowEnded, SmallRow, RowTo, TableTo, OnEight, InTurn, Onward, Closed}
+
+-- the last task of the board that i waits for, counted from 1; 0 for none
+abbrev lastTask : Plan → (ℕ → ℕ) → ℕ → ℕ → ℕ
+lastTask plan board i on = lastOf (plan .tasks) (waitsOn plan board i on) (plan .finish)
 
 -- a row, task by task
 module _ (plan : Plan) (board : ℕ → ℕ) (i : ℕ) where

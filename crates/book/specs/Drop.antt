@@ -8,7 +8,7 @@ use Rattle.plan.specs.declared.Answer.{Answer}
 use Rattle.book.specs.View.{planIn, planView, bookView, layOut}
 use Rattle.book.specs.Sound.{isSound}
 use Rattle.book.specs.declared.Book.{Book}
-use Rattle.book.specs.declared.Dropped.{Dropped}
+use Rattle.book.specs.declared.Handed.{Handed}
 
 -- 10, then 19 if its start is known or it is already dropped; task k from 1 is the theory's k - 1
 unfoldable pub dropCodeOf : Book → ℕ → ℕ
@@ -25,7 +25,7 @@ unfoldable pub droppedIn : Book → ℕ → Book
 droppedIn book k = layOut (book .rule) (planIn book) (dropIt (bookView book) k)
 
 -- a refused drop gives the book it was given
-unfoldable pub droppedOf : Book → ℕ → Dropped
+unfoldable pub droppedOf : Book → ℕ → Handed
 droppedOf book task =
     let answer = dropAnswer book task in
     record { answer = answer; book = cond (isGranted answer) (droppedIn book (task - 1)) book }

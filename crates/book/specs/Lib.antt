@@ -1,9 +1,8 @@
 pub mod View
-pub mod Sized
 pub mod Sound
 pub mod Open
 pub mod Report
 pub mod Drop
-pub mod Event
 pub mod Early
+pub mod words
 pub mod private

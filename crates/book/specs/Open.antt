@@ -1,4 +1,4 @@
--- Opening a book.
+-- Handed a book.
 use Prim.Native.Nat.{ℕ}
 use mathlib.Core.Bool.{cond}
 use Rattle.theory.specs.Report.{blank, opened}
@@ -8,7 +8,7 @@ use Rattle.plan.specs.declared.Plan.{Plan}
 use Rattle.view.specs.View.{planFor}
 use Rattle.book.specs.View.{layOut}
 use Rattle.book.specs.declared.Book.{Book}
-use Rattle.book.specs.declared.Opening.{Opening}
+use Rattle.book.specs.declared.Handed.{Handed}
 use Rattle.book.specs.declared.Rule.{Rule}
 use Rattle.book.specs.declared.Rule.the-variants.{EarlyStart, Clash}
 
@@ -26,7 +26,7 @@ unfoldable pub openedOn : Plan → Rule → Book
 openedOn plan rule = layOut (ruleNumber rule) plan (opened (planFor (ruleNumber rule) plan))
 
 -- 9, with a book of zeros, or the opened book
-unfoldable pub openingOf : Plan → Rule → Opening
+unfoldable pub openingOf : Plan → Rule → Handed
 openingOf plan rule =
     cond (isAccepted plan) (record { answer = granted; book = openedOn plan rule })
     (record { answer = refuse 9 0 0; book = blankBook 0 zeroPlan })

@@ -8,7 +8,7 @@ use Rattle.plan.specs.declared.Answer.{Answer}
 use Rattle.book.specs.View.{planIn, planView, bookView, layOut}
 use Rattle.book.specs.Sound.{isSound}
 use Rattle.book.specs.declared.Book.{Book}
-use Rattle.book.specs.declared.Reported.{Reported}
+use Rattle.book.specs.declared.Handed.{Handed}
 
 -- the codes 10 to 15 by task number; task k from 1 is the theory's k - 1
 unfoldable pub codeOf : Book → ℕ → ℕ → ℕ
@@ -25,7 +25,7 @@ unfoldable pub nextBook : Book → ℕ → ℕ → Book
 nextBook book k tick = layOut (book .rule) (planIn book) (next (planView book) (bookView book) k tick)
 
 -- a refused report gives the book it was given
-unfoldable pub reportedOf : Book → ℕ → ℕ → Reported
+unfoldable pub reportedOf : Book → ℕ → ℕ → Handed
 reportedOf book task tick =
     let answer = reportAnswer book task tick in
     record { answer = answer; book = cond (isGranted answer) (nextBook book (task - 1) tick) book }

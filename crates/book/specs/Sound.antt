@@ -2,7 +2,8 @@
 use mathlib.Core.Bool.{Bool, _&&_}
 use Rattle.plan.specs.Value.{isAccepted}
 use Rattle.view.specs.View.{isRule}
-use Rattle.sound.specs.Sound.{soundOn}
+use Rattle.sound.specs.Sound.{soundOn, soundWaits}
+use Rattle.waits.specs.declared.Waits.{Waits}
 use Rattle.book.specs.View.{planIn, planView}
 use Rattle.book.specs.declared.Book.{Book}
 
@@ -11,3 +12,7 @@ abbrev pub isSound : Book → Bool
 isSound book =
     (isAccepted (planIn book) && isRule (book .rule))
     && soundOn (planView book) (book .mark) (book .start) (book .end) (book .dropped) (book .clock)
+
+-- the wait sets by its rule, known where it is sound
+abbrev pub judgedIn : Book → Waits
+judgedIn book = soundWaits (book .rule) (planIn book) (book .mark) (book .start) (book .end) (book .dropped) (book .clock)

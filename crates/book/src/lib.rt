@@ -1,26 +1,33 @@
 // A book on a plan: planned times, starts, ends and marks beside the clock, and the rest of its plan.
+mod judge;
+mod open;
 mod settle;
 mod skip;
 mod start;
 mod table;
 
+use judge::judge_report;
+use open::blank_book;
+use open::number_of;
+use open::zero_book;
 use plan::Answer;
 use plan::Plan;
+use plan::refuse;
+use settle::ended_at;
 use settle::settle;
+use settle::unmoved;
+use sound::sound_waits;
+use waits::Waits;
 use waits::wait_sets;
 ghost use mathlib.Core.Path.{_≡_};
 ghost use mathlib.Core.Bool.{cond, _||_};
 ghost use lib.Dec.{eqb};
-ghost use lib.ListN.{set};
-ghost use Prim.Native.Nat.{_<_};
-ghost use Rattle.theory.specs.Report.{blank};
 ghost use Rattle.plan.specs.Answer.{refuse};
-ghost use Rattle.book.specs.Sound.{isSound};
-ghost use Rattle.book.specs.Open.{ruleNumber, blankBook, openingOf};
+ghost use Rattle.book.specs.Sound.{isSound, judgedIn};
+ghost use Rattle.book.specs.Open.{openingOf};
 ghost use Rattle.book.specs.Report.{reportedOf};
 ghost use Rattle.book.specs.Drop.{droppedOf};
 ghost use Rattle.book.specs.Early.{figureOf};
-ghost use Rattle.book.specs.private.Table.{movedTo};
 
 // Whom a task waits for: all that are planned to finish by its planned start, or those of them that clash with it.
 pub enum Rule {
@@ -48,20 +55,9 @@ pub struct Book {
     pub after: [u8; 4096],
 }
 
+// An answer, and the book after it.
 #[repr(C)]
-pub struct Opening {
-    pub answer: Answer,
-    pub book: Book,
-}
-
-#[repr(C)]
-pub struct Reported {
-    pub answer: Answer,
-    pub book: Book,
-}
-
-#[repr(C)]
-pub struct Dropped {
+pub struct Handed {
     pub answer: Answer,
     pub book: Book,
 }
@@ -79,48 +75,38 @@ pub(crate) struct Moved {
     pub end: [u32; 64],
 }
 
+// The code of a report, and the wait sets of the book's tasks.
+pub(crate) struct Coded {
+    pub code: u32,
+    pub sets: [u64; 64],
+}
+
 // 0 and 9 say 0 and 0 besides.
 fn answer_of(code: u32, first: u32, second: u32) -> Answer
     ensures { λ r. ⌜ r ≡ cond (eqb code 0 || eqb code 9) (refuse code 0 0) (refuse code first second) ⌝ }
 {
     if (code == 0) | (code == 9) {
-        return Answer {
-            code,
-            first: 0,
-            second: 0,
-        };
+        return refuse(code, 0, 0);
     }
-    Answer {
-        code,
-        first,
-        second,
-    }
+    refuse(code, first, second)
 }
 
-// The test of code 9.
-pub fn is_sound(book: Book) -> bool
-    ensures { λ r. ⌜ r ≡ isSound book ⌝ }
+// The wait sets of a book's tasks, known where it is sound: the test of code 9.
+pub fn judged(book: Book) -> Waits
+    ensures { λ r. ⌜ r ≡ judgedIn book ⌝ }
 {
-    let waits = wait_sets(
+    sound_waits(
         book.rule,
         book.edition,
         book.boards,
         book.tasks,
+        book.clock,
         &book.board,
         &book.ready,
         &book.begin,
         &book.finish,
         &book.holds,
         &book.after,
-    );
-    sound::is_sound(
-        waits.known,
-        book.tasks,
-        book.clock,
-        &book.ready,
-        &book.begin,
-        &book.finish,
-        &waits.sets,
         &book.start,
         &book.end,
         &book.mark,
@@ -128,69 +114,15 @@ pub fn is_sound(book: Book) -> bool
     )
 }
 
-// Nothing is known yet of any task.
-fn unmoved() -> Moved
-    ensures { λ r. ⌜ r ≡ movedTo 0 blank ⌝ }
+pub fn is_sound(book: Book) -> bool
+    ensures { λ r. ⌜ r ≡ isSound book ⌝ }
 {
-    Moved {
-        mark: [0; 64],
-        start: [0; 64],
-        end: [0; 64],
-    }
-}
-
-// Task k has ended at the tick.
-fn ended_at(mark: [u8; 64], start: [u32; 64], end: [u32; 64], k: usize, tick: u32) -> Moved
-    requires { ⌜ k < 64 ⌝ }
-    ensures { λ r. ⌜ r ≡ record { mark = set mark k 2; start = start; end = set end k tick } ⌝ }
-{
-    let mut moved = Moved { mark, start, end };
-    moved.mark[k] = 2;
-    moved.end[k] = tick;
-    moved
-}
-
-// The number that a book keeps.
-fn number_of(rule: Rule) -> u8
-    ensures { λ r. ⌜ r ≡ ruleNumber rule ⌝ }
-{
-    match rule {
-        Rule::EarlyStart => 0,
-        Rule::Clash => 1,
-    }
-}
-
-// Nothing is known yet of any task of the plan.
-fn blank_book(rule: u8, plan: Plan) -> Book
-    ensures { λ r. ⌜ r ≡ blankBook rule plan ⌝ }
-{
-    let board = plan.board;
-    let ready = plan.ready;
-    let begin = plan.begin;
-    let finish = plan.finish;
-    let holds = plan.holds;
-    let after = plan.after;
-    Book {
-        edition: plan.edition,
-        boards: plan.boards,
-        tasks: plan.tasks,
-        rule,
-        clock: 0,
-        board,
-        ready,
-        begin,
-        finish,
-        start: [0; 64],
-        end: [0; 64],
-        mark: [0; 64],
-        dropped: [0; 64],
-        holds,
-        after,
-    }
+    let waits = judged(book);
+    waits.known
 }
 
 // The book's own arrays are lent, and there is one way out, so that the stack holds one copy of it.
-pub fn open_book(plan: Plan, rule: Rule) -> Opening
+pub fn open_book(plan: Plan, rule: Rule) -> Handed
     ensures { λ r. ⌜ r ≡ openingOf plan rule ⌝ }
 {
     let mut book = blank_book(number_of(rule), plan);
@@ -226,48 +158,31 @@ pub fn open_book(plan: Plan, rule: Rule) -> Opening
         book.end = end;
         code = 0;
     } else {
-        book.edition = 0;
-        book.boards = 0;
-        book.tasks = 0;
-        book.rule = 0;
-        book.board = [0; 64];
-        book.ready = [0; 64];
-        book.begin = [0; 64];
-        book.finish = [0; 64];
-        book.holds = [0; 2048];
-        book.after = [0; 4096];
+        book = zero_book();
     }
-    Opening {
+    Handed {
         answer: answer_of(code, 0, 0),
         book,
     }
 }
 
 impl Book {
-    pub fn report(mut self, task: u32, tick: u32) -> Reported
+    pub fn report(mut self, task: u32, tick: u32) -> Handed
         ensures { λ r. ⌜ r ≡ reportedOf self task tick ⌝ }
     {
         let tasks = self.tasks as usize;
-        let waits = wait_sets(
+        let judged = judge_report(
             self.rule,
             self.edition,
             self.boards,
             self.tasks,
+            self.clock,
             &self.board,
             &self.ready,
             &self.begin,
             &self.finish,
             &self.holds,
             &self.after,
-        );
-        let code = codes::report_code(
-            waits.known,
-            self.tasks,
-            self.clock,
-            &self.ready,
-            &self.begin,
-            &self.finish,
-            &waits.sets,
             &self.start,
             &self.end,
             &self.mark,
@@ -275,13 +190,14 @@ impl Book {
             task,
             tick,
         );
-        if code == 0 {
-            let ended = ended_at(self.mark, self.start, self.end, (task - 1) as usize, tick);
+        if judged.code == 0 {
+            let k = (task - 1) as usize;
+            let ended = ended_at(self.mark, self.start, self.end, k, tick);
             let next = settle(
                 &self.board,
                 &self.ready,
                 &self.finish,
-                &waits.sets,
+                &judged.sets,
                 &self.dropped,
                 ended,
                 tick,
@@ -295,80 +211,51 @@ impl Book {
             self.start = start;
             self.end = end;
         }
-        Reported {
-            answer: answer_of(code, task, tick),
-            book: self,
-        }
+        let answer = answer_of(judged.code, task, tick);
+        Handed { answer, book: self }
     }
 
     // A dropped task takes no time, but only once all it waits for have ended.
-    pub fn drop(mut self, task: u32) -> Dropped
+    pub fn drop(mut self, task: u32) -> Handed
         ensures { λ r. ⌜ r ≡ droppedOf self task ⌝ }
     {
-        let waits = wait_sets(
+        let waits = sound_waits(
             self.rule,
             self.edition,
             self.boards,
             self.tasks,
+            self.clock,
             &self.board,
             &self.ready,
             &self.begin,
             &self.finish,
             &self.holds,
             &self.after,
-        );
-        let code = codes::drop_code(
-            waits.known,
-            self.tasks,
-            self.clock,
-            &self.ready,
-            &self.begin,
-            &self.finish,
-            &waits.sets,
             &self.start,
             &self.end,
             &self.mark,
             &self.dropped,
+        );
+        let code = report_codes::drop_code(
+            waits.known,
+            &self.mark,
+            &self.dropped,
+            self.tasks,
             task,
         );
         if code == 0 {
             let k = (task - 1) as usize;
             self.dropped[k] = 1;
         }
-        Dropped {
-            answer: answer_of(code, task, 0),
-            book: self,
-        }
+        let answer = answer_of(code, task, 0);
+        Handed { answer, book: self }
     }
 
     pub fn minimum_early(self) -> Figure
         ensures { λ r. ⌜ r ≡ figureOf self ⌝ }
     {
-        let waits = wait_sets(
-            self.rule,
-            self.edition,
-            self.boards,
-            self.tasks,
-            &self.board,
-            &self.ready,
-            &self.begin,
-            &self.finish,
-            &self.holds,
-            &self.after,
-        );
-        if !sound::is_sound(
-            waits.known,
-            self.tasks,
-            self.clock,
-            &self.ready,
-            &self.begin,
-            &self.finish,
-            &waits.sets,
-            &self.start,
-            &self.end,
-            &self.mark,
-            &self.dropped,
-        ) {
+        let waits = judged(self);
+        if !waits.known {
             return Figure {
                 answer: answer_of(9, 0, 0),
                 early: 0,
@@ -376,7 +263,7 @@ impl Book {
         }
         Figure {
             answer: answer_of(0, 0, 0),
-            early: early::least_early(
+            early: figure::least_early(
                 &self.ready,
                 &self.begin,
                 &self.start,

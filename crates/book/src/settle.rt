@@ -5,7 +5,9 @@ use crate::start::start_free;
 use crate::table::last_tasks;
 ghost use mathlib.Core.Path.{_≡_};
 ghost use mathlib.Core.List.{[]};
-ghost use Rattle.theory.specs.Report.{skipTimes, letGo};
+ghost use Prim.Native.Nat.{_<_};
+ghost use lib.ListN.{set};
+ghost use Rattle.theory.specs.Report.{skipTimes, letGo, blank};
 ghost use Rattle.plan.specs.Value.{at};
 ghost use Rattle.view.specs.View.{planSeen};
 ghost use Rattle.book.specs.private.Table.{seenAs, movedTo, Fit};
@@ -26,4 +28,32 @@ pub(crate) fn settle<'a>(
     let last = last_tasks(board, finish, waits, &moved.mark, tasks);
     let skipped = skip_free(moved, dropped, last, clock, tasks);
     start_free(skipped, ready, last, clock, tasks)
+}
+
+// Nothing is known yet of any task.
+pub(crate) fn unmoved() -> Moved
+    ensures { λ r. ⌜ r ≡ movedTo 0 blank ⌝ }
+{
+    Moved {
+        mark: [0; 64],
+        start: [0; 64],
+        end: [0; 64],
+    }
+}
+
+// Task k has ended at the tick.
+pub(crate) fn ended_at(
+    mark: [u8; 64],
+    start: [u32; 64],
+    end: [u32; 64],
+    k: usize,
+    tick: u32,
+) -> Moved
+    requires { ⌜ k < 64 ⌝ }
+    ensures { λ r. ⌜ r ≡ record { mark = set mark k 2; start = start; end = set end k tick } ⌝ }
+{
+    let mut moved = Moved { mark, start, end };
+    moved.mark[k] = 2;
+    moved.end[k] = tick;
+    moved
 }

@@ -3,7 +3,7 @@ use view::is_in;
 ghost use mathlib.Core.Path.{_≡_};
 ghost use mathlib.Core.List.{[]};
 ghost use Prim.Native.Nat.{_<_, _≤_};
-ghost use Rattle.laws.specs.Picked.{laterOf};
+ghost use Rattle.laws.specs.private.Last.{laterOf};
 ghost use Rattle.plan.specs.Value.{at};
 ghost use Rattle.view.specs.View.{planSeen};
 ghost use Rattle.book.specs.private.Table.{OnEight, RowTo, TableTo};

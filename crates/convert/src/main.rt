@@ -2,9 +2,9 @@
 ghost use mathlib.Core.Path.{_≡_};
 ghost use lib.ListN.{take};
 ghost use Rattle.io.specs.Counts.{Counts};
-ghost use Rattle.editions.specs.Renewed.{renewedText};
-use editions::TEXT_MOST;
-use editions::convert_text;
+ghost use Rattle.converter.specs.Renewed.{renewedText};
+use converter::TEXT_MOST;
+use converter::convert_text;
 use files::print;
 use files::read_text;
 

@@ -12,11 +12,11 @@ use Rattle.laws.proofs.Lists.{all-at}
 use Rattle.text.specs.Bytes.{bytes}
 use Rattle.text.specs.Line.{field}
 use Rattle.text.specs.Number.{valueOf, most}
-use Rattle.faults.specs.Faults.{fieldCode, rangedRead, wordCode, endCode, faultOf}
-use Rattle.faults.specs.declared.Ranged.{Ranged}
-use Rattle.faults.specs.declared.Fault.{Fault}
-use Rattle.faults.proofs.RangedLaws.{ranged-code, ranged-value}
-use Rattle.faults.proofs.FaultLaws.{isCode, field-is-code, word-is-code, end-is-code, faultless-is}
+use Rattle.line_faults.specs.Faults.{fieldCode, rangedRead, wordCode, endCode, faultOf}
+use Rattle.line_faults.specs.declared.Ranged.{Ranged}
+use Rattle.line_faults.specs.declared.Fault.{Fault}
+use Rattle.line_faults.proofs.RangedLaws.{ranged-code, ranged-value}
+use Rattle.line_faults.proofs.FaultLaws.{isCode, field-is-code, word-is-code, end-is-code, faultless-is}
 use Rattle.entries.specs.Entries.{endCodes, dropCodes, unlessFault, entryOf}
 use Rattle.entries.specs.declared.Entry.{Entry}
 use Rattle.entries.specs.declared.Entry.the-variants.{End, Drop, Refused}

@@ -11,9 +11,9 @@ use Rattle.laws.specs.Lists.{allOf, same}
 use Rattle.laws.specs.Split.{indexOf}
 use Rattle.text.specs.Bytes.{bytes}
 use Rattle.text.specs.Line.{LF, field}
-use Rattle.faults.specs.Faults.{wordCode, endCode, faultOf}
-use Rattle.faults.specs.declared.Fault.{Fault}
-use Rattle.faults.proofs.FaultLaws.{isCode, word-is-code, end-is-code}
+use Rattle.line_faults.specs.Faults.{wordCode, endCode, faultOf}
+use Rattle.line_faults.specs.declared.Fault.{Fault}
+use Rattle.line_faults.proofs.FaultLaws.{isCode, word-is-code, end-is-code}
 use Rattle.entries.specs.Rules.{ruleCodes, choiceIn, choiceOf}
 use Rattle.entries.specs.declared.Choice.the-variants.{Unsaid, Chosen, Malformed}
 use Rattle.entries.proofs.EntryLaws.{clean}

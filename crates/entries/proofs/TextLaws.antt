@@ -15,9 +15,9 @@ use Rattle.laws.proofs.Split.{join-split}
 use Rattle.text.specs.Bytes.{bytes}
 use Rattle.text.specs.Line.{LF, hasLine, fields, field}
 use Rattle.text.specs.Number.{isNumber, most}
-use Rattle.faults.specs.Faults.{worst, faultOf}
-use Rattle.faults.proofs.RangedLaws.{field-zero}
-use Rattle.faults.proofs.FaultLaws.{isCode, faultless-is, word-zero, end-zero, zero-at}
+use Rattle.line_faults.specs.Faults.{worst, faultOf}
+use Rattle.line_faults.proofs.RangedLaws.{field-zero}
+use Rattle.line_faults.proofs.FaultLaws.{isCode, faultless-is, word-zero, end-zero, zero-at}
 use Rattle.entries.specs.Entries.{endCodes, dropCodes, unlessFault, entryOf, nextEntry, entryCode}
 use Rattle.entries.specs.declared.Entry.{Entry}
 use Rattle.entries.proofs.EntryLaws.{end-kinds, drop-kinds}

@@ -8,8 +8,8 @@ use Rattle.laws.specs.Split.{before}
 use Rattle.text.specs.Bytes.{bytes}
 use Rattle.text.specs.Number.{valueOf, most}
 use Rattle.text.specs.Line.{LF, field, hasLine}
-use Rattle.faults.specs.Faults.{wordCode, fieldCode, endCode, faultOf}
-use Rattle.faults.specs.declared.Fault.{Fault}
+use Rattle.line_faults.specs.Faults.{wordCode, fieldCode, endCode, faultOf}
+use Rattle.line_faults.specs.declared.Fault.{Fault}
 use Rattle.entries.specs.declared.Entry.{Entry}
 use Rattle.entries.specs.declared.Entry.the-variants.{End, Drop, Refused}
 

@@ -7,8 +7,8 @@ use Rattle.laws.specs.Lists.{same}
 use Rattle.laws.specs.Split.{before}
 use Rattle.text.specs.Bytes.{bytes}
 use Rattle.text.specs.Line.{LF, field, hasLine}
-use Rattle.faults.specs.Faults.{wordCode, endCode, faultOf}
-use Rattle.faults.specs.declared.Fault.{Fault}
+use Rattle.line_faults.specs.Faults.{wordCode, endCode, faultOf}
+use Rattle.line_faults.specs.declared.Fault.{Fault}
 use Rattle.entries.specs.declared.Choice.{Choice}
 use Rattle.entries.specs.declared.Choice.the-variants.{Unsaid, Chosen, Malformed}
 

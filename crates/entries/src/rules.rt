@@ -2,10 +2,10 @@
 ghost use mathlib.Core.Path.{_≡_};
 ghost use Rattle.entries.specs.Rules.{choiceIn, choiceOf};
 use crate::Choice;
-use faults::end_code;
-use faults::fault_of;
-use faults::is_faultless;
-use faults::word_code;
+use line_faults::end_code;
+use line_faults::fault_of;
+use line_faults::is_faultless;
+use line_faults::word_code;
 use text::part::LF;
 use text::part::field;
 use text::part::find;

@@ -1,6 +1,7 @@
+pub mod DriveLaws
 pub mod ItemLaws
 pub mod OrderLaws
 pub mod PairLaws
-pub mod ReadLaws
+pub mod PlaceLaws
 pub mod StartLaws
 pub mod ValueLaws

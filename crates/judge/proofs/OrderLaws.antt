@@ -13,7 +13,8 @@ use Rattle.laws.proofs.Every.{every-at}
 use Rattle.laws.specs.Lists.{anyOf}
 use Rattle.plan.specs.Pairs.{isListed}
 use Rattle.plan.specs.Value.{at, row, items}
-use Rattle.judge.specs.private.Arrays.{tasksIn, isLate, rowInOrder, breaksIn, PairInOrder, PassedOver}
+use Rattle.judge.specs.Tasks.{tasksIn}
+use Rattle.judge.specs.private.Arrays.{isLate, rowInOrder, breaksIn, PairInOrder, PassedOver}
 use Rattle.judge.proofs.PairLaws.{PairsFrom, passed-to, idle-pair}
 
 none-listed : (p : ℕ → Bool) (l : List ℕ) (x : ℕ) → anyOf p l ≡ false → p x ≡ true → anyOf (eqb x) l ≡ false

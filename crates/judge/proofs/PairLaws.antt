@@ -7,54 +7,46 @@ use borrow.Author.Tests.{eq-eqb, ne-eqb}
 use Rattle.laws.specs.Scan.{scanTo}
 use Rattle.laws.proofs.Scan.{scan-turn, scan-hit, scan-end}
 use Rattle.plan.specs.Answer.{refuse, granted, isRefused}
-use mathlib.Core.Bool.{Bool, true, false, not, cond, _&&_, _||_, and-false}
-use mathlib.Core.List.{List}
+use mathlib.Core.Bool.{Bool, true, false, not, _&&_}
 use lib.Dec.{eqb}
 use Rattle.plan.specs.Task.{Task}
-use Rattle.plan.specs.Pairs.{overlap, clashByDrive, breaksAfter, pairCode, pairAnswer, rowFault, firstFault}
-use Rattle.plan.specs.Value.{row, items}
-use Rattle.judge.specs.private.Arrays.{tasksIn, drivesMeet, codeIn}
+use Rattle.plan.specs.Pairs.{overlap, sameBoard, clashByDrive, breaksAfter, pairCode, pairAnswer, rowFault, firstFault}
 
--- the code by the tests that lead to it
-module _ (meet board drive this that : Bool) where
-  abbrev code : ℕ
-  code = cond (meet && board) 6 (cond (meet && drive) 7 (cond (this || that) 8 0))
+module _ (task : ℕ → Task) (a b : ℕ) {met : Bool} (p : met ≡ (not (eqb a b) && overlap (task a) (task b))) where
+  pub pair-6 : (met && sameBoard (task a) (task b)) ≡ true → 6 ≡ pairCode task a b
+  unfolding pairCode
+  pair-6 h = rw (rw p at h)
 
-  module _ {met : Bool} (p : met ≡ meet) where
-    pub pair-6 : (met && board) ≡ true → 6 ≡ code
-    pair-6 h = rw (rw p at h)
+  module _ (apart : (met && sameBoard (task a) (task b)) ≡ false) {drive : Bool} (q : drive ≡ (met && clashByDrive (task a .holds) (task b .holds))) where
+    pub pair-7 : drive ≡ true → 7 ≡ pairCode task a b
+    unfolding pairCode
+    pair-7 h = rw (rw p at apart, rw p at (sym q ∙ h))
 
-    module _ (apart : (met && board) ≡ false) {drives : Bool} (q : drives ≡ (met && drive)) where
-      pub pair-7 : drives ≡ true → 7 ≡ code
-      pair-7 h = rw (rw p at apart, rw p at (sym q ∙ h))
+    module _ (free : drive ≡ false) {this : Bool} (r : this ≡ breaksAfter task a b) where
+      pub pair-8-this : this ≡ true → 8 ≡ pairCode task a b
+      unfolding pairCode
+      pair-8-this h = rw (rw p at apart, rw p at (sym q ∙ free), sym r ∙ h)
 
-      module _ (free : drives ≡ false) {one : Bool} (r : one ≡ this) where
-        pub pair-8-this : one ≡ true → 8 ≡ code
-        pair-8-this h = rw (rw p at apart, rw p at (sym q ∙ free), sym r ∙ h)
+      module _ (kept : this ≡ false) {that : Bool} (s : that ≡ breaksAfter task b a) where
+        pub pair-8-that : that ≡ true → 8 ≡ pairCode task a b
+        unfolding pairCode
+        pair-8-that h = rw (rw p at apart, rw p at (sym q ∙ free), sym r ∙ kept, sym s ∙ h)
 
-        module _ (kept : one ≡ false) {other : Bool} (s : other ≡ that) where
-          pub pair-8-that : other ≡ true → 8 ≡ code
-          pair-8-that h = rw (rw p at apart, rw p at (sym q ∙ free), sym r ∙ kept, sym s ∙ h)
-
-          pub pair-0 : other ≡ false → 0 ≡ code
-          pair-0 h = rw (rw p at apart, rw p at (sym q ∙ free), sym r ∙ kept, sym s ∙ h)
-
--- and the rule's code, where the sets say what the lists say
-pub code-is :
-    (board begin finish holds after exclusive held : List ℕ) (a b : ℕ)
-    → drivesMeet exclusive held a b ≡ clashByDrive (items (row 32 holds a)) (items (row 32 holds b))
-    → codeIn board begin finish exclusive held after a b ≡ pairCode (tasksIn board begin finish holds after) a b
-unfolding pairCode
-code-is board begin finish holds after exclusive held a b e = rw e
+        pub pair-0 : that ≡ false → 0 ≡ pairCode task a b
+        unfolding pairCode
+        pair-0 h = rw (rw p at apart, rw p at (sym q ∙ free), sym r ∙ kept, sym s ∙ h)
 
 -- two that do not overlap and keep their order
 pub idle-pair : (task : ℕ → Task) (a b : ℕ) → overlap (task a) (task b) ≡ false → breaksAfter task a b ≡ false → breaksAfter task b a ≡ false
     → pairCode task a b ≡ 0
-unfolding pairCode
-idle-pair task a b o this that = sym (pair-0 (not (eqb a b) && overlap (task a) (task b)) _ _ _ _ refl (rw met-is) refl (rw met-is) refl this refl that)
+idle-pair task a b o this that = sym (pair-0 task a b {met = not (eqb a b) && overlap (task a) (task b)} refl (rw met-is) refl (rw met-is) refl this refl that)
   where
+    none : (x : Bool) → (x && false) ≡ false
+    none true = refl
+    none false = refl
+
     met-is : (not (eqb a b) && overlap (task a) (task b)) ≡ false
-    met-is = rw o (and-false (not (eqb a b)))
+    met-is = rw o (none (not (eqb a b)))
 
 -- The search: one pair passed, one row passed, a hit, the end.
 module _ (tasks : ℕ) (task : ℕ → Task) (a : ℕ) where

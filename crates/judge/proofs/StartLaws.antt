@@ -11,7 +11,7 @@ use Rattle.plan.specs.Answer.{refuse}
 use Rattle.plan.specs.Pairs.{firstFault}
 use Rattle.plan.specs.Judged.{tasksAnswer}
 use Rattle.plan.specs.Value.{at}
-use Rattle.judge.specs.private.Arrays.{tasksIn}
+use Rattle.judge.specs.Tasks.{tasksIn}
 use Rattle.plan.specs.declared.Answer.{Answer}
 use Rattle.plan.proofs.Judged.{start-zero, start-late, tasks-late, tasks-pairs}
 use Rattle.judge.specs.private.Starts.{leastIn}

@@ -1,6 +1,6 @@
 -- A plan as a value: where its ranges are kept its drives are bits, and its tasks are judged without the ready ticks.
 use Prim.Native.Nat.{_<_}
-use mathlib.Core.Path.{_≡_, refl, sym, _∙_}
+use mathlib.Core.Path.{_≡_, refl, sym, ap, _∙_}
 use mathlib.Core.Bool.{Bool, true, false, not}
 use borrow.Author.Tests.{not-true, not-false}
 use Rattle.plan.specs.Answer.{refuse, isGranted}
@@ -9,10 +9,10 @@ use Rattle.plan.specs.Judged.{tasksAnswer}
 use Rattle.plan.specs.Value.{rangesOk, judgedAnswer, isAccepted, taskAt}
 use Rattle.plan.specs.declared.Answer.{Answer}
 use Rattle.plan.specs.declared.Plan.{Plan}
-use Rattle.plan.proofs.PlanTasks.{ranges-kept, task-kept}
-use Rattle.drives.proofs.DriveLaws.{task-in-range}
-use Rattle.drives.specs.private.Range.{RowsInRange}
-use Rattle.judge.specs.private.Arrays.{tasksIn}
+use Rattle.plan.proofs.PlanTasks.{ranges-kept}
+use Rattle.plan.proofs.Drives.{plan-in-range}
+use Rattle.plan.specs.private.Drives.{RowsInRange}
+use Rattle.judge.specs.Tasks.{tasksIn}
 
 -- the pairs are judged without the ready ticks
 abbrev pub judgedIn : Plan → Answer
@@ -34,19 +34,17 @@ module _ (plan : Plan) {kept : Bool} (k : kept ≡ rangesOk plan) where
 
     -- there is a task, and the drives of what is kept are in range
     pub kept-in-range : (0 < plan .tasks) × RowsInRange (plan .holds) (plan .tasks)
-    kept-in-range =
-        let r = ranges-kept plan ranges in (
-          r .tasks .0,
-          record {
-            few = r .tasks .1;
-            range = λ j l. task-in-range (plan .boards) (plan .tasks) (taskAt plan j) (task-kept plan j (r .kept j l) .task);
-          },
-        )
+    kept-in-range = (ranges-kept plan ranges .tasks .0, plan-in-range plan ranges)
 
     pub judged-tasks : {fault : Answer} → fault ≡ judgedIn plan → fault ≡ judgedAnswer plan
     unfolding judgedAnswer
     judged-tasks e = e ∙ judged-is plan ∙ rw ranges
 
-pub accepted-by : (plan : Plan) {said : Answer} → said ≡ judgedAnswer plan → isGranted said ≡ isAccepted plan
-unfolding isAccepted
-accepted-by plan e = rw e
+  -- and accepted where no number is said
+  pub not-kept : not kept ≡ true → false ≡ isAccepted plan
+  unfolding isAccepted
+  not-kept h = ap isGranted (judged-nine h)
+
+  pub accepted-by : not kept ≡ false → {said : Answer} → said ≡ judgedIn plan → isGranted said ≡ isAccepted plan
+  unfolding isAccepted
+  accepted-by passed e = ap isGranted (judged-tasks passed e)

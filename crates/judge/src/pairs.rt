@@ -1,15 +1,16 @@
 // Two tasks examined, and the search for the first faulty pair.
+use crate::drives::clash_by_drive;
 use crate::order::in_order;
-use drives::drive_sets;
-use drives::sets_clash;
 use plan::Answer;
 ghost use mathlib.Core.Path.{_≡_};
 ghost use mathlib.Core.Bool.{true, _&&_};
 ghost use Prim.Native.Nat.{_+_, _*_, _<_, _≤_};
-ghost use Rattle.plan.specs.Pairs.{isListed, firstFault};
+ghost use Rattle.plan.specs.Pairs.{clashByDrive, isListed, pairCode, firstFault};
 ghost use Rattle.plan.specs.Value.{row, items};
-ghost use Rattle.judge.specs.private.Arrays.{tasksIn, meetIn, drivesMeet, breaksIn, codeIn, PairInOrder, PassedOver};
-ghost use Rattle.drives.specs.private.Range.{RowsInRange};
+ghost use Rattle.plan.specs.private.Drives.{RowsInRange};
+ghost use Rattle.judge.specs.Tasks.{tasksIn};
+ghost use Rattle.judge.specs.private.Arrays.{meetIn, breaksIn, PairInOrder, PassedOver};
+ghost use Rattle.judge.specs.private.Drives.{PairInRange};
 
 // Does the task number stand in the list?
 fn is_listed(list: &[u8], number: u8) -> bool
@@ -47,18 +48,12 @@ fn meet<'a>(begin: &'a [u32; 64], finish: &'a [u32; 64], a: usize, b: usize) -> 
 }
 
 // The drives are compared only where the planned times overlap.
-fn meet_on_drive<'a>(
-    met: bool,
-    exclusive: &'a [u32; 64],
-    held: &'a [u32; 64],
-    a: usize,
-    b: usize,
-) -> bool
-    requires { ⌜ (a < 64) × (b < 64) ⌝ }
-    ensures { λ r. ⌜ r ≡ (met && drivesMeet (now (exclusive .entry)) (now (held .entry)) a b) ⌝ }
+fn meet_on_drive<'a>(met: bool, holds: &'a [u8; 2048], a: usize, b: usize) -> bool
+    requires { ⌜ PairInRange (now holds) a b ⌝ }
+    ensures { λ r. ⌜ r ≡ (met && clashByDrive (items (row 32 (now (holds .entry)) a)) (items (row 32 (now (holds .entry)) b))) ⌝ }
 {
     if met {
-        return sets_clash(exclusive[a], held[a], exclusive[b], held[b]);
+        return clash_by_drive(holds, a, b);
     }
     false
 }
@@ -85,21 +80,20 @@ fn pair_code<'a>(
     board: &'a [u8; 64],
     begin: &'a [u32; 64],
     finish: &'a [u32; 64],
-    exclusive: &'a [u32; 64],
-    held: &'a [u32; 64],
+    holds: &'a [u8; 2048],
     after: &'a [u8; 4096],
     ordered: bool,
     a: usize,
     b: usize,
 ) -> u32
-    requires { ⌜ (a < 64) × (b < 64) × PairInOrder (now begin) (now finish) (now after) ordered a b ⌝ }
-    ensures { λ r. ⌜ r ≡ codeIn (now (board .entry)) (now (begin .entry)) (now (finish .entry)) (now (exclusive .entry)) (now (held .entry)) (now (after .entry)) a b ⌝ }
+    requires { ⌜ PairInRange (now holds) a b × PairInOrder (now begin) (now finish) (now after) ordered a b ⌝ }
+    ensures { λ r. ⌜ r ≡ pairCode (tasksIn (now (board .entry)) (now (begin .entry)) (now (finish .entry)) (now (holds .entry)) (now (after .entry))) a b ⌝ }
 {
     let met = meet(begin, finish, a, b);
     if met & (board[a] == board[b]) {
         return 6;
     }
-    if meet_on_drive(met, exclusive, held, a, b) {
+    if meet_on_drive(met, holds, a, b) {
         return 7;
     }
     if ordered {
@@ -154,7 +148,6 @@ pub(crate) fn first_fault<'a>(
     ensures { λ r. ⌜ r ≡ firstFault tasks (tasksIn (now (board .entry)) (now (begin .entry)) (now (finish .entry)) (now (holds .entry)) (now (after .entry))) ⌝ }
 {
     let ordered = in_order(begin, finish, after, tasks);
-    let drives = drive_sets(holds);
     let mut a: usize = 0;
     'search: loop {
         if tasks <= a {
@@ -166,17 +159,7 @@ pub(crate) fn first_fault<'a>(
         }
         let mut b = a;
         while b < tasks {
-            let code = pair_code(
-                board,
-                begin,
-                finish,
-                &drives.exclusive,
-                &drives.held,
-                after,
-                ordered,
-                a,
-                b,
-            );
+            let code = pair_code(board, begin, finish, holds, after, ordered, a, b);
             if code != 0 {
                 let first = (a + 1) as u32;
                 let second = (b + 1) as u32;

@@ -1,8 +1,9 @@
 // Judging a plan that is handed in as a value, by its parts, so that a book need not be copied for it.
 ghost use mathlib.Core.Path.{_≡_};
 ghost use Rattle.plan.specs.Value.{planWith, judgedAnswer, isAccepted};
-use crate::tasks::judge_tasks;
+use crate::tasks::judge_kept;
 use plan::Answer;
+use plan::refuse;
 use ranges::keeps_ranges;
 
 // 9 where the ranges are broken, else what the tasks are judged.
@@ -30,16 +31,12 @@ pub fn judge_plan<'a>(
         holds,
         after,
     ) {
-        return Answer {
-            code: 9,
-            first: 0,
-            second: 0,
-        };
+        return refuse(9, 0, 0);
     }
-    judge_tasks(board, begin, finish, holds, after, tasks as usize)
+    judge_kept(board, begin, finish, holds, after, tasks as usize)
 }
 
-// Code 9's test of a plan.
+// Code 9's test of a plan. It asks both tests itself: by way of judge_plan it would take a frame more of the stack.
 pub fn is_accepted<'a>(
     edition: u8,
     boards: u8,
@@ -53,7 +50,7 @@ pub fn is_accepted<'a>(
 ) -> bool
     ensures { λ r. ⌜ r ≡ isAccepted (planWith edition boards tasks (now (board .entry)) (now (ready .entry)) (now (begin .entry)) (now (finish .entry)) (now (holds .entry)) (now (after .entry))) ⌝ }
 {
-    let said = judge_plan(
+    if !keeps_ranges(
         edition,
         boards,
         tasks,
@@ -63,6 +60,9 @@ pub fn is_accepted<'a>(
         finish,
         holds,
         after,
-    );
+    ) {
+        return false;
+    }
+    let said = judge_kept(board, begin, finish, holds, after, tasks as usize);
     said.code == 0
 }

@@ -12,7 +12,7 @@ use lib.Pow.{pow-pos, pow-mono, pow-lt, pow-add, shl-shr, shr-shr}
 use lib.Dec.{eqb, ltb}
 use borrow.Author.Tests.{eq-eqb, ne-eqb, eqb-true, lt-ltb, le-ltb}
 use Rattle.laws.specs.Bits.{has, setOf}
-use Rattle.laws.proofs.Cases.{by-eq, by-le, true-false}
+use Rattle.laws.proofs.Cases.{by-bool, by-eq, by-le, true-false}
 
 digit-or : (a b : ℕ) → a < 2 → b < 2 → eqb (bitOr a b) 1 ≡ (eqb a 1 || eqb b 1)
 digit-or zero zero p q = refl
@@ -144,17 +144,28 @@ set-is n set p small f =
     (λ l. has-past n set d small l ∙ sym (has-set n p d ∙ rw (le-ltb d n l)))
     (λ l. f d l ∙ sym (has-below n p d l)))
 
--- what two sets have in common
-pub set-both : (n : ℕ) (p q : ℕ → Bool) → bitAnd (setOf n p) (setOf n q) ≡ setOf n (λ d. p d && q d)
-set-both n p q =
-    same-bits (bitAnd (setOf n p) (setOf n q)) (setOf n (λ d. p d && q d))
-    (λ d. has-and (setOf n p) (setOf n q) d ∙ rw (has-set n p d, has-set n q d, has-set n (λ x. p x && q x) d) (join (ltb d n) (p d) (q d)))
+-- what a number and a set have in common
+pub set-within :
+    (n set : ℕ) (q f : ℕ → Bool) → ((d : ℕ) → d < n → f d ≡ true → has set d ≡ q d)
+    → bitAnd set (setOf n f) ≡ setOf n (λ d. q d && f d)
+set-within n set q f h =
+    same-bits (bitAnd set (setOf n f)) (setOf n (λ d. q d && f d))
+    (λ d. has-and set (setOf n f) d ∙ rw (has-set n f d, has-set n (λ x. q x && f x) d) (join d))
   where
-    join : (a b c : Bool) → ((a && b) && (a && c)) ≡ (a && (b && c))
-    join true b c = refl
-    join false b c = refl
+    join : (d : ℕ) → (has set d && (ltb d n && f d)) ≡ (ltb d n && (q d && f d))
+    join d =
+        by-le n d (λ l. rw (le-ltb d n l) (and-false (has set d)))
+        (λ l.
+        rw (lt-ltb d n l)
+        (by-bool (f d) (λ t. ap (λ (b : Bool). b && f d) (h d l t))
+        (λ t. rw t (and-false (has set d) ∙ sym (and-false (q d))))))
 
 pub set-same : (n : ℕ) (p q : ℕ → Bool) → ((d : ℕ) → d < n → p d ≡ q d) → setOf n p ≡ setOf n q
 unfolding setOf
 set-same zero p q f = refl
 set-same (suc n) p q f = rw (set-same n p q (λ d l. f d (omega arith)), f n (omega arith))
+
+pub set-none : (n : ℕ) (p : ℕ → Bool) → ((d : ℕ) → d < n → p d ≡ false) → setOf n p ≡ 0
+unfolding setOf
+set-none zero p f = refl
+set-none (suc n) p f = rw (set-none n p (λ d l. f d (omega arith)), f n (omega arith))

@@ -11,6 +11,7 @@ use borrow.Author.Tests.{eqb-true, ne-eqb, leb-true, ltb-true, not-true}
 use Rattle.laws.specs.Lists.{allOf, rising}
 use Rattle.laws.specs.Split.{indexOf, before}
 use Rattle.laws.proofs.Cases.{and-l, and-r, and-of}
+use Rattle.laws.proofs.Lists.{all-same}
 use Rattle.laws.proofs.Split.{free, index-seam}
 
 -- nothing is kept: zeros only
@@ -32,22 +33,7 @@ pub length-zeros : (n : ℕ) → length (replicate {A = ℕ} n 0) ≡ n
 length-zeros n = length-replicate {A = ℕ} n 0
 
 pub blank-zeros : (n : ℕ) → blank (replicate n 0) ≡ true
-unfolding allOf
-blank-zeros zero = refl
-blank-zeros (suc n) = blank-zeros n
-
-pub blank-drop : (n : ℕ) (l : List ℕ) → blank l ≡ true → blank (drop n l) ≡ true
-unfolding allOf
-blank-drop zero l h = h
-blank-drop (suc n) [] h = refl
-blank-drop (suc n) (x ∷ l) h = blank-drop n l (and-r (eqb 0 x) (blank l) h)
-
-pub blank-take : (n : ℕ) (l : List ℕ) → blank l ≡ true → blank (take n l) ≡ true
-unfolding allOf
-blank-take zero l h = refl
-blank-take (suc n) [] h = refl
-blank-take (suc n) (x ∷ l) h =
-    and-of (and-l (eqb 0 x) (blank l) h) (blank-take n l (and-r (eqb 0 x) (blank l) h))
+blank-zeros n = all-same (eqb 0) n 0 refl
 
 -- the items of a list are what stands before its zeros
 index-free : (c : ℕ) (f : List ℕ) → free c f ≡ true → indexOf c f ≡ length f

@@ -3,7 +3,7 @@ use mathlib.Core.Path.{_≡_, refl}
 use mathlib.Core.Bool.{Bool, true, false}
 use Prim.Native.Nat.{ℕ, zero, suc, _≤_, _<_}
 use native.Mathlib.Omega.{arith}
-use Rattle.laws.specs.Picked.{count}
+use Rattle.laws.specs.private.Count.{count}
 use Rattle.laws.proofs.Cases.{by-bool, by-eq}
 
 pub count-le :

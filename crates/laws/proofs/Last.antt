@@ -6,7 +6,7 @@ use mathlib.Core.Bool.{Bool, true, false, cond}
 use mathlib.Core.Path.{_≡_, refl}
 use mathlib.Core.Logic.{_≢_}
 use borrow.Author.Tests.{eq-eqb, ne-eqb, lt-ltb, le-ltb}
-use Rattle.laws.specs.Picked.{lastOf, laterOf}
+use Rattle.laws.specs.private.Last.{lastOf, laterOf}
 use Rattle.laws.proofs.Cases.{by-bool, by-eq, by-le, true-false}
 
 module _ (f : ℕ → ℕ) (l n : ℕ) where
@@ -76,7 +76,3 @@ last-small n w f = go (lastOf n w f) (last-is n w f)
     go : (l : ℕ) → Last n w f l → l ≤ n
     go l (Last.nobody z none) = omega arith
     go l (Last.this z s v top) = omega arith
-
-pub last-below : {n : ℕ} {w : ℕ → Bool} {f : ℕ → ℕ} {l : ℕ} → Last n w f l → l ≢ 0 → l - 1 < n
-last-below (Last.nobody z none) h = absurd (h z)
-last-below (Last.this z s v top) h = s

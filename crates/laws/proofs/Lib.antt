@@ -18,3 +18,4 @@ pub mod Sets
 pub mod Width
 pub mod Bits
 pub mod Gather
+pub mod Noted

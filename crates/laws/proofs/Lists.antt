@@ -1,14 +1,15 @@
 -- Tests over the items of a list, each turn by turn at a place i of the list.
-use Prim.Native.Nat.{ℕ, zero, suc, _+_, _<_, _≤_}
+use Prim.Native.Nat.{ℕ, zero, suc, _+_, _*_, _<_, _≤_}
 use mathlib.Core.List.{List, [], _∷_, _++_}
 use mathlib.Core.Bool.{Bool, true, false, _&&_, _||_}
 use mathlib.Core.Path.{_≡_, refl, sym, ap, _∙_}
-use lib.ListN.{length, getD, drop, drop-of-length-le}
-use lib.Seq.{drop-cons}
+use lib.ListN.{length, getD, set, take, drop, replicate, drop-of-length-le}
+use lib.Seq.{sets, drop-cons}
 use lib.Dec.{eqb}
 use borrow.Author.Tests.{eqb-true, eq-eqb}
 use native.Mathlib.Omega.{arith}
 use native.Mathlib.Numerals.{add-one}
+use Rattle.laws.specs.Each.{rows}
 use Rattle.laws.specs.Lists.{allOf, anyOf, firstNot, same}
 use Rattle.laws.proofs.Cases.{and-l, and-r, and-of, or-false, true-false}
 
@@ -75,6 +76,44 @@ module _ {A : Type 0} (p : A → Bool) where
   unfolding allOf
   all-of [] d f = refl
   all-of (x ∷ l) d f = and-of (f 0 (omega arith)) (all-of l d (λ i h. f (suc i) (omega arith)))
+
+  pub all-drop : (n : ℕ) (l : List A) → allOf p l ≡ true → allOf p (drop n l) ≡ true
+  unfolding allOf
+  all-drop zero l h = h
+  all-drop (suc n) [] h = refl
+  all-drop (suc n) (x ∷ l) h = all-drop n l (and-r (p x) (allOf p l) h)
+
+  pub all-take : (n : ℕ) (l : List A) → allOf p l ≡ true → allOf p (take n l) ≡ true
+  unfolding allOf
+  all-take zero l h = refl
+  all-take (suc n) [] h = refl
+  all-take (suc n) (x ∷ l) h = and-of (and-l (p x) (allOf p l) h) (all-take n l (and-r (p x) (allOf p l) h))
+
+  -- stores of what p holds of
+  all-set : (l : List A) (i : ℕ) (a : A) → allOf p l ≡ true → p a ≡ true → allOf p (set l i a) ≡ true
+  unfolding allOf
+  all-set [] i a h k = refl
+  all-set (x ∷ l) zero a h k = and-of k (and-r (p x) (allOf p l) h)
+  all-set (x ∷ l) (suc i) a h k = and-of (and-l (p x) (allOf p l) h) (all-set l i a (and-r (p x) (allOf p l) h) k)
+
+  all-sets : (l : List A) (i : ℕ) (vs : List A) → allOf p l ≡ true → allOf p vs ≡ true → allOf p (sets l i vs) ≡ true
+  unfolding allOf
+  all-sets l i [] h k = h
+  all-sets l i (a ∷ vs) h k =
+      all-sets (set l i a) (suc i) vs (all-set l i a h (and-l (p a) (allOf p vs) k)) (and-r (p a) (allOf p vs) k)
+
+  pub all-rows :
+      (width n : ℕ) (f : ℕ → List A) (l : List A) → ((k : ℕ) → k < n → allOf p (f k) ≡ true) → allOf p l ≡ true
+      → allOf p (rows width n f l) ≡ true
+  unfolding rows
+  all-rows width zero f l h z = z
+  all-rows width (suc n) f l h z =
+      all-sets (rows width n f l) (width * n) (f n) (all-rows width n f l (λ k b. h k (omega arith)) z) (h n (omega arith))
+
+  pub all-same : (n : ℕ) (a : A) → p a ≡ true → allOf p (replicate n a) ≡ true
+  unfolding allOf
+  all-same zero a h = refl
+  all-same (suc n) a h = and-of h (all-same n a h)
 
   pub all-append : (k l : List A) → allOf p (k ++ l) ≡ (allOf p k && allOf p l)
   unfolding allOf

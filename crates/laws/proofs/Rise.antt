@@ -6,7 +6,8 @@ use mathlib.Core.List.{List, [], _∷_}
 use native.Mathlib.Omega.{arith}
 use lib.Dec.{leb, ltb}
 use borrow.Author.Tests.{ltb-true, lt-ltb, le-leb, leb-true}
-use Rattle.laws.specs.Lists.{risesFrom, allOf, rising}
+use Rattle.laws.specs.Lists.{allOf, rising}
+use Rattle.laws.specs.private.Rise.{risesFrom}
 use Rattle.laws.proofs.Cases.{and-l, and-r, and-of, same-test}
 
 module _ (key : ℕ → ℕ) (high : ℕ) where

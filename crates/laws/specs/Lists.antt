@@ -2,7 +2,7 @@
 use Prim.Native.Nat.{ℕ, suc}
 use mathlib.Core.List.{List, [], _∷_}
 use mathlib.Core.Bool.{Bool, true, false, cond, _&&_, _||_}
-use lib.Dec.{eqb, leb, ltb}
+use lib.Dec.{eqb, ltb}
 
 module _ {A : Type 0} (p : A → Bool) where
   -- p holds of every item
@@ -25,11 +25,6 @@ unfoldable pub rising : (ℕ → ℕ) → List ℕ → Bool
 rising key [] = true
 rising key (x ∷ []) = true
 rising key (x ∷ y ∷ l) = ltb (key x) (key y) && rising key (y ∷ l)
-
--- each key is above the one before, the first above last, and none above high
-unfoldable pub risesFrom : (ℕ → ℕ) → ℕ → ℕ → List ℕ → Bool
-risesFrom key high last [] = true
-risesFrom key high last (x ∷ l) = (ltb last (key x) && leb (key x) high) && risesFrom key high (key x) l
 
 -- two texts have the same bytes
 unfoldable pub same : List ℕ → List ℕ → Bool

@@ -8,7 +8,7 @@ use lib.Dec.{eqb}
 use borrow.Author.Tests.{ne-eqb}
 use Rattle.laws.proofs.Cases.{by-bool, by-eq}
 use Rattle.theory.specs.Report.{next, dropIt}
-use Rattle.theory.specs.Events.{Accepts, AcceptsDrop, Event}
+use Rattle.theory.specs.words.Events.{Accepts, AcceptsDrop, Event}
 use Rattle.theory.proofs.Facts.{Sound}
 use Rattle.theory.proofs.Reflect.{after-taken}
 use Rattle.plan.specs.Answer.{refuse, granted}
@@ -19,11 +19,10 @@ use Rattle.book.specs.Sound.{isSound}
 use Rattle.book.specs.Open.{openedOn, openingOf}
 use Rattle.book.specs.Report.{codeOf, reportAnswer, reportedOf}
 use Rattle.book.specs.Drop.{dropCodeOf, dropAnswer, droppedOf}
-use Rattle.book.specs.Event.{bookTold}
+use Rattle.book.specs.words.Event.{bookTold}
 use Rattle.book.specs.declared.Book.{Book}
-use Rattle.book.specs.declared.Reported.{Reported}
+use Rattle.book.specs.declared.Handed.{Handed}
 use Rattle.book.specs.declared.Rule.{Rule}
-use Rattle.book.specs.declared.Dropped.{Dropped}
 use Rattle.book.proofs.Sizes.{Sized, plan-opened}
 use Rattle.book.proofs.Soundness.{is-sound-facts}
 use Rattle.book.proofs.ReportLaws.{code-zero, drop-zero, sound-plan}
@@ -106,13 +105,13 @@ module _ (book : Book) (task : ℕ) (z : droppedOf book task .answer .code ≡ 0
 -- ---- who is answered by 0 hands on a sound book
 
 module _ (book : Book) (task : ℕ) where
-  pub report-stays : (tick : ℕ) {r : Reported} → r ≡ reportedOf book task tick → r .answer .code ≡ 0 → isSound (r .book) ≡ true
+  pub report-stays : (tick : ℕ) {r : Handed} → r ≡ reportedOf book task tick → r .answer .code ≡ 0 → isSound (r .book) ≡ true
   report-stays tick e z =
-      rw e (event-sound book (report-zero book task tick (ap (λ (x : Reported). x .answer .code) (sym e) ∙ z) .0) (Event.ends task tick))
+      rw e (event-sound book (report-zero book task tick (ap (λ (x : Handed). x .answer .code) (sym e) ∙ z) .0) (Event.ends task tick))
 
-  pub drop-stays : {r : Dropped} → r ≡ droppedOf book task → r .answer .code ≡ 0 → isSound (r .book) ≡ true
+  pub drop-stays : {r : Handed} → r ≡ droppedOf book task → r .answer .code ≡ 0 → isSound (r .book) ≡ true
   drop-stays e z =
-      rw e (event-sound book (dropped-zero book task (ap (λ (x : Dropped). x .answer .code) (sym e) ∙ z) .0) (Event.drops task))
+      rw e (event-sound book (dropped-zero book task (ap (λ (x : Handed). x .answer .code) (sym e) ∙ z) .0) (Event.drops task))
 
 -- ---- the arrays keep their lengths
 

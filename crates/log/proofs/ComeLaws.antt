@@ -8,7 +8,7 @@ use native.Mathlib.Omega.{arith}
 use lib.Dec.{eqb}
 use borrow.Author.Tests.{ne-eqb}
 use Rattle.laws.proofs.Cases.{by-eq}
-use Rattle.laws.specs.Picked.{count}
+use Rattle.laws.specs.private.Count.{count}
 use Rattle.plan.specs.Value.{at}
 use Rattle.log.specs.private.Writes.{starting}
 use Rattle.log.specs.private.Room.{linesLeft, toCome}

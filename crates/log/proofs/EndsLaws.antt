@@ -7,7 +7,6 @@ use native.Mathlib.Omega.{arith}
 use lib.ListN.{length}
 use borrow.Author.Tests.{eq-eqb, ne-eqb}
 use Rattle.laws.proofs.Cases.{by-eq}
-use Rattle.laws.specs.Picked.{count}
 use Rattle.laws.specs.Split.{after}
 use Rattle.text.specs.Line.{LF}
 use Rattle.book.specs.declared.Book.{Book}
@@ -17,12 +16,12 @@ use Rattle.entries.specs.declared.Entry.{Entry}
 use Rattle.entries.proofs.TextLaws.{line-used}
 use Rattle.log.specs.Log.{toldOf, toldLog, endsLog, restLog}
 use Rattle.log.specs.declared.Shown.{Shown}
-use Rattle.lines.specs.private.Wrote.{Wrote}
-use Rattle.log.specs.private.Writes.{starting, Short, toldIn, toldMost}
+use Rattle.log_lines.specs.private.Wrote.{Wrote}
+use Rattle.log.specs.private.Writes.{Short, toldIn, toldMost}
 use Rattle.log.specs.private.Room.{roomFor, endsMost}
 use Rattle.log.proofs.ShortLaws.{next-short}
 use Rattle.log.proofs.ReportLaws.{Told, told-sized, told-wrote}
-use Rattle.lines.proofs.WriteLaws.{Left, left-turn, left-last, nothing, wrote-length}
+use Rattle.log_lines.proofs.WriteLaws.{Left, left-turn, left-last, nothing, wrote-length}
 
 -- ---- the fuel is enough
 
@@ -144,10 +143,7 @@ module _ {out : List ℕ} {from : ℕ} {opened : Book} {first : ℕ} {ends : Lis
 
         module _
             (some : 0 < length rest) {r : Shown} (q : r ≡ toldOf line book entry) {m′ : List ℕ} {place′ : ℕ}
-            (v : Wrote m place
-            (toldIn entry (r .answer) (book .mark) (r .book .mark) (r .book .dropped) (r .book .board) (r .book .begin) (r .book .start)
-            (r .book .finish) (r .book .end) (r .book .tasks) (r .book .clock) (r .early))
-            (toldMost entry (r .answer) (count (r .book .tasks) (starting (book .mark) (r .book .mark)))) m′ place′)
+            (v : Wrote m place (toldIn entry (book .mark) r) (toldMost entry (book .mark) r) m′ place′)
             {code : ℕ} (k : code ≡ entryCode entry)
           where
             first-told : Told m place book (firstLog book line rest) (firstBook book line rest) m′ place′

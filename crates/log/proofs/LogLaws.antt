@@ -1,6 +1,6 @@
 -- The whole log, by the tests that lead to it.
 use Prim.Native.Nat.{ℕ, _≤_, _<_}
-use mathlib.Core.Path.{_≡_, sym, ap, _∙_}
+use mathlib.Core.Path.{_≡_, refl, sym, ap, _∙_}
 use mathlib.Core.Logic.{_≢_}
 use mathlib.Core.Bool.{true, false}
 use mathlib.Core.List.{List, _++_}
@@ -21,23 +21,23 @@ use Rattle.book.specs.Sound.{isSound}
 use Rattle.book.proofs.Soundness.{opened-is-sound}
 use Rattle.book.specs.Open.{openedOn, openingOf}
 use Rattle.book.specs.declared.Book.{Book}
-use Rattle.book.specs.declared.Opening.{Opening}
+use Rattle.book.specs.declared.Handed.{Handed}
 use Rattle.book.specs.declared.Rule.{Rule}
+use Rattle.book.specs.declared.Rule.the-variants.{Clash}
 use Rattle.view.proofs.Accepted.{plan-facts}
 use Rattle.book.proofs.Sizes.{SizedPlan, sized-opened}
 use Rattle.entries.specs.Rules.{choiceOf}
 use Rattle.entries.specs.declared.Choice.{Choice}
 use Rattle.entries.specs.declared.Choice.the-variants.{Unsaid, Chosen, Malformed}
 use Rattle.log.specs.Log.{shownAfter, openLog, restLog, chosenLog, logOf, logMost, logIn}
-use Rattle.log.specs.declared.Shown.{Shown}
-use Rattle.lines.specs.Lines.{Lined, refusedLine}
-use Rattle.lines.specs.private.Wrote.{Wrote}
-use Rattle.log.specs.private.Writes.{ruleOf}
+use Rattle.log_lines.specs.Lines.{Lined, refusedLine}
+use Rattle.log_lines.specs.private.Wrote.{Wrote}
+use Rattle.log.specs.private.Writes.{openedIn, ruleOf}
 use Rattle.log.specs.private.Room.{EndsFit, endsMost}
-use Rattle.lines.proofs.WriteLaws.{also, wrote-length, wrote-line}
+use Rattle.log_lines.proofs.WriteLaws.{also, wrote-length, wrote-line}
 use Rattle.log.proofs.ComeLaws.{come-most}
 use Rattle.log.proofs.BookLaws.{opened-tasks, opening-answer, opening-book}
-use Rattle.log.proofs.OpenLaws.{openedText, opened-same, rest-less}
+use Rattle.log.proofs.OpenLaws.{opened-same, rest-less}
 
 -- the contract of run_log
 abbrev pub Ran : List ℕ → List ℕ → List ℕ → List ℕ → ℕ → Type 0
@@ -48,125 +48,146 @@ module _ (plan ends out : List ℕ) where
   pub ran-short : length out < 212992 → Ran plan ends out out 0
   ran-short h = let t = lt-leb 212992 (length out) h in (rw t, rw t, omega arith)
 
-  module _ (long : 212992 ≤ length out) where
-    ran-whole : {text : List ℕ} {a : ℕ} {m : List ℕ} {p : ℕ} → text ≡ logOf plan ends → a ≤ 212992 → Wrote out 0 text a m p → Ran plan ends out m p
+  module _ (long : 212992 ≤ length out) {m : List ℕ} {p : ℕ} where
+    ran-whole : {text : List ℕ} {a : ℕ} → text ≡ logOf plan ends → a ≤ 212992 → Wrote out 0 text a m p → Ran plan ends out m p
     ran-whole {text} e h w =
         let t = le-leb 212992 (length out) long in
         let n : length text ≡ length (logOf plan ends) = ap length e in
         (rw t (omega (arith, w .place)), rw (t, ← e) (w .bytes), omega (arith, w .place, w .small))
 
-    module _ {r : Reading} (e : r ≡ readingOf plan) where
-      pub ran-refused : {m : List ℕ} {p : ℕ} → r .answer .code ≢ 0 → Lined out 0 (refusedLine (r .answer)) 41 m p → Ran plan ends out m p
-      unfolding logOf
-      ran-refused h w =
-          let h′ : readingOf plan .answer .code ≢ 0 = rw e at h in
-          ran-whole (rw e (rw (ne-eqb (readingOf plan .answer .code) 0 h′))) (omega arith) (wrote-line (omega arith) w)
+    pub ran-refused :
+        {r : Reading} → r ≡ readingOf plan → r .answer .code ≢ 0 → Lined out 0 (refusedLine (r .answer)) 41 m p → Ran plan ends out m p
+    unfolding logOf
+    ran-refused e h w =
+        let h′ : readingOf plan .answer .code ≢ 0 = rw e at h in
+        ran-whole (rw e (rw (ne-eqb (readingOf plan .answer .code) 0 h′))) (omega arith) (wrote-line (omega arith) w)
 
-      module _ (z : r .answer .code ≡ 0) where
-        its-zero : readingOf plan .answer .code ≡ 0
-        its-zero = rw e at z
+-- ---- the plan is accepted
 
-        pub ran-long :
-            {m : List ℕ} {p : ℕ} → 32768 < length ends → Lined out 0 (refusedLine (refuse 1 0 0)) 41 m p → Ran plan ends out m p
-        unfolding logOf
-        ran-long h w =
-            ran-whole
-            (rw (eq-eqb (readingOf plan .answer .code) 0 its-zero, lt-ltb 32768 (length ends) h))
-            (omega arith)
-            (wrote-line (omega arith) w)
+-- what is known then
+pub record Accepted (plan out : List ℕ) (reading : Reading) : Type 0 where
+  pub long : 212992 ≤ length out
+  pub reads : reading ≡ readingOf plan
+  pub zero : reading .answer .code ≡ 0
 
-        its-accepted : isAccepted (readingOf plan .plan) ≡ true
-        its-accepted = read-accepted false plan (ap (λ (a : Answer). a .code) (sym (read-answer false plan)) ∙ its-zero)
+module _ {plan out : List ℕ} {reading : Reading} (k : Accepted plan out reading) where
+  its-zero : readingOf plan .answer .code ≡ 0
+  its-zero = rw (k .reads) at (k .zero)
 
-        its-sized : SizedPlan (readingOf plan .plan)
-        its-sized = read-sized false plan (ap (λ (a : Answer). a .code) (sym (read-answer false plan)) ∙ its-zero)
+  pub ran-long :
+      (ends : List ℕ) {m : List ℕ} {p : ℕ} → 32768 < length ends → Lined out 0 (refusedLine (refuse 1 0 0)) 41 m p → Ran plan ends out m p
+  unfolding logOf
+  ran-long ends h w =
+      ran-whole plan ends out (k .long)
+      (rw (eq-eqb (readingOf plan .answer .code) 0 its-zero, lt-ltb 32768 (length ends) h))
+      (omega arith)
+      (wrote-line (omega (arith, k .long)) w)
 
-        pub opening-sound : (rule : Rule) {o : Opening} → o ≡ openingOf (r .plan) rule → o .answer .code ≡ 0 → isSound (o .book) ≡ true
-        opening-sound rule q y =
-            rw (q, e, opening-book (readingOf plan .plan) rule its-accepted) (opened-is-sound (readingOf plan .plan) rule its-accepted)
+  its-accepted : isAccepted (readingOf plan .plan) ≡ true
+  its-accepted = read-accepted false plan (ap (λ (a : Answer). a .code) (sym (read-answer false plan)) ∙ its-zero)
 
-        module _
-            (short : length ends ≤ 32768) {choice : Choice} (k : choice ≡ choiceOf ends) {rule : Rule} (y : rule ≡ ruleOf choice) {o : Opening}
-            (q : o ≡ openingOf (r .plan) rule) {h : Shown} (t : h ≡ shownAfter (o .answer) (o .book))
-          where
-            abbrev its-plan : Plan
-            its-plan = readingOf plan .plan
+  its-sized : SizedPlan (readingOf plan .plan)
+  its-sized = read-sized false plan (ap (λ (a : Answer). a .code) (sym (read-answer false plan)) ∙ its-zero)
 
-            its-opened : o .book ≡ openedOn its-plan rule
-            its-opened =
-                ap (λ (x : Opening). x .book) q
-                ∙ ap (λ (x : Reading). openingOf (x .plan) rule .book) e
-                ∙ opening-book its-plan rule its-accepted
+  pub opening-sound : (rule : Rule) {o : Handed} → o ≡ openingOf (reading .plan) rule → o .answer .code ≡ 0 → isSound (o .book) ≡ true
+  opening-sound rule q y =
+      rw (q, k .reads, opening-book (readingOf plan .plan) rule its-accepted) (opened-is-sound (readingOf plan .plan) rule its-accepted)
 
-            its-answer : o .answer ≡ granted
-            its-answer =
-                ap (λ (x : Opening). x .answer) q
-                ∙ ap (λ (x : Reading). openingOf (x .plan) rule .answer) e
-                ∙ opening-answer its-plan rule its-accepted
+-- ---- its book is opened
 
-            its-book : h .book ≡ openedOn its-plan rule
-            its-book = ap (λ (x : Shown). x .book) t ∙ its-opened
+-- what is known then: it is opened by the rule that the first line chooses
+pub record Opened (plan ends out : List ℕ) (choice : Choice) (handed : Handed) (early : ℕ) : Type 0 where
+  pub reading : Reading
+  pub rule : Rule
+  pub accepted : Accepted plan out reading
+  pub short : length ends ≤ 32768
+  pub chosen : choice ≡ choiceOf ends
+  pub ruled : rule ≡ ruleOf choice
+  pub opens : handed ≡ openingOf (reading .plan) rule
+  pub shows : early ≡ shownAfter (handed .answer) (handed .book) .early
 
-            its-text : openedText h ≡ openLog its-plan rule
-            its-text =
-                ap openedText t
-                ∙ ap (λ (b : Book). openedText (shownAfter (o .answer) b)) its-opened
-                ∙ ap (λ (a : Answer). openedText (shownAfter a (openedOn its-plan rule))) its-answer
-                ∙ opened-same its-plan rule
+module _ {plan ends out : List ℕ} {choice : Choice} {handed : Handed} {early : ℕ} (o : Opened plan ends out choice handed early) where
+  abbrev its-plan : Plan
+  its-plan = readingOf plan .plan
 
-            pub opened-few : h .book .tasks ≤ 64
-            opened-few =
-                let n = ap (λ (b : Book). b .tasks) its-book ∙ opened-tasks its-plan rule in
-                omega (arith, n, plan-facts its-plan its-accepted .tasks-to)
+  its-book : handed .book ≡ openedOn its-plan (o .rule)
+  its-book =
+      ap (λ (x : Handed). x .book) (o .opens)
+      ∙ ap (λ (x : Reading). openingOf (x .plan) (o .rule) .book) (o .accepted .reads)
+      ∙ opening-book its-plan (o .rule) (its-accepted (o .accepted))
 
-            log-is : {this : Choice} → choice ≡ this → chosenLog this its-plan ends ≡ logOf plan ends
-            unfolding logOf
-            log-is c =
-                rw (eq-eqb (readingOf plan .answer .code) 0 its-zero, le-ltb 32768 (length ends) short)
-                (ap (λ (x : Choice). chosenLog x its-plan ends) (sym c ∙ k))
+  its-answer : handed .answer ≡ granted
+  its-answer =
+      ap (λ (x : Handed). x .answer) (o .opens)
+      ∙ ap (λ (x : Reading). openingOf (x .plan) (o .rule) .answer) (o .accepted .reads)
+      ∙ opening-answer its-plan (o .rule) (its-accepted (o .accepted))
 
-            ends-most : (rest : List ℕ) → length rest ≤ length ends → endsMost (h .book) rest ≤ 209560
-            ends-most rest l = omega (arith, opened-few, come-most (h .book .mark) (h .book .dropped) (h .book .tasks))
+  its-text : openedIn (handed .book) early ≡ openLog its-plan (o .rule)
+  its-text =
+      ap (λ (e : ℕ). openedIn (handed .book) e) (o .shows)
+      ∙ ap (λ (b : Book). openedIn b (shownAfter (handed .answer) b .early)) its-book
+      ∙ ap (λ (a : Answer). openedIn (openedOn its-plan (o .rule)) (shownAfter a (openedOn its-plan (o .rule)) .early)) its-answer
+      ∙ opened-same its-plan (o .rule)
 
-            module _ {m : List ℕ} {p : ℕ} (v : Wrote out 0 (openedText h) 3432 m p) where
-              -- the room for the rest of ends.txt from line 1 or 2 on
-              pub ends-fit : {line : ℕ} {rest : List ℕ} → line ≤ 2 → length rest ≤ length ends → EndsFit m p (h .book) line rest
-              ends-fit i l = record {
-                begun = i;
-                short = omega arith;
-                sized = rw its-book (sized-opened its-plan rule its-sized);
-                room =
-                    omega
-                    (arith, opened-few, come-most (h .book .mark) (h .book .dropped) (h .book .tasks), v .place, v .small, wrote-length v);
-              }
+  pub opened-few : handed .book .tasks ≤ 64
+  opened-few =
+      let n = ap (λ (b : Book). b .tasks) its-book ∙ opened-tasks its-plan (o .rule) in
+      omega (arith, n, plan-facts its-plan (its-accepted (o .accepted)) .tasks-to)
 
-              module _ {m′ : List ℕ} {p′ : ℕ} where
-                ran-tail :
-                    {tail : List ℕ} {a : ℕ} → a ≤ 209560 → openLog its-plan rule ++ tail ≡ logOf plan ends → Wrote m p tail a m′ p′ → Ran plan ends out m′ p′
-                ran-tail {tail} l f w = ran-whole (ap (λ (x : List ℕ). x ++ tail) its-text ∙ f) (omega arith) (also v w)
+  its-rule : {this : Choice} → choice ≡ this → o .rule ≡ ruleOf this
+  its-rule c = o .ruled ∙ ap ruleOf c
 
-                pub ran-unsaid : choice ≡ Unsaid → Wrote m p (restLog (h .book) 1 ends) (endsMost (h .book) ends) m′ p′ → Ran plan ends out m′ p′
-                unfolding chosenLog
-                ran-unsaid c =
-                    ran-tail (ends-most ends (omega arith))
-                    (ap (λ (b : Book). openLog its-plan rule ++ restLog b 1 ends) its-book
-                    ∙ ap (λ (x : Rule). openLog its-plan x ++ restLog (openedOn its-plan x) 1 ends) (y ∙ ap ruleOf c)
-                    ∙ log-is c)
+  log-is : {this : Choice} → choice ≡ this → chosenLog this its-plan ends ≡ logOf plan ends
+  unfolding logOf
+  log-is c =
+      rw (eq-eqb (readingOf plan .answer .code) 0 (its-zero (o .accepted)), le-ltb 32768 (length ends) (o .short))
+      (ap (λ (x : Choice). chosenLog x its-plan ends) (sym c ∙ o .chosen))
 
-                pub ran-chosen :
-                    choice ≡ Chosen → {rest : List ℕ} → rest ≡ after LF ends → Wrote m p (restLog (h .book) 2 rest) (endsMost (h .book) rest) m′ p′
-                    → Ran plan ends out m′ p′
-                unfolding chosenLog
-                ran-chosen c {rest} u =
-                    ran-tail (ends-most rest (rest-less ends u))
-                    (ap (λ (s : List ℕ). openLog its-plan rule ++ restLog (h .book) 2 s) u
-                    ∙ ap (λ (b : Book). openLog its-plan rule ++ restLog b 2 (after LF ends)) its-book
-                    ∙ ap (λ (x : Rule). openLog its-plan x ++ restLog (openedOn its-plan x) 2 (after LF ends)) (y ∙ ap ruleOf c)
-                    ∙ log-is c)
+  ends-most : (rest : List ℕ) → length rest ≤ length ends → endsMost (handed .book) rest ≤ 206128
+  ends-most rest l = omega (arith, o .short, opened-few, come-most (handed .book .mark) (handed .book .dropped) (handed .book .tasks))
 
-                pub ran-malformed : {column : ℕ} → choice ≡ Malformed column → Lined m p (refusedLine (refuse 3 1 column)) 41 m′ p′ → Ran plan ends out m′ p′
-                unfolding chosenLog
-                ran-malformed {column} c w =
-                    ran-tail (omega arith)
-                    (ap (λ (x : Rule). openLog its-plan x ++ refusedLine (refuse 3 1 column)) (y ∙ ap ruleOf c) ∙ log-is c)
-                    (wrote-line (omega (arith, v .place, v .small, wrote-length v)) w)
+  module _ {m : List ℕ} {p : ℕ} (v : Wrote out 0 (openedIn (handed .book) early) 3432 m p) where
+    -- the room for the rest of ends.txt from line 1 or 2 on
+    pub ends-fit : {line : ℕ} {rest : List ℕ} → line ≤ 2 → length rest ≤ length ends → EndsFit m p (handed .book) line rest
+    ends-fit {rest = rest} i l = record {
+      begun = i;
+      short = omega (arith, o .short);
+      sized = rw its-book (sized-opened its-plan (o .rule) (its-sized (o .accepted)));
+      room = omega (arith, o .accepted .long, ends-most rest l, v .place, v .small, wrote-length v);
+    }
+
+    module _ {m′ : List ℕ} {p′ : ℕ} where
+      ran-tail :
+          {tail : List ℕ} {a : ℕ} → a ≤ 206128 → openLog its-plan (o .rule) ++ tail ≡ logOf plan ends → Wrote m p tail a m′ p′
+          → Ran plan ends out m′ p′
+      ran-tail {tail} l f w = ran-whole plan ends out (o .accepted .long) (ap (λ (x : List ℕ). x ++ tail) its-text ∙ f) (omega arith) (also v w)
+
+      -- the rest from line n on, by the rule that was chosen
+      ran-rest :
+          (n : ℕ) (rest : List ℕ) {this : Choice} → choice ≡ this → length rest ≤ length ends
+          → openLog its-plan (ruleOf this) ++ restLog (openedOn its-plan (ruleOf this)) n rest ≡ chosenLog this its-plan ends
+          → Wrote m p (restLog (handed .book) n rest) (endsMost (handed .book) rest) m′ p′ → Ran plan ends out m′ p′
+      ran-rest n rest c l f =
+          ran-tail (ends-most rest l)
+          (ap (λ (b : Book). openLog its-plan (o .rule) ++ restLog b n rest) its-book
+          ∙ ap (λ (x : Rule). openLog its-plan x ++ restLog (openedOn its-plan x) n rest) (its-rule c)
+          ∙ f
+          ∙ log-is c)
+
+      pub ran-unsaid :
+          choice ≡ Unsaid → Wrote m p (restLog (handed .book) 1 ends) (endsMost (handed .book) ends) m′ p′ → Ran plan ends out m′ p′
+      unfolding chosenLog
+      ran-unsaid c = ran-rest 1 ends c (omega arith) refl
+
+      pub ran-chosen :
+          choice ≡ Chosen → {rest : List ℕ} → rest ≡ after LF ends
+          → Wrote m p (restLog (handed .book) 2 rest) (endsMost (handed .book) rest) m′ p′ → Ran plan ends out m′ p′
+      unfolding chosenLog
+      ran-chosen c {rest} u = ran-rest 2 rest c (rest-less ends u) (ap (λ (s : List ℕ). openLog its-plan Clash ++ restLog (openedOn its-plan Clash) 2 s) u)
+
+      pub ran-malformed : {column : ℕ} → choice ≡ Malformed column → Lined m p (refusedLine (refuse 3 1 column)) 41 m′ p′ → Ran plan ends out m′ p′
+      unfolding chosenLog
+      ran-malformed {column} c w =
+          ran-tail (omega arith)
+          (ap (λ (x : Rule). openLog its-plan x ++ refusedLine (refuse 3 1 column)) (its-rule c) ∙ log-is c)
+          (wrote-line (omega (arith, o .accepted .long, v .place, v .small, wrote-length v)) w)

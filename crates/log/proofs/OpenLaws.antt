@@ -17,33 +17,25 @@ use Rattle.book.specs.declared.Rule.{Rule}
 use Rattle.entries.specs.declared.Choice.{Choice}
 use Rattle.entries.specs.declared.Choice.the-variants.{Unsaid, Chosen, Malformed}
 use Rattle.entries.proofs.Choice.{the-type}
-use Rattle.log.specs.Lines.{runLine, earlyLine}
+use Rattle.log.specs.Lines.{runLine, startLines, earlyLine}
 use Rattle.log.specs.Log.{shownAfter, openLog}
-use Rattle.log.specs.declared.Shown.{Shown}
 use Rattle.log.specs.private.Writes.{startsIn, openedIn}
 use Rattle.log.proofs.BookLaws.{opened-tasks}
 use Rattle.log.proofs.ReportLaws.{starts-same}
-
--- what is printed of an opened book, made of its parts
-abbrev pub openedText : Shown → List ℕ
-openedText s =
-    openedIn (s .book .rule) (s .book .boards) (s .book .tasks) (s .book .mark) (s .book .dropped) (s .book .board) (s .book .begin) (s .book .start)
-    (s .book .clock) (s .early)
 
 module _ (plan : Plan) (rule : Rule) where
   blank-mark : blankBook (ruleNumber rule) plan .mark ≡ replicate 64 0
   unfolding layOut
   blank-mark = sym (zeros-laid (plan .tasks))
 
-  pub opened-same : openedText (shownAfter granted (openedOn plan rule)) ≡ openLog plan rule
+  pub opened-same : openedIn (openedOn plan rule) (shownAfter granted (openedOn plan rule) .early) ≡ openLog plan rule
   unfolding openLog
   opened-same =
       let book = openedOn plan rule in
-      let blank = blankBook (ruleNumber rule) plan in
       ap (λ (x : List ℕ). runLine book ++ (x ++ earlyLine (shownAfter granted book)))
-      (ap (λ (m : List ℕ). startsIn m (book .mark) (book .dropped) (book .board) (book .begin) (book .start) (book .tasks)) (sym blank-mark)
-      ∙ ap (startsIn (blank .mark) (book .mark) (book .dropped) (book .board) (book .begin) (book .start)) (opened-tasks plan rule)
-      ∙ sym (starts-same blank book (plan .tasks)))
+      (ap (λ (m : List ℕ). startsIn m book (book .tasks)) (sym blank-mark)
+      ∙ sym (starts-same (blankBook (ruleNumber rule) plan) book (book .tasks))
+      ∙ ap (startLines (blankBook (ruleNumber rule) plan) book) (opened-tasks plan rule))
 
 -- what the code tells apart by a match
 pub is-unsaid : (choice : Choice) → OneOf (0 ∷ []) (Declared.tagOf the-type choice) → choice ≡ Unsaid

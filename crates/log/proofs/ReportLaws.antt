@@ -3,17 +3,17 @@ use Prim.Native.Nat.{ℕ, zero, suc, _+_, _-_, _≤_, _<_}
 use mathlib.Core.Path.{_≡_, refl, sym, ap, _∙_}
 use mathlib.Core.Logic.{_≢_}
 use mathlib.Core.Bool.{cond}
-use mathlib.Core.List.{List, _++_}
+use mathlib.Core.List.{List, [], _++_}
 use native.Mathlib.Omega.{arith}
 use lib.Dec.{eqb}
 use lib.ListN.{length}
 use borrow.Author.Tests.{eq-eqb, ne-eqb}
 use Rattle.laws.proofs.Cases.{by-eq}
-use Rattle.laws.specs.Picked.{count}
+use Rattle.laws.specs.private.Count.{count}
 use Rattle.theory.proofs.Facts.{Sound}
 use Rattle.theory.specs.Book as theory-book
 use Rattle.theory.specs.Report.{next, dropIt}
-use Rattle.theory.specs.Events.{Accepts, AcceptsDrop, Event}
+use Rattle.theory.specs.words.Events.{Accepts, AcceptsDrop, Event}
 use Rattle.theory.proofs.Step.{AtTask, next-at, next-dropped}
 use Rattle.theory.proofs.Task.{runs-kept}
 use Rattle.plan.specs.Value.{at}
@@ -24,13 +24,13 @@ use Rattle.book.specs.declared.Book.{Book}
 use Rattle.book.proofs.Sizes.{Sized}
 use Rattle.entries.specs.declared.Entry.{Entry}
 use Rattle.entries.specs.declared.Entry.the-variants.{End, Drop, Refused}
-use Rattle.log.specs.Lines.{startLines, endLine, earlyLine}
+use Rattle.log.specs.Lines.{hasStarted, startLine, startLines, endLine, earlyLine}
 use Rattle.log.specs.Log.{toldOf, linesOf, toldLog}
 use Rattle.log.specs.declared.Shown.{Shown}
-use Rattle.lines.specs.private.Wrote.{Wrote}
-use Rattle.log.specs.private.Writes.{starting, startIn, startsIn, Named, linesIn, toldIn, linesMost, toldMost}
+use Rattle.log_lines.specs.private.Wrote.{Wrote}
+use Rattle.log.specs.private.Writes.{starting, startsIn, started, Named, linesIn, toldIn, linesMost, toldMost}
 use Rattle.log.specs.private.Room.{linesLeft, toCome, roomFor}
-use Rattle.lines.proofs.WriteLaws.{looser}
+use Rattle.log_lines.proofs.WriteLaws.{looser}
 use Rattle.log.proofs.StartLaws.{count-below}
 use Rattle.log.proofs.ComeLaws.{lines-stay, lines-go, lines-end, lines-drop, pays}
 use Rattle.log.proofs.BookLaws.{
@@ -50,14 +50,10 @@ use Rattle.log.proofs.BookLaws.{
   sized-told,
 }
 
-pub starts-same :
-    (old new : Book) (n : ℕ)
-    → startLines old new n ≡ startsIn (old .mark) (new .mark) (new .dropped) (new .board) (new .begin) (new .start) n
+pub starts-same : (old new : Book) (n : ℕ) → startLines old new n ≡ startsIn (old .mark) new n
 unfolding startLines startsIn
 starts-same old new zero = refl
-starts-same old new (suc n) =
-    ap (λ (s : List ℕ). s ++ startIn (old .mark) (new .mark) (new .dropped) (new .board) (new .begin) (new .start) n)
-    (starts-same old new n)
+starts-same old new (suc n) = ap (λ (s : List ℕ). s ++ cond (hasStarted old new n) (startLine new n) []) (starts-same old new n)
 
 -- ---- each line that is printed was still to come
 
@@ -160,10 +156,7 @@ module _ (n : ℕ) where
 
   told-lines :
       (book : Book) (e : Entry) → toldOf n book e .answer .code ≡ 0
-      → linesOf book e (toldOf n book e .book)
-      ≡ linesIn e (book .mark) (toldOf n book e .book .mark) (toldOf n book e .book .dropped) (toldOf n book e .book .board)
-      (toldOf n book e .book .begin) (toldOf n book e .book .start) (toldOf n book e .book .finish) (toldOf n book e .book .end)
-      (toldOf n book e .book .tasks)
+      → linesOf book e (toldOf n book e .book) ≡ linesIn e (book .mark) (toldOf n book e .book)
   unfolding toldOf
   told-lines book (End task tick) z =
       let after = reportedOf book task tick .book in
@@ -175,10 +168,7 @@ module _ (n : ℕ) where
   -- what is printed is at most what was to come, and a line of three numbers
   told-pays :
       (book : Book) (e : Entry) → Sized book → toldOf n book e .answer .code ≡ 0
-      → linesMost e (count (toldOf n book e .book .tasks) (starting (book .mark) (toldOf n book e .book .mark)))
-      + 30
-      + roomFor (toldOf n book e .book)
-      ≤ roomFor book + 41
+      → linesMost e (started (book .mark) (toldOf n book e .book)) + 30 + roomFor (toldOf n book e .book) ≤ roomFor book + 41
   unfolding toldOf
   told-pays book (End task tick) s z =
       rw (report-tasks book task tick z)
@@ -197,7 +187,7 @@ module _ (n : ℕ) where
 
   told-short :
       (book : Book) (e : Entry) → toldOf n book e .answer .code ≡ 0
-      → linesMost e (count (toldOf n book e .book .tasks) (starting (book .mark) (toldOf n book e .book .mark))) ≤ 3380
+      → linesMost e (started (book .mark) (toldOf n book e .book)) ≤ 3380
   unfolding toldOf
   told-short book (End task tick) z =
       let after = reportedOf book task tick .book in
@@ -242,34 +232,25 @@ module _ (n : ℕ) (book : Book) (e : Entry) where
   pub told-names : {r : Shown} → r ≡ told → r .answer .code ≡ 0 → Named e (r .book .tasks)
   told-names q z = let z′ : told .answer .code ≡ 0 = rw q at z in rw q (told-named n book e z′)
 
-  abbrev started : ℕ
-  started = count (told .book .tasks) (starting (book .mark) (told .book .mark))
-
-  told-text :
-      toldLog book e told
-      ≡ toldIn e (told .answer) (book .mark) (told .book .mark) (told .book .dropped) (told .book .board) (told .book .begin)
-      (told .book .start) (told .book .finish) (told .book .end) (told .book .tasks) (told .book .clock) (told .early)
+  told-text : toldLog book e told ≡ toldIn e (book .mark) told
   unfolding toldLog
   told-text = granted-same (told .answer .code) _ _ _ (λ z. ap (λ (x : List ℕ). x ++ earlyLine told) (told-lines n book e z))
 
-  told-most : toldMost e (told .answer) started + 0 ≤ 3432
+  told-most : toldMost e (book .mark) told + 0 ≤ 3432
   told-most =
-      granted-most (told .answer .code) (linesMost e started + 30) 41 0 3432
+      granted-most (told .answer .code) (linesMost e (started (book .mark) (told .book)) + 30) 41 0 3432
       (λ z. omega (arith, told-short n book e z))
       (λ h. omega arith)
 
-  told-paid : Sized book → toldMost e (told .answer) started + roomFor (told .book) ≤ roomFor book + 41
+  told-paid : Sized book → toldMost e (book .mark) told + roomFor (told .book) ≤ roomFor book + 41
   told-paid s =
-      granted-most (told .answer .code) (linesMost e started + 30) 41 (roomFor (told .book)) (roomFor book + 41)
+      granted-most (told .answer .code) (linesMost e (started (book .mark) (told .book)) + 30) 41 (roomFor (told .book)) (roomFor book + 41)
       (told-pays n book e s)
       (λ h. rw (told-stays n book e h) (omega arith))
 
   pub told-wrote :
       {out : List ℕ} {from : ℕ} {written : List ℕ} {place : ℕ} → Sized book
-      → Wrote out from
-      (toldIn e (told .answer) (book .mark) (told .book .mark) (told .book .dropped) (told .book .board) (told .book .begin)
-      (told .book .start) (told .book .finish) (told .book .end) (told .book .tasks) (told .book .clock) (told .early))
-      (toldMost e (told .answer) started) written place
+      → Wrote out from (toldIn e (book .mark) told) (toldMost e (book .mark) told) written place
       → Told out from book (toldLog book e told) (told .book) written place
   told-wrote s w = record {
     wrote = rw told-text (looser (omega (arith, told-most)) w);

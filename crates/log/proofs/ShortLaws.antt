@@ -11,9 +11,9 @@ use Rattle.laws.specs.Split.{indexOf, before}
 use Rattle.text.specs.Bytes.{bytes}
 use Rattle.text.specs.Line.{LF, hasLine, field}
 use Rattle.text.specs.Number.{valueOf}
-use Rattle.faults.specs.Faults.{faultOf}
-use Rattle.faults.specs.declared.Fault.{Fault}
-use Rattle.faults.proofs.FaultLaws.{column-most}
+use Rattle.line_faults.specs.Faults.{faultOf}
+use Rattle.line_faults.specs.declared.Fault.{Fault}
+use Rattle.line_faults.proofs.FaultLaws.{column-most}
 use Rattle.entries.specs.Entries.{endCodes, dropCodes, unlessFault, entryOf, nextEntry}
 use Rattle.entries.specs.Rules.{ruleCodes, choiceIn, choiceOf}
 use Rattle.entries.specs.declared.Choice.{Choice}

@@ -6,7 +6,7 @@ use Rattle.text.specs.Bytes.{bytes}
 use Rattle.theory.specs.Book.{waiting, isDropped}
 use Rattle.plan.specs.Value.{at}
 use Rattle.book.specs.declared.Book.{Book}
-use Rattle.lines.specs.Lines.{numbersLine, runBy, taskLine, startWord}
+use Rattle.log_lines.specs.Lines.{numbersLine, runBy, taskLine, startWord}
 use Rattle.log.specs.declared.Shown.{Shown}
 
 -- `run`, by the book's rule

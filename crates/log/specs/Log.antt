@@ -23,7 +23,7 @@ use Rattle.entries.specs.declared.Choice.{Choice}
 use Rattle.entries.specs.declared.Choice.the-variants.{Unsaid, Chosen, Malformed}
 use Rattle.entries.specs.declared.Entry.{Entry}
 use Rattle.entries.specs.declared.Entry.the-variants.{End, Drop, Refused}
-use Rattle.lines.specs.Lines.{refusedLine}
+use Rattle.log_lines.specs.Lines.{refusedLine}
 use Rattle.log.specs.Lines.{runLine, endLine, dropLine, earlyLine, startLines}
 use Rattle.log.specs.declared.Shown.{Shown}
 
@@ -31,7 +31,7 @@ use Rattle.log.specs.declared.Shown.{Shown}
 abbrev pub shownAfter : Answer → Book → Shown
 shownAfter answer book = record { answer = answer; book = book; early = cond (isGranted answer) (figureOf book .early) 0 }
 
--- `run`; then a `start` line for each task started at 0; an `early` line
+-- `run`; then a `start` line for each task whose start is known at opening; an `early` line
 unfoldable pub openLog : Plan → Rule → List ℕ
 openLog plan rule =
     runLine (openedOn plan rule)

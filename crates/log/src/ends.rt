@@ -1,5 +1,5 @@
 // What ends.txt prints, line by line.
-ghost use Rattle.lines.specs.private.Wrote.{Wrote};
+ghost use Rattle.log_lines.specs.private.Wrote.{Wrote};
 ghost use Rattle.log.specs.Log.{restLog};
 ghost use Rattle.log.specs.private.Room.{endsMost, EndsFit};
 use crate::told::put_told;
@@ -26,23 +26,7 @@ pub(crate) fn put_ends(
     while 0 < rest.len() {
         let entry = next_entry(rest);
         let told = tell(line, book, entry);
-        place = put_told(
-            out,
-            place,
-            entry,
-            told.answer,
-            &book.mark,
-            &told.book.mark,
-            &told.book.dropped,
-            &told.book.board,
-            &told.book.begin,
-            &told.book.start,
-            &told.book.finish,
-            &told.book.end,
-            told.book.tasks,
-            told.book.clock,
-            told.early,
-        );
+        place = put_told(out, place, entry, &book.mark, told);
         if entry_code(entry) != 0 {
             return place;
         }

@@ -15,13 +15,13 @@ use book::open_book;
 use ends::put_ends;
 use entries::Choice;
 use entries::rules::choose;
-use judge::read::read_plan;
-use lines::put_refused;
+use log_lines::put_refused;
 use plan::Answer;
+use reader::read_plan;
 use text::part::LF;
 use text::part::part_after;
+use told::early_after;
 use told::put_opened;
-use told::show;
 
 // A buffer of this length is always long enough.
 pub const LOG_MOST: usize = 212992;
@@ -61,23 +61,12 @@ pub fn run_log(plan: &[u8], ends: &[u8], out: &mut [u8]) -> usize
     }
     let choice = choose(ends);
     let opening = open_book(reading.plan, rule_of(choice));
-    let opened = show(opening.answer, opening.book);
-    let at = put_opened(
-        out,
-        opened.book.rule,
-        opened.book.boards,
-        opened.book.tasks,
-        &opened.book.mark,
-        &opened.book.dropped,
-        &opened.book.board,
-        &opened.book.begin,
-        &opened.book.start,
-        opened.book.clock,
-        opened.early,
-    );
+    let said = opening.answer;
+    let early = early_after(said.code, opening.book);
+    let at = put_opened(out, opening.book, early);
     match choice {
-        Choice::Unsaid => put_ends(out, at, opened.book, 1, ends),
-        Choice::Chosen => put_ends(out, at, opened.book, 2, part_after(ends, LF)),
+        Choice::Unsaid => put_ends(out, at, opening.book, 1, ends),
+        Choice::Chosen => put_ends(out, at, opening.book, 2, part_after(ends, LF)),
         Choice::Malformed(column) => put_refused(out, at, 3, 1, column as u32),
     }
 }

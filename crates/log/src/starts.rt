@@ -1,50 +1,39 @@
 // The `start` and `skip` lines, where the caller has seen that there is room.
-ghost use Prim.Native.Nat.{_+_, _*_, _<_, _≤_};
+ghost use Prim.Native.Nat.{_+_, _*_, _≤_};
 ghost use lib.ListN.{length};
-ghost use Rattle.laws.specs.Picked.{count};
-ghost use Rattle.lines.specs.private.Wrote.{Wrote};
-ghost use Rattle.log.specs.private.Writes.{starting, startIn, startsIn};
+ghost use Rattle.log_lines.specs.private.Wrote.{Wrote};
+ghost use Rattle.log.specs.private.Writes.{startsIn, started};
+use book::Book;
+use log_lines::put_start;
 
-// The line of task i, if it has started.
-fn put_started<'a>(
-    out: &mut [u8],
-    at: usize,
-    old: &'a [u8; 64],
-    mark: &'a [u8; 64],
-    dropped: &'a [u8; 64],
-    board: &'a [u8; 64],
-    begin: &'a [u32; 64],
-    start: &'a [u32; 64],
-    i: usize,
-) -> usize
-    requires { ⌜ (i < 64) × (at + 52 ≤ length (now out)) ⌝ }
-    ensures { λ r. ⌜ Wrote (now (out .entry)) at (startIn (now (old .entry)) (now (mark .entry)) (now (dropped .entry)) (now (board .entry)) (now (begin .entry)) (now (start .entry)) i) 52 (now (out .exit)) r ⌝ }
+// Of the tasks that waited by the marks `old` and wait no longer, by rising number.
+pub(crate) fn put_starts(out: &mut [u8], at: usize, old: &[u8; 64], book: Book) -> usize
+    requires { ⌜ (book .tasks ≤ 64) × (at + 3328 ≤ length (now out)) ⌝ }
+    ensures { λ r. ⌜ Wrote (now (out .entry)) at (startsIn (now (old .entry)) book (book .tasks)) (52 * started (now (old .entry)) book) (now (out .exit)) r ⌝ }
 {
-    if (old[i] != 0) | (mark[i] == 0) {
-        return at;
-    }
-    let number = (i + 1) as u32;
-    lines::put_start(out, at, dropped[i], number, board[i], begin[i], start[i])
-}
-
-// The `start` and `skip` lines by rising task number.
-pub(crate) fn put_starts<'a>(
-    out: &mut [u8],
-    at: usize,
-    old: &'a [u8; 64],
-    mark: &'a [u8; 64],
-    dropped: &'a [u8; 64],
-    board: &'a [u8; 64],
-    begin: &'a [u32; 64],
-    start: &'a [u32; 64],
-    tasks: usize,
-) -> usize
-    requires { ⌜ (tasks ≤ 64) × (at + 3328 ≤ length (now out)) ⌝ }
-    ensures { λ r. ⌜ Wrote (now (out .entry)) at (startsIn (now (old .entry)) (now (mark .entry)) (now (dropped .entry)) (now (board .entry)) (now (begin .entry)) (now (start .entry)) tasks) (52 * count tasks (starting (now (old .entry)) (now (mark .entry)))) (now (out .exit)) r ⌝ }
-{
+    // A book that a loop reads is kept whole on the stack, so its arrays are taken out first.
+    let mark = book.mark;
+    let dropped = book.dropped;
+    let board = book.board;
+    let begin = book.begin;
+    let start = book.start;
     let mut place = at;
-    for i in 0..tasks {
-        place = put_started(out, place, old, mark, dropped, board, begin, start, i);
+    let mut number = 0;
+    while number < book.tasks as usize {
+        let i = number;
+        number += 1;
+        if (old[i] != 0) | (mark[i] == 0) {
+            continue;
+        }
+        place = put_start(
+            out,
+            place,
+            dropped[i],
+            number as u32,
+            board[i],
+            begin[i],
+            start[i],
+        );
     }
     place
 }

@@ -2,6 +2,7 @@ pub mod FirstFault
 pub mod Judged
 pub mod PlanRows
 pub mod PlanTasks
+pub mod Drives
 pub mod TextLines
 pub mod LineCodes
 pub mod ReadOk

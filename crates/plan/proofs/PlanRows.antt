@@ -9,7 +9,9 @@ use native.Mathlib.Omega.{arith}
 use native.Mathlib.Nat.{mul-le-mul-left, mul-suc}
 use Rattle.laws.specs.Each.{each, rows}
 use Rattle.laws.proofs.Rows.{rows-past, row-of-rows, rows-ext, each-from, each-own}
-use Rattle.laws.proofs.Blank.{blank, blank-same, blank-zeros, length-zeros, blank-drop, blank-take, before-blank, blank-after, sets-front}
+use lib.Dec.{eqb}
+use Rattle.laws.proofs.Lists.{all-drop, all-take}
+use Rattle.laws.proofs.Blank.{blank, blank-same, blank-zeros, length-zeros, before-blank, blank-after, sets-front}
 use Rattle.laws.specs.Split.{indexOf}
 use Rattle.laws.proofs.Split.{free, index-le}
 use Rattle.plan.specs.Value.{row, items, blankFrom, isTrimmed}
@@ -24,12 +26,12 @@ abbrev zeros : ℕ → List ℕ
 zeros size = replicate size 0
 
 zeros-past : (size n : ℕ) → blank (drop n (zeros size)) ≡ true
-zeros-past size n = blank-drop n (zeros size) (blank-zeros size)
+zeros-past size n = all-drop (eqb 0) n (zeros size) (blank-zeros size)
 
 zeros-row : (size width k n : ℕ) → blank (drop n (row width (zeros size) k)) ≡ true
 zeros-row size width k n =
-    blank-drop n (row width (zeros size) k)
-    (blank-take width (drop (width * k) (zeros size)) (zeros-past size (width * k)))
+    all-drop (eqb 0) n (row width (zeros size) k)
+    (all-take (eqb 0) width (drop (width * k) (zeros size)) (zeros-past size (width * k)))
 
 -- numbers: nothing is kept past the last task
 pub each-blank : (size n : ℕ) (f : ℕ → ℕ) → blankFrom n (each n f (replicate size 0)) ≡ true

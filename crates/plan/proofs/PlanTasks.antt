@@ -17,12 +17,12 @@ use Rattle.laws.proofs.Rows.{rows-same, each-same}
 use Rattle.laws.proofs.Blank.{length-zeros, rising-room, within-free}
 use Rattle.laws.specs.Lists.{allOf, rising}
 use Rattle.laws.proofs.Split.{free}
-use Rattle.text.specs.Items.{between, driveOf, holdsOk, afterOk}
+use Rattle.lists.specs.Items.{between, driveOf, holdsOk, afterOk}
 use Rattle.plan.specs.Task.{Task, numbersOk, taskOk, editionOk, exclusiveTask}
-use Rattle.text.proofs.Shared.{exclusive-fine}
+use Rattle.lists.proofs.Shared.{exclusive-fine}
 use Rattle.plan.specs.Value.{row, taskAt, planOf, blankFrom, isTrimmed, keptOk, pastBlank, rangesOk}
 use Rattle.plan.specs.declared.Plan.{Plan}
-pub use Rattle.plan.specs.Sized.{SizedPlan}
+pub use Rattle.plan.specs.words.Sized.{SizedPlan}
 use Rattle.plan.proofs.PlanRows.{RowsMade, each-blank, rows-made, own-places, own-rows}
 
 -- ---- what a task has that keeps the ranges and rules

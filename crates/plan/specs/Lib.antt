@@ -3,7 +3,8 @@ pub mod Task
 pub mod Pairs
 pub mod Judged
 pub mod Value
-pub mod Sized
 pub mod Read
 pub mod Write
 pub mod Convert
+pub mod words
+pub mod private

@@ -5,7 +5,7 @@ use mathlib.Core.List.{List}
 use lib.Dec.{ltb, eqb}
 use Rattle.laws.specs.Lists.{anyOf}
 use Rattle.laws.specs.Scan.{scanTo}
-use Rattle.text.specs.Items.{driveOf, isShared}
+use Rattle.lists.specs.Items.{driveOf, isShared}
 use Rattle.plan.specs.Answer.{refuse, granted, isRefused}
 use Rattle.plan.specs.Task.{Task}
 use Rattle.plan.specs.declared.Answer.{Answer}

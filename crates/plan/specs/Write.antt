@@ -8,7 +8,7 @@ use lib.Seq.{sets}
 use Rattle.laws.specs.Digits.{digitsOf}
 use Rattle.text.specs.Bytes.{bytes}
 use Rattle.text.specs.Line.{lineText}
-use Rattle.text.specs.Items.{listText, holdText}
+use Rattle.lists.specs.Items.{listText, holdText}
 use Rattle.plan.specs.Answer.{refuse, granted, isGranted}
 use Rattle.plan.specs.Task.{Task}
 use Rattle.plan.specs.Value.{taskAt, isAccepted}

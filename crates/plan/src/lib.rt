@@ -1,4 +1,6 @@
 // A plan as a value, and what reading and writing it answer.
+ghost use mathlib.Core.Path.{_≡_};
+ghost use Rattle.plan.specs.Answer.{refuse};
 
 // The refusal number and the table's two numbers; all 0 where nothing is refused.
 #[repr(C)]
@@ -6,6 +8,17 @@ pub struct Answer {
     pub code: u32,
     pub first: u32,
     pub second: u32,
+}
+
+// The number and what it says besides.
+pub fn refuse(code: u32, first: u32, second: u32) -> Answer
+    ensures { λ r. ⌜ r ≡ refuse code first second ⌝ }
+{
+    Answer {
+        code,
+        first,
+        second,
+    }
 }
 
 // Task k from 0: its holds are the 32 places from 32 k, its after the 64 places from 64 k, items first, 0 after the last.

@@ -6,7 +6,7 @@ use mathlib.Core.Bool.{true}
 use mathlib.Core.List.{List}
 use lib.ListN.{length}
 use lib.Seq.{sets}
-use Rattle.theory.specs.Events.{Event}
+use Rattle.theory.specs.words.Events.{Event}
 use Rattle.text.specs.Put.{Put}
 use Rattle.plan.specs.Answer.{granted}
 use Rattle.plan.specs.Value.{at, isAccepted}
@@ -17,7 +17,7 @@ use Rattle.book.specs.Sound.{isSound}
 use Rattle.book.specs.Report.{reportedOf}
 use Rattle.book.specs.declared.Book.{Book}
 use Rattle.book.specs.declared.Rule.{Rule}
-use Rattle.lines.specs.Lines.{Lined}
+use Rattle.log_lines.specs.Lines.{Lined}
 use Rattle.promises.specs.Runs.{SizedPlan, Sized, acceptedOf, Running, Ended, limitOf, runOf, AllInRange, Progress, Finishes, Reached}
 use Rattle.promises.proofs.InRange as in-range
 use Rattle.promises.proofs.Judged as judged

@@ -7,25 +7,29 @@ use mathlib.Core.List.{List}
 use Rattle.laws.specs.Lists.{same}
 use Rattle.text.specs.Bytes.{bytes}
 use Rattle.text.specs.Line.{lineAt, field}
-use Rattle.theory.specs.Events.{Event}
+use Rattle.theory.specs.words.Events.{Event}
 use Rattle.plan.specs.Answer.{granted}
 use Rattle.plan.specs.Value.{taskAt, isAccepted}
 use Rattle.plan.specs.Read.{editionOf, boardsOf, tasksOf, textTask, readingOf, mendedOf}
 use Rattle.plan.specs.Convert.{convertedOf, renewedOf}
 use Rattle.plan.specs.declared.Plan.{Plan}
 use Rattle.book.specs.Early.{figureOf}
-use Rattle.book.specs.Event.{answerTo}
+use Rattle.book.specs.words.Event.{answerTo}
 use Rattle.book.specs.declared.Rule.{Rule}
 use Rattle.book.specs.declared.Rule.the-variants.{EarlyStart}
 use Rattle.entries.specs.Rules.{choiceOf}
 use Rattle.entries.specs.declared.Choice.the-variants.{Chosen}
-use Rattle.editions.specs.Renewed.{renewedText}
+use Rattle.converter.specs.Renewed.{renewedText}
 use Rattle.log.specs.Log.{logOf}
 use Rattle.promises.specs.Runs.{SizedPlan, runOf}
+use Rattle.promises.specs.Ladder.{Ladder}
+use Rattle.promises.specs.Checks.{readingChecks}
 use Rattle.promises.specs.Says.{ReadingSays}
 use Rattle.promises.specs.Conversion.{MadeOf, Unshared, ConvertedSays, exclusiveBook}
 use Rattle.promises.proofs.codes.Reading as read-codes
+use Rattle.promises.proofs.codes.ReadChecks as read-checks
 use Rattle.promises.proofs.codes.Conversion as conversion
+use Rattle.promises.proofs.codes.ConvertedBook as converted-book
 use Rattle.promises.proofs.codes.Mended as mended
 use Rattle.promises.proofs.codes.ConvertedLog as same-log
 
@@ -53,13 +57,17 @@ converted-sized = conversion.converted-sized
 module _ (plan : Plan) (rule : Rule) (size : SizedPlan plan) (taken : convertedOf plan .answer .code ≡ 0)
     (keeps : (rule ≡ EarlyStart) ⊎ Unshared (plan .tasks) (taskAt plan)) (events : List Event) where
   pub converted-run : runOf (convertedOf plan .plan) rule events ≡ exclusiveBook (runOf plan rule events)
-  converted-run = conversion.converted-run plan rule size taken keeps events
+  converted-run = converted-book.converted-run plan rule size taken keeps events
 
   pub converted-answers : (event : Event) → answerTo (runOf (convertedOf plan .plan) rule events) event ≡ answerTo (runOf plan rule events) event
-  converted-answers = conversion.converted-answers plan rule size taken keeps events
+  converted-answers = converted-book.converted-answers plan rule size taken keeps events
 
   pub converted-figure : figureOf (runOf (convertedOf plan .plan) rule events) ≡ figureOf (runOf plan rule events)
-  converted-figure = conversion.converted-figure plan rule size taken keeps events
+  converted-figure = converted-book.converted-figure plan rule size taken keeps events
+
+-- the second call's refusal numbers, each exactly when its condition holds and no other that goes before it does
+pub mended-checks : (text : List ℕ) → Ladder (readingChecks true text) (mendedOf text .answer .code)
+mended-checks = read-checks.reading-ladder true
 
 -- the second call reads, or says 1 to 8, 17 or 18 as reading does, and never 20
 pub mended-code :

@@ -4,11 +4,12 @@ use Prim.Native.Nat.{ℕ, _+_, _≤_, _<_}
 use mathlib.Core.Path.{_≡_}
 use mathlib.Core.Logic.{_≢_, _↔_, _⊎_}
 use mathlib.Core.Bool.{true, false}
-use mathlib.Core.List.{List}
+use mathlib.Core.List.{List, _++_}
 use lib.ListN.{length}
-use Rattle.plan.specs.Pairs.{pairCode}
+use Rattle.text.specs.Bytes.{bytes}
+use Rattle.text.specs.Line.{lineAt, field}
 use Rattle.plan.specs.Answer.{granted}
-use Rattle.plan.specs.Value.{at, taskAt, rangesOk, isAccepted}
+use Rattle.plan.specs.Value.{at, taskAt, rangesOk, judgedAnswer, isAccepted}
 use Rattle.plan.specs.Read.{tasksOf, textTask, formAnswer, readingOf}
 use Rattle.plan.specs.Write.{writtenOf, bufferAfter}
 use Rattle.plan.specs.declared.Plan.{Plan}
@@ -18,16 +19,41 @@ use Rattle.book.specs.Drop.{droppedOf}
 use Rattle.book.specs.Early.{figureOf}
 use Rattle.book.specs.declared.Book.{Book}
 use Rattle.book.specs.declared.Rule.{Rule}
-use Rattle.entries.specs.Entries.{nextEntry}
+use Rattle.book.specs.declared.Rule.the-variants.{EarlyStart}
+use Rattle.entries.specs.Entries.{entryCode, nextEntry}
+use Rattle.entries.specs.declared.Choice.{Choice}
+use Rattle.entries.specs.declared.Entry.{Entry}
 use Rattle.entries.specs.Rules.{choiceOf}
+use Rattle.log_lines.specs.Lines.{refusedLine}
+use Rattle.log.specs.Log.{openLog, toldOf, chosenLog, logOf}
 use Rattle.promises.specs.Runs.{SizedPlan, Sized}
-use Rattle.promises.specs.Says.{SharedHold, ReadyLate, FirstFaultyLine, LineCode, EntrySays, ChoiceSays, FirstFaulty, BeginsLate, ReadingSays, OpeningSays, ReportSays, DropSays, FigureSays, WriteSays}
+use Rattle.promises.specs.Logs.{LogSays}
+use Rattle.promises.proofs.LogWhole as the-log
+use Rattle.promises.specs.Ladder.{Ladder}
+use Rattle.promises.specs.Checks.{reportChecks, dropChecks, pairChecks, planChecks, readingChecks, FirstFaulty}
+use Rattle.promises.specs.Says.{SharedHold, ReadyLate, FirstFaultyLine, LineCode, entryAnswer, choiceAnswer, EntrySays, ChoiceSays, BeginsLate, ReadingSays, JudgedSays, OpeningSays, ReportSays, DropSays, FigureSays, WriteSays}
 use Rattle.promises.proofs.Judged as judged
 use Rattle.promises.proofs.codes.EntryLine as entry-line
 use Rattle.promises.proofs.codes.RuleLine as rule-line
 use Rattle.promises.proofs.codes.Reading as read-codes
+use Rattle.promises.proofs.codes.Judging as judging
+use Rattle.promises.proofs.codes.ReadChecks as read-checks
+use Rattle.promises.proofs.codes.BookChecks as book-checks
 use Rattle.promises.proofs.codes.Book as book-codes
 use Rattle.promises.proofs.codes.Writing as write-codes
+
+-- Refusal numbers: each is given exactly when its condition holds and no other that goes before it does
+pub reading-checks : (text : List ℕ) → Ladder (readingChecks false text) (readingOf text .answer .code)
+reading-checks = read-checks.reading-ladder false
+
+pub plan-checks : (plan : Plan) → Ladder (planChecks plan) (judgedAnswer plan .code)
+plan-checks = read-checks.plan-ladder
+
+pub report-checks : (book : Book) (task tick : ℕ) → Ladder (reportChecks book task tick) (reportedOf book task tick .answer .code)
+report-checks = book-checks.report-ladder
+
+pub drop-checks : (book : Book) (task : ℕ) → Ladder (dropChecks book task) (droppedOf book task .answer .code)
+drop-checks = book-checks.drop-ladder
 
 pub reading-code :
     (text : List ℕ)
@@ -58,13 +84,32 @@ pub reading-unready :
 reading-unready = read-codes.reading-unready false
 
 -- and a line of ends.txt with 3 or 4 names its column
-pub entry-says : (text : List ℕ) → EntrySays text (nextEntry text)
+pub entry-says : (n : ℕ) (text : List ℕ) → EntrySays n text (nextEntry text)
 entry-says = entry-line.entry-says
 
 -- the first line of ends.txt chooses the clash rule where it is `rule`, `clash`; one whose word is `rule` and that is not so is
 -- refused with 3 and names its column
 pub choice-says : (text : List ℕ) → ChoiceSays text (choiceOf text)
 choice-says = rule-line.choice-says
+
+-- either is answered in the log by its number and values, on line n or line 1
+pub entry-answered : (n : ℕ) (book : Book) (entry : Entry) → entryCode entry ≢ 0 → toldOf n book entry .answer ≡ entryAnswer n entry
+entry-answered = the-log.entry-answered
+
+pub choice-answered :
+    (plan : Plan) (ends : List ℕ) (choice : Choice) → choiceAnswer choice .code ≢ 0
+    → chosenLog choice plan ends ≡ openLog plan EarlyStart ++ refusedLine (choiceAnswer choice)
+choice-answered = the-log.choice-answered
+
+-- A refused plan, then a too long ends.txt, prints only the `refused` line; any other log begins with the opened book's lines
+pub log-says : (text ends : List ℕ) → LogSays text ends
+log-says = the-log.log-says
+
+-- and 9 never stands in a log
+pub log-never-nine :
+    (text ends : List ℕ) (n : ℕ) → field (lineAt (logOf text ends) n) 0 ≡ bytes "refused"
+    → field (lineAt (logOf text ends) n) 1 ≢ bytes "9"
+log-never-nine = the-log.never-nine
 
 -- refused with 6, 7 or 8 it names the first faulty pair, by a, then by b
 pub reading-pair :
@@ -89,8 +134,18 @@ pub plan-accepted :
     → (isAccepted plan ≡ true)
     ↔ ((rangesOk plan ≡ true)
     × ((k : ℕ) × (k < plan .tasks) × (at (plan .begin) k ≡ 0))
-    × ((a b : ℕ) → a ≤ b → b < plan .tasks → pairCode (taskAt plan) a b ≡ 0))
+    × ((a b : ℕ) → a ≤ b → b < plan .tasks → Ladder (pairChecks (taskAt plan) a b) 0))
 plan-accepted = judged.plan-accepted
+
+-- a plan is judged 0, or refused by 9, 17, 6, 7 or 8, with what the table says besides
+pub plan-code :
+    (plan : Plan)
+    → (judgedAnswer plan .code ≡ 0)
+    ⊎ ((judgedAnswer plan .code ≡ 9) ⊎ ((judgedAnswer plan .code ≡ 17) ⊎ ((6 ≤ judgedAnswer plan .code) × (judgedAnswer plan .code ≤ 8))))
+plan-code = judging.judged-code
+
+pub plan-says : (plan : Plan) → JudgedSays plan (judgedAnswer plan)
+plan-says = judging.judged-says
 
 pub opening-code : (plan : Plan) (rule : Rule) → (openingOf plan rule .answer .code ≡ 0) ⊎ (openingOf plan rule .answer .code ≡ 9)
 opening-code = book-codes.opening-code

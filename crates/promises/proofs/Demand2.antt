@@ -6,14 +6,14 @@ use mathlib.Core.Logic.{_≢_, _↔_, _⊎_}
 use mathlib.Core.Bool.{true}
 use mathlib.Core.List.{List}
 use lib.ListN.{length, take, drop}
-use Rattle.theory.specs.Events.{Event, Accepts, AcceptsDrop}
+use Rattle.theory.specs.words.Events.{Event, Accepts, AcceptsDrop}
 use Rattle.theory.specs.Figure.{minimumEarly}
 use Rattle.plan.specs.Answer.{granted}
 use Rattle.plan.specs.Value.{at, isAccepted}
 use Rattle.plan.specs.Read.{readingOf}
 use Rattle.plan.specs.Write.{textOf, writtenOf, bufferAfter}
 use Rattle.plan.specs.declared.Plan.{Plan}
-use Rattle.rounds.proofs.RoundPlan as round-plan
+use Rattle.round_trips.proofs.RoundPlan as round-plan
 use Rattle.book.specs.View.{planIn, planView, bookView}
 use Rattle.book.specs.Sound.{isSound}
 use Rattle.book.specs.Report.{reportedOf}
@@ -70,6 +70,16 @@ module _ (plan : Plan) (rule : Rule) (size : SizedPlan plan) (ok : isAccepted pl
       → (Started (openedBook plan rule) i ↔ ((j : ℕ) → j < openedBook plan rule .tasks → WaitsFor (openedBook plan rule) i j → ⊥))
       × (Started (openedBook plan rule) i → startOf (openedBook plan rule) i ≡ at (plan .ready) i)
   opening-starts = sound-run.opened-starts plan rule size ok
+
+  -- the clock is 0, nobody has ended and nobody is dropped
+  pub opening-clock : openedBook plan rule .clock ≡ 0
+  opening-clock = sound-run.clock-zero plan rule size ok
+
+  pub opening-ended : (i : ℕ) → i < openedBook plan rule .tasks → Ended (openedBook plan rule) i → ⊥
+  opening-ended = sound-run.nobody-ended plan rule size ok
+
+  pub opening-drops : (i : ℕ) → Dropped (openedBook plan rule) i → ⊥
+  opening-drops = sound-run.undropped plan rule size ok
 
   module _ (events : List Event) where
     -- the plan and the rule stay, the book is sound, the arrays keep their lengths

@@ -9,7 +9,7 @@ use native.Mathlib.Omega.{arith}
 use Rattle.laws.specs.Lists.{same}
 use Rattle.text.specs.Bytes.{bytes}
 use Rattle.text.specs.Line.{lineAt, field}
-use Rattle.theory.specs.Events.{Event}
+use Rattle.theory.specs.words.Events.{Event}
 use Rattle.plan.specs.Value.{at, isAccepted}
 use Rattle.plan.specs.Read.{editionOf, readingOf}
 use Rattle.plan.specs.Write.{textOf}
@@ -22,9 +22,12 @@ use Rattle.book.specs.Drop.{dropCodeOf, droppedOf}
 use Rattle.book.specs.Early.{figureOf}
 use Rattle.book.specs.declared.Book.{Book}
 use Rattle.book.specs.declared.Rule.{Rule}
+use Rattle.log.specs.Log.{logOf}
 use Rattle.promises.specs.Runs.{SizedPlan, runOf, Running, startOf}
 use Rattle.promises.specs.Says.{codesOf}
 use Rattle.promises.specs.Edition1.{NoReady, plainOpening, plainIsSound, plainReport, plainDrop, plainFigure, plainBookAfter, withReady, sevenReading, sevenAccepted, sevenText}
+use Rattle.promises.specs.PlainLog.{plainLog}
+use Rattle.promises.proofs.PlainLog as plain-log
 use Rattle.promises.proofs.Unmoved as unmoved
 use Rattle.promises.proofs.codes.Seven as seven
 use Rattle.promises.proofs.codes.SevenValue as value
@@ -92,6 +95,11 @@ drop-code-unready = unmoved.drop-code-unready
 pub reading-unmoved :
     (text : List ℕ) → same (field (lineAt text 0) 1) (bytes "2") ≡ false → readingOf text ≡ sevenReading text
 reading-unmoved = seven.reading-seven
+
+-- and so is its log, whatever ends.txt says
+pub log-unmoved :
+    (text ends : List ℕ) → same (field (lineAt text 0) 1) (bytes "2") ≡ false → logOf text ends ≡ plainLog text ends
+log-unmoved = plain-log.log-unmoved
 
 -- no field of a line of edition 1 is refused by 18 or 20, and no text of it
 pub no-field-18 : (text : List ℕ) → editionOf text ≡ 1 → (k n : ℕ) → at (codesOf false text k) n ≢ 18

@@ -7,11 +7,11 @@ use mathlib.Core.Path.{_≡_, sym, subst, _∙_}
 use mathlib.Core.Logic.{⊎-elim}
 use borrow.Author.Tests.{eqb-true}
 use Rattle.laws.proofs.Cases.{by-bool}
-use Rattle.theory.specs.Events.{Event}
+use Rattle.theory.specs.words.Events.{Event}
 use Rattle.theory.proofs.Order as order
 use Rattle.plan.specs.Answer.{isGranted}
 use Rattle.book.specs.View.{planIn, planView, bookView}
-use Rattle.book.specs.Event.{answerTo, bookTold}
+use Rattle.book.specs.words.Event.{answerTo, bookTold}
 use Rattle.book.specs.declared.Book.{Book}
 use Rattle.view.proofs.Accepted.{PlanFacts, plan-facts, plan-lawful}
 use Rattle.book.proofs.Soundness.{SoundFacts, is-sound-facts}

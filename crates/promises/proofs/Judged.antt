@@ -2,26 +2,30 @@
 use Prim.Native.Nat.{ℕ, _≤_, _<_}
 use native.Mathlib.Omega.{arith}
 use mathlib.Core.Bool.{true}
-use mathlib.Core.Path.{_≡_, sym}
+use mathlib.Core.Path.{_≡_, sym, subst}
 use mathlib.Core.Logic.{_↔_, ⊎-elim}
 use borrow.Author.Tests.{leb-true}
-use Rattle.plan.specs.Pairs.{pairCode}
 use Rattle.plan.specs.Value.{at, taskAt, rangesOk, isAccepted}
 use Rattle.plan.specs.declared.Plan.{Plan}
 use Rattle.plan.proofs.Judged.{tasks-fine, accepted-ranges, accepted-tasks, accepted-of}
 use Rattle.view.proofs.Accepted.{plan-facts}
 use Rattle.book.proofs.Fits.{plan-turns}
+use Rattle.promises.specs.Ladder.{Ladder}
+use Rattle.promises.specs.Checks.{pairChecks}
+use Rattle.promises.proofs.codes.Clashes.{pair-ladder, pair-zero}
 
 pub plan-accepted :
     (plan : Plan)
     → (isAccepted plan ≡ true)
     ↔ ((rangesOk plan ≡ true)
     × ((k : ℕ) × (k < plan .tasks) × (at (plan .begin) k ≡ 0))
-    × ((a b : ℕ) → a ≤ b → b < plan .tasks → pairCode (taskAt plan) a b ≡ 0))
+    × ((a b : ℕ) → a ≤ b → b < plan .tasks → Ladder (pairChecks (taskAt plan) a b) 0))
 plan-accepted plan =
     let fine = tasks-fine (plan .tasks) (taskAt plan) in (
-      λ ok. let f = fine .0 (accepted-tasks plan ok) in (accepted-ranges plan ok, f .0, f .1),
-      λ r. accepted-of plan (r .0) (fine .1 (r .1, r .2)),
+      λ ok.
+          let f = fine .0 (accepted-tasks plan ok) in
+          (accepted-ranges plan ok, f .0, λ a b h l. subst (Ladder (pairChecks (taskAt plan) a b)) (f .1 a b h l) (pair-ladder (taskAt plan) a b)),
+      λ r. accepted-of plan (r .0) (fine .1 (r .1, λ a b h l. pair-zero (taskAt plan) a b (r .2 a b h l))),
     )
 
 pub first-run :

@@ -11,9 +11,9 @@ use Rattle.plan.specs.Write.{textOf, writtenOf, bufferAfter}
 use Rattle.plan.specs.declared.Answer.{Answer}
 use Rattle.plan.specs.declared.Plan.{Plan}
 use Rattle.plan.proofs.ReadOk.{read-answer, read-accepted}
-use Rattle.rounds.proofs.RoundText.{read-back}
-use Rattle.rounds.proofs.RoundWrite.{write-text, write-rest, write-back}
-use Rattle.book.specs.Sized.{SizedPlan}
+use Rattle.round_trips.proofs.RoundText.{read-back}
+use Rattle.round_trips.proofs.RoundWrite.{write-text, write-rest, write-back}
+use Rattle.book.specs.words.Sized.{SizedPlan}
 
 module _ (text : List ℕ) (z : readingOf text .answer .code ≡ 0) where
   code-zero : textAnswer false text .code ≡ 0

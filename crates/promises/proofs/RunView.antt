@@ -10,7 +10,7 @@ use lib.Seq.{ext-getD}
 use borrow.Author.Tests.{eq-eqb, ne-eqb}
 use Rattle.laws.proofs.Cases.{by-eq}
 use Rattle.theory.specs.Book as theory-book
-use Rattle.theory.specs.Events.{Event}
+use Rattle.theory.specs.words.Events.{Event}
 use Rattle.theory.proofs.Facts.{eventCode, run, accepted}
 use Rattle.theory.proofs.Same.{same-book}
 use Rattle.plan.specs.Answer.{granted, isGranted}
@@ -21,9 +21,9 @@ use Rattle.book.specs.Sound.{isSound}
 use Rattle.book.specs.Open.{ruleNumber, openedOn, openingOf}
 use Rattle.book.specs.Report.{codeOf, reportAnswer, reportedOf}
 use Rattle.book.specs.Drop.{dropCodeOf, dropAnswer, droppedOf}
-use Rattle.book.specs.Event.{answerTo, bookTold}
+use Rattle.book.specs.words.Event.{answerTo, bookTold}
 use Rattle.book.specs.declared.Book.{Book}
-use Rattle.book.specs.declared.Opening.{Opening}
+use Rattle.book.specs.declared.Handed.{Handed}
 use Rattle.book.specs.declared.Rule.{Rule}
 use Rattle.view.specs.View.{planFor}
 use Rattle.view.proofs.Accepted.{plan-lawful}
@@ -190,7 +190,7 @@ mem-named (List·Memᴰ·tail m) = List·Memᴰ·tail (mem-named m)
 named-back : {e f : Event} → named e ≡ named f → e ≡ f
 named-back {e} {f} q = sym (one-seen 0 e) ∙ ap (theoryEvent 0) q ∙ one-seen 0 f
 
-mem-back : {e : Event} (l : List Event) → List·Memᴰ (named e) (map named l) → List·Memᴰ e l
+pub mem-back : {e : Event} (l : List Event) → List·Memᴰ (named e) (map named l) → List·Memᴰ e l
 mem-back [] m = absurd (List·Memᴰ·not-nil m)
 mem-back (x ∷ l) m =
     ⊎-elim (λ q. List·Memᴰ·head (named-back q)) (λ t. List·Memᴰ·tail (mem-back l t)) (List·Memᴰ·cases-cons m)
@@ -225,7 +225,7 @@ module _ (plan : Plan) (rule : Rule) (ok : isAccepted plan ≡ true) where
   opening-is = rw ok
 
   pub opened-is : openedBook plan rule ≡ openedOn plan rule
-  opened-is = ap (λ (x : Opening). x .book) opening-is
+  opened-is = ap (λ (x : Handed). x .book) opening-is
 
   pub opened-plan : planIn (openedBook plan rule) ≡ plan
   opened-plan = ap (λ (b : Book). planIn b) opened-is ∙ plan-opened plan rule

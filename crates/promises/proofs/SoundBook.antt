@@ -2,27 +2,25 @@
 use Prim.Native.Nat.{ℕ, _+_, _≤_, _<_}
 use native.Mathlib.Omega.{arith}
 use mathlib.Core.Bool.{true}
-use mathlib.Core.List.{List, map}
-use mathlib.Core.Path.{_≡_, ap, subst, _∙_}
-use mathlib.Core.Logic.{_↔_, _⊎_}
+use mathlib.Core.List.{List, [], _∷_, map, List·Memᴰ, List·Memᴰ·head, List·Memᴰ·tail, List·Memᴰ·cases-cons, List·Memᴰ·not-nil}
+use mathlib.Core.Path.{_≡_, refl, sym, ap, subst, _∙_}
+use mathlib.Core.Logic.{_↔_, _⊎_, ⊎-elim}
 use borrow.Author.Tests.{ne-eqb}
 use Rattle.laws.proofs.Latest.{latest-over, latest-met, latest-none}
-use Rattle.theory.specs.Plan as theory-plan
 use Rattle.theory.specs.Book as theory-book
 use Rattle.theory.specs.Report as theory-report
-use Rattle.theory.specs.Events.{Event}
-use Rattle.theory.proofs.Facts.{run, accepted}
+use Rattle.theory.specs.words.Events.{Event, IsReport}
+use Rattle.theory.proofs.Facts.{Lawful, run, accepted}
 use Rattle.theory.proofs.Reflect.{all-ended-at, all-ended-of}
 use Rattle.theory.proofs.Task.{waiting-why, started-all, free-started, ended-within, end-by-clock}
 use Rattle.theory.proofs.Order as order
-use Rattle.theory.proofs.Kept as kept
 use Rattle.theory.proofs.Progress as progress
 use Rattle.plan.specs.Answer.{granted}
 use Rattle.plan.specs.Value.{at}
 use Rattle.book.specs.View.{planIn, planView, bookView}
 use Rattle.book.specs.Report.{codeOf, reportedOf}
 use Rattle.book.specs.declared.Book.{Book}
-use Rattle.view.proofs.Accepted.{plan-facts, plan-lawful}
+use Rattle.view.proofs.Accepted.{plan-lawful}
 use Rattle.book.proofs.Soundness.{SoundFacts, is-sound-facts}
 use Rattle.book.proofs.Reports.{theoryTask, code-seen-by}
 use Rattle.promises.specs.Runs.{bookAfter, acceptedOf, Waiting, Running, Ended, Started, Dropped, startOf, endOf, NotBegun, limitOf, WaitsFor, dueOf, startDueOf, AllEnded, AllInRange, Progress, Finishes}
@@ -47,6 +45,17 @@ module _ (book : Book) (g : Good book) (rs : List Event) where
       ∙ ap (λ (l : List Event). map named (accepted (planView book) (bookView book) l)) (seen-named (book .tasks) rs)
       ∙ ap (λ (l : List Event). map named l) e
 
+-- reports as the theory counts tasks are reports
+reports-named : (rs : List Event) → ((event : Event) → List·Memᴰ event rs → IsReport event) → (event : Event) → List·Memᴰ event (map named rs) → IsReport event
+reports-named [] all event m = absurd (List·Memᴰ·not-nil m)
+reports-named (r ∷ rs) all event m =
+    ⊎-elim (λ q. subst IsReport (sym q) (one r (all r (List·Memᴰ·head refl)))) (reports-named rs (λ e t. all e (List·Memᴰ·tail t)) event)
+    (List·Memᴰ·cases-cons m)
+  where
+    one : (r : Event) → IsReport r → IsReport (named r)
+    one (Event.ends task tick) h = tt
+    one (Event.drops task) h = h
+
 module _ (book : Book) where
   -- what due says
   pub due-over : (i j : ℕ) → j < book .tasks → WaitsFor book i j → endOf book j ≤ dueOf book i
@@ -67,11 +76,8 @@ module _ (book : Book) (g : Good book) where
   pub facts : SoundFacts book
   facts = is-sound-facts book .0 (g .sound)
 
-  pub lawful : theory-plan.Lawful (planView book)
+  pub lawful : Lawful (planView book)
   lawful = plan-lawful (planIn book) (facts .accepted) (book .rule)
-
-  pub few : book .tasks ≤ 64
-  few = plan-facts (planIn book) (facts .accepted) .tasks-to
 
   -- all it waits for have ended, as a test and as a fact
   pub all-ended : (i : ℕ) → (theory-book.allEnded (planView book) (at (book .mark)) i ≡ true) ↔ AllEnded book i
@@ -136,6 +142,7 @@ module _ (book : Book) (g : Good book) where
       record {
         events = map named rs;
         each-accepted = e;
+        reports = reports-named rs (f .reports);
         in-range = subst AllInRange e (accepted-in-range book (map named rs) g);
         all-ended = λ i l.
             ap (λ (b : theory-book.Book). b .mark i) (view-named book g rs ∙ f .way .leads) ∙ f .all-done i l;

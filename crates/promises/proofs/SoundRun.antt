@@ -9,12 +9,11 @@ use borrow.Author.Tests.{leb-true}
 use Rattle.theory.specs.Plan as theory-plan
 use Rattle.theory.specs.Book as theory-book
 use Rattle.theory.specs.Report as theory-report
-use Rattle.theory.specs.Events.{Event}
-use Rattle.theory.proofs.Facts.{Sound, run, accepted}
+use Rattle.theory.specs.words.Events.{Event}
+use Rattle.theory.proofs.Facts.{Lawful, Sound, run, accepted}
 use Rattle.theory.specs.Figure.{minimumEarly}
 use Rattle.theory.proofs.Order as order
 use Rattle.theory.proofs.Kept as kept
-use Rattle.theory.proofs.Progress as progress
 use Rattle.theory.proofs.Past.{SamePast, past-opened}
 use Rattle.theory.proofs.Reach.{opened-none, reachable}
 use Rattle.plan.specs.Pairs.{clash}
@@ -29,10 +28,10 @@ use Rattle.book.specs.declared.Rule.{Rule}
 use Rattle.book.specs.declared.Rule.the-variants.{EarlyStart, Clash}
 use Rattle.view.specs.View.{isRule, planFor}
 use Rattle.view.proofs.Accepted.{plan-facts, plan-lawful, clash-waits}
-use Rattle.book.specs.Sized.{SizedPlan}
+use Rattle.book.specs.words.Sized.{SizedPlan}
 use Rattle.book.proofs.Views.{view-opened}
 use Rattle.book.proofs.Reports.{theoryEvent}
-use Rattle.promises.specs.Runs.{openedBook, bookAfter, Running, Ended, Started, Dropped, startOf, NotBegun, WaitsFor, InOrder, EarlyBy, runOf, AllInRange, Reached}
+use Rattle.promises.specs.Runs.{openedBook, bookAfter, Running, Ended, Started, Dropped, startOf, NotBegun, WaitsFor, InOrder, Live, EarlyBy, runOf, AllInRange, Reached}
 use Rattle.promises.proofs.InRange.{accepted-in-range}
 use Rattle.promises.proofs.RunView.{Good, named, good-run, plan-run, rule-run, view-run, after-append, book-path, opened-is, opened-plan, opened-rule, opened-good}
 use Rattle.promises.proofs.SoundBook.{view-named, accepted-named, due-none, facts, lawful, start-due, started-free}
@@ -44,7 +43,7 @@ pub record OnPlan (plan : Plan) (rule : Rule) (book : Book) : Type 0 where
   pub by : book .rule ≡ ruleNumber rule
 
 module _ (plan : Plan) (rule : Rule) (size : SizedPlan plan) (ok : isAccepted plan ≡ true) where
-  abbrev seen-plan : theory-plan.Plan
+  abbrev pub seen-plan : theory-plan.Plan
   seen-plan = planFor (ruleNumber rule) plan
 
   pub on-run : (reports : List Event) → OnPlan plan rule (runOf plan rule reports)
@@ -52,14 +51,14 @@ module _ (plan : Plan) (rule : Rule) (size : SizedPlan plan) (ok : isAccepted pl
       let g = opened-good plan rule ok size in
       record { good = good-run _ reports g; same = plan-run _ reports g ∙ opened-plan plan rule ok; by = rule-run _ reports g ∙ opened-rule plan rule ok }
 
-  law : theory-plan.Lawful seen-plan
+  pub law : Lawful seen-plan
   law = plan-lawful plan ok (ruleNumber rule)
 
   module _ (book : Book) (on : OnPlan plan rule book) where
     view-is : planView book ≡ seen-plan
     view-is = λ i. planFor (on .by i) (on .same i)
 
-    sound-on : Sound seen-plan (bookView book)
+    pub sound-on : Sound seen-plan (bookView book)
     sound-on = subst (λ (p : theory-plan.Plan). Sound p (bookView book)) view-is (facts book (on .good) .sound)
 
     in-order : (a b : ℕ) → a < plan .tasks → b < plan .tasks → seen-plan .waits b a ≡ true → InOrder plan book a b
@@ -82,6 +81,16 @@ module _ (plan : Plan) (rule : Rule) (size : SizedPlan plan) (ok : isAccepted pl
         ⊎-elim (λ o. let e = o .over (omega arith) in omega arith) (λ o. let e = o .over (omega arith) in omega arith)
         (clash-order a b la lb n h)
 
+    -- so at no tick are both live
+    pub one-live :
+        (tick a b : ℕ) → a < plan .tasks → b < plan .tasks → a ≢ b → clash (taskAt plan) a b ≡ true → Live book tick a → Live book tick b
+        → ⊥
+    one-live tick a b la lb n h x y =
+        ⊎-elim (λ o. apart a b x y o) (λ o. apart b a y x o) (clash-order a b la lb n h)
+      where
+        apart : (a b : ℕ) → Live book tick a → Live book tick b → InOrder plan book a b → ⊥
+        apart a b x y o = let t = x .to (o .over (y .started)) in let e = o .after (y .started) in omega (arith, y .from)
+
     pub not-late : (i : ℕ) → i < plan .tasks → Started book i → startOf book i ≤ at (plan .begin) i
     not-late = order.never-late seen-plan (bookView book) sound-on law
 
@@ -89,13 +98,13 @@ module _ (plan : Plan) (rule : Rule) (size : SizedPlan plan) (ok : isAccepted pl
     pub not-unready : (i : ℕ) → i < plan .tasks → Started book i → (Dropped book i → ⊥) → at (plan .ready) i ≤ startOf book i
     not-unready = order.never-unready seen-plan (bookView book) sound-on
 
-    figure-is : figureOf book .early ≡ minimumEarly seen-plan (bookView book)
+    pub figure-is : figureOf book .early ≡ minimumEarly seen-plan (bookView book)
     unfolding figureOf
     figure-is =
         let e : figureOf book .early ≡ minimumEarly (planView book) (bookView book) = rw (on .good .sound) in
         e ∙ ap (λ (p : theory-plan.Plan). minimumEarly p (bookView book)) view-is
 
-    later-is :
+    pub later-is :
         (later : List Event)
         → bookView (bookAfter book later) ≡ run seen-plan (bookView book) (map (theoryEvent (plan .tasks)) later)
     later-is later =
@@ -148,19 +157,22 @@ kept-unbegun plan rule size ok reports later i l n =
 
 -- opening
 module _ (plan : Plan) (rule : Rule) (size : SizedPlan plan) (ok : isAccepted plan ≡ true) where
-  nobody-ended : (j : ℕ) → j < openedBook plan rule .tasks → Ended (openedBook plan rule) j → ⊥
+  opened-view : bookView (openedBook plan rule) ≡ theory-report.opened (planFor (ruleNumber rule) plan)
+  opened-view = ap (λ (b : Book). bookView b) (opened-is plan rule ok) ∙ view-opened plan rule (plan-facts plan ok .tasks-to)
+
+  pub nobody-ended : (j : ℕ) → j < openedBook plan rule .tasks → Ended (openedBook plan rule) j → ⊥
   nobody-ended j l h =
-      let view = ap (λ (b : Book). bookView b) (opened-is plan rule ok) ∙ view-opened plan rule (plan-facts plan ok .tasks-to) in
       let t : openedBook plan rule .tasks ≡ plan .tasks = ap (λ (p : Plan). p .tasks) (opened-plan plan rule ok) in
-      opened-none (planFor (ruleNumber rule) plan) j (omega arith) (sym (ap (λ (b : theory-book.Book). b .mark j) view) ∙ h)
+      opened-none (planFor (ruleNumber rule) plan) j (omega arith) (sym (ap (λ (b : theory-book.Book). b .mark j) opened-view) ∙ h)
 
   -- and nobody is dropped
-  undropped : (i : ℕ) → Dropped (openedBook plan rule) i → ⊥
+  pub undropped : (i : ℕ) → Dropped (openedBook plan rule) i → ⊥
   unfolding theory-report.opened
-  undropped i d =
-      let view = ap (λ (b : Book). bookView b) (opened-is plan rule ok) ∙ view-opened plan rule (plan-facts plan ok .tasks-to) in
-      let z : at (openedBook plan rule .dropped) i ≡ 0 = ap (λ (b : theory-book.Book). b .dropped i) view in
-      omega arith
+  undropped i d = let z : at (openedBook plan rule .dropped) i ≡ 0 = ap (λ (b : theory-book.Book). b .dropped i) opened-view in omega arith
+
+  pub clock-zero : openedBook plan rule .clock ≡ 0
+  unfolding theory-report.opened
+  clock-zero = ap (λ (b : theory-book.Book). b .clock) opened-view
 
   pub opened-starts :
       (i : ℕ) → i < openedBook plan rule .tasks

@@ -11,7 +11,7 @@ use borrow.Author.Tests.{eq-eqb, ne-eqb}
 use Rattle.theory.specs.Plan as theory-plan
 use Rattle.theory.specs.Book as theory-book
 use Rattle.theory.specs.Report as theory-report
-use Rattle.theory.specs.Events.{Event, Accepts}
+use Rattle.theory.specs.words.Events.{Event, Accepts}
 use Rattle.theory.proofs.Facts.{stepTo}
 use Rattle.theory.proofs.Reflect.{after-taken}
 use Rattle.theory.proofs.Task.{skipped-now}
@@ -22,13 +22,13 @@ use Rattle.theory.proofs.Reach.{drop-waits}
 use Rattle.plan.specs.Value.{at}
 use Rattle.plan.specs.declared.Answer.{Answer}
 use Rattle.book.specs.View.{planView, bookView}
-use Rattle.book.specs.Sized.{Sized}
+use Rattle.book.specs.words.Sized.{Sized}
 use Rattle.book.specs.Sound.{isSound}
 use Rattle.book.specs.Report.{codeOf, reportedOf}
 use Rattle.book.specs.Drop.{dropCodeOf, droppedOf}
-use Rattle.book.specs.Event.{bookTold}
+use Rattle.book.specs.words.Event.{bookTold}
 use Rattle.book.specs.declared.Book.{Book}
-use Rattle.book.specs.declared.Reported.{Reported}
+use Rattle.book.specs.declared.Handed.{Handed}
 use Rattle.view.specs.View.{planFor}
 use Rattle.book.proofs.ReportLaws.{code-zero, drop-zero}
 use Rattle.book.proofs.Reports.{codeIn, theoryTask, theoryEvent, code-seen-by, event-plan, event-rule, event-view}
@@ -146,8 +146,8 @@ report-drops book size task tick = go (report-says book task tick)
         (λ j.
         ap (λ (b : theory-book.Book). b .dropped j) (seen-after book g task tick z)
         ∙ ap (λ (d : ℕ → ℕ). d j) (next-dropped (planView book) (bookView book) (task - 1) tick))
-    go (ReportSays.unsound h e) = ap (λ (x : Reported). x .book .dropped) e
-    go (ReportSays.refused code h l m e) = ap (λ (x : Reported). x .book .dropped) e
+    go (ReportSays.unsound h e) = ap (λ (x : Handed). x .book .dropped) e
+    go (ReportSays.refused code h l m e) = ap (λ (x : Handed). x .book .dropped) e
 
 -- a drop taken marks its task and changes nothing else
 module _ (book : Book) (g : Good book) (task : ℕ) (z : dropCodeOf book task ≡ 0) where

@@ -8,9 +8,9 @@ use lib.Dec.{eqb}
 use borrow.Author.Tests.{eqb-true, ne-eqb}
 use Rattle.laws.proofs.Cases.{by-bool}
 use Rattle.theory.specs.Report.{nonePast, reportCode, dropCode}
-use Rattle.theory.specs.Events.{Event}
+use Rattle.theory.specs.words.Events.{Event}
 use Rattle.theory.specs.Figure.{minimumEarly}
-use Rattle.theory.specs.Unready.{plainEarly}
+use Rattle.theory.specs.words.Unready.{plainEarly}
 use Rattle.theory.proofs.Unready.{opened-plain, next-plain, sound-plain, figure-plain, begun-by}
 use Rattle.plan.specs.Answer.{refuse, granted, isGranted}
 use Rattle.plan.specs.Value.{at, zeroPlan, planOf, isAccepted}
@@ -29,13 +29,11 @@ use Rattle.book.specs.Open.{ruleNumber, blankBook, openedOn, openingOf}
 use Rattle.book.specs.Report.{codeOf, reportAnswer, nextBook, reportedOf}
 use Rattle.book.specs.Drop.{dropCodeOf, dropAnswer, droppedIn, droppedOf}
 use Rattle.book.specs.Early.{figureOf}
-use Rattle.book.specs.Event.{bookTold}
-use Rattle.book.specs.Sized.{SizedPlan}
+use Rattle.book.specs.words.Event.{bookTold}
+use Rattle.book.specs.words.Sized.{SizedPlan}
 use Rattle.book.specs.declared.Book.{Book}
-use Rattle.book.specs.declared.Opening.{Opening}
+use Rattle.book.specs.declared.Handed.{Handed}
 use Rattle.book.specs.declared.Rule.{Rule}
-use Rattle.book.specs.declared.Reported.{Reported}
-use Rattle.book.specs.declared.Dropped.{Dropped}
 use Rattle.book.proofs.Reports.{event-plan}
 use Rattle.book.proofs.Soundness.{SoundFacts, is-sound-facts}
 use Rattle.promises.specs.Runs.{openedBook, bookAfter, runOf, Running, startOf}
@@ -68,7 +66,7 @@ pub opening-unmoved : (plan : Plan) (rule : Rule) → NoReady plan → openingOf
 unfolding openingOf openedOn
 opening-unmoved plan rule none =
     ap
-    (λ (b : Book). cond {A = Opening} (isAccepted plan) (record { answer = granted; book = b }) (record { answer = refuse 9 0 0; book = blankBook 0 zeroPlan }))
+    (λ (b : Book). cond {A = Handed} (isAccepted plan) (record { answer = granted; book = b }) (record { answer = refuse 9 0 0; book = blankBook 0 zeroPlan }))
     (ap (layOut (ruleNumber rule) plan) (opened-plain (planFor (ruleNumber rule) plan) none))
 
 module _ (book : Book) (none : NoReady (planIn book)) where
@@ -99,8 +97,8 @@ module _ (book : Book) (none : NoReady (planIn book)) where
       λ i. record { answer = said i; book = cond (isGranted (said i)) (droppedIn book (task - 1)) book }
 
   told-unmoved : (event : Event) → bookTold book event ≡ plainTold book event
-  told-unmoved (Event.ends task tick) = ap (λ (x : Reported). x .book) (report-unmoved task tick)
-  told-unmoved (Event.drops task) = ap (λ (x : Dropped). x .book) (drop-unmoved task)
+  told-unmoved (Event.ends task tick) = ap (λ (x : Handed). x .book) (report-unmoved task tick)
+  told-unmoved (Event.drops task) = ap (λ (x : Handed). x .book) (drop-unmoved task)
 
   module _ (h : isSound book ≡ true) where
     facts : SoundFacts book
@@ -132,7 +130,7 @@ pub run-unmoved :
     → runOf plan rule events ≡ plainBookAfter (plainOpening plan rule .book) events
 run-unmoved plan rule size ok none events =
     after-unmoved (openedBook plan rule) events (subst NoReady (sym (opened-plan plan rule ok)) none) (opened-good plan rule ok size)
-    ∙ ap (λ (x : Opening). plainBookAfter (x .book) events) (opening-unmoved plan rule none)
+    ∙ ap (λ (x : Handed). plainBookAfter (x .book) events) (opening-unmoved plan rule none)
 
 -- the codes of reports and drops look at no ready tick
 pub report-code-unready : (book : Book) (ready : List ℕ) (task tick : ℕ) → codeOf (withReady book ready) task tick ≡ codeOf book task tick

@@ -4,14 +4,15 @@ use mathlib.Core.Path.{_≡_}
 use mathlib.Core.Logic.{_≢_, _⊎_}
 use mathlib.Core.Bool.{true, false}
 use mathlib.Core.List.{map}
-use Rattle.text.specs.Items.{driveOf, hasShared, exclusive}
+use Rattle.lists.specs.Items.{driveOf, hasShared, exclusive}
 use Rattle.plan.specs.Answer.{granted}
 use Rattle.plan.specs.Task.{Task, exclusiveTask}
 use Rattle.plan.specs.Value.{taskAt, isAccepted}
 use Rattle.plan.specs.declared.Plan.{Plan}
 use Rattle.plan.specs.declared.Reading.{Reading}
 use Rattle.book.specs.declared.Book.{Book}
-use Rattle.promises.specs.Says.{noPlan, FirstFaulty}
+use Rattle.promises.specs.Says.{noPlan}
+use Rattle.promises.specs.Checks.{FirstFaulty}
 use Rattle.promises.specs.Edition1.{NoReady}
 
 -- the same board, times, drives and after list, and no shared hold

@@ -12,12 +12,12 @@ use Rattle.laws.specs.Scan.{scanTo}
 use Rattle.text.specs.Bytes.{bytes}
 use Rattle.text.specs.Number.{isNumber, valueOf, most}
 use Rattle.text.specs.Line.{hasLine, skip, lineAt, fields, field, lineText}
-use Rattle.text.specs.Items.{between, isList, listOf, isHold, holdOf, holdsOk, afterOk}
-use Rattle.faults.specs.Faults.{codeFor, fieldCode, wordCode, endCode, columnOf}
-use Rattle.faults.specs.declared.Fault.{Fault}
-use Rattle.theory.specs.Events.{Event}
+use Rattle.lists.specs.Items.{between, isList, listOf, isHold, holdOf, holdsOk, afterOk}
+use Rattle.line_faults.specs.Faults.{codeFor, fieldCode, wordCode, endCode, columnOf}
+use Rattle.line_faults.specs.declared.Fault.{Fault}
+use Rattle.theory.specs.words.Events.{Event}
 use Rattle.theory.specs.Report.{dropIt}
-use Rattle.theory.specs.Unready.{plainOpened, plainNext, plainSound, plainEarly}
+use Rattle.theory.specs.words.Unready.{plainOpened, plainNext, plainSound, plainEarly}
 use Rattle.plan.specs.Answer.{refuse, granted, isGranted, isRefused}
 use Rattle.plan.specs.Task.{Task, taskOf, taskOk}
 use Rattle.plan.specs.Judged.{tasksAnswer}
@@ -34,9 +34,7 @@ use Rattle.book.specs.Open.{ruleNumber, blankBook}
 use Rattle.book.specs.Report.{codeOf}
 use Rattle.book.specs.Drop.{dropCodeOf}
 use Rattle.book.specs.declared.Book.{Book}
-use Rattle.book.specs.declared.Opening.{Opening}
-use Rattle.book.specs.declared.Reported.{Reported}
-use Rattle.book.specs.declared.Dropped.{Dropped}
+use Rattle.book.specs.declared.Handed.{Handed}
 use Rattle.book.specs.declared.Figure.{Figure}
 use Rattle.book.specs.declared.Rule.{Rule}
 
@@ -44,9 +42,9 @@ use Rattle.book.specs.declared.Rule.{Rule}
 abbrev pub NoReady : Plan → Type 0
 NoReady plan = (i : ℕ) → i < plan .tasks → at (plan .ready) i ≡ 0
 
--- ---- the rule: `plain` names it (theory/specs/Unready.antt)
+-- ---- the rule: `plain` names it (theory/specs/words/Unready.antt)
 
-abbrev pub plainOpening : Plan → Rule → Opening
+abbrev pub plainOpening : Plan → Rule → Handed
 plainOpening plan rule =
     let number = ruleNumber rule in
     cond (isAccepted plan) (record { answer = granted; book = layOut number plan (plainOpened (planFor number plan)) })
@@ -63,13 +61,13 @@ abbrev pub plainAnswer : Book → ℕ → ℕ → ℕ → Answer
 plainAnswer book code first second =
     cond (not (plainIsSound book)) (refuse 9 0 0) (cond (eqb code 0) granted (refuse code first second))
 
-abbrev pub plainReport : Book → ℕ → ℕ → Reported
+abbrev pub plainReport : Book → ℕ → ℕ → Handed
 plainReport book task tick =
     let answer = plainAnswer book (codeOf book task tick) task tick in
     let after = layOut (book .rule) (planIn book) (plainNext (planView book) (bookView book) (task - 1) tick) in
     record { answer = answer; book = cond (isGranted answer) after book }
 
-abbrev pub plainDrop : Book → ℕ → Dropped
+abbrev pub plainDrop : Book → ℕ → Handed
 plainDrop book task =
     let answer = plainAnswer book (dropCodeOf book task) task 0 in
     let after = layOut (book .rule) (planIn book) (dropIt (bookView book) (task - 1)) in

@@ -1,6 +1,10 @@
 pub mod Runs
 pub mod Columns
+pub mod Ladder
+pub mod Clashes
+pub mod Checks
+pub mod Logs
 pub mod Says
 pub mod Edition1
+pub mod PlainLog
 pub mod Conversion
-pub mod tables

@@ -5,7 +5,7 @@ use mathlib.Core.Path.{_≡_}
 use mathlib.Core.Logic.{_≢_, _↔_}
 use mathlib.Core.Bool.{true, cond}
 use mathlib.Core.List.{List, [], _∷_, List·Memᴰ}
-use Rattle.theory.specs.Events.{Event}
+use Rattle.theory.specs.words.Events.{Event, IsReport}
 use Rattle.theory.specs.Book as theory-book
 use Rattle.plan.specs.Answer.{granted, isGranted}
 use Rattle.plan.specs.Value.{at, isAccepted}
@@ -13,11 +13,11 @@ use Rattle.plan.specs.declared.Plan.{Plan}
 use Rattle.book.specs.View.{planView, bookView}
 use Rattle.book.specs.Open.{openingOf}
 use Rattle.book.specs.Report.{reportedOf}
-use Rattle.book.specs.Event.{answerTo, bookTold}
+use Rattle.book.specs.words.Event.{answerTo, bookTold}
 use Rattle.book.specs.declared.Book.{Book}
 use Rattle.book.specs.declared.Rule.{Rule}
 -- the arrays have their lengths
-pub use Rattle.book.specs.Sized.{SizedPlan, Sized}
+pub use Rattle.book.specs.words.Sized.{SizedPlan, Sized}
 
 -- the book opened on a plan by a rule
 abbrev pub openedBook : Plan → Rule → Book
@@ -89,6 +89,12 @@ pub record InOrder (plan : Plan) (book : Book) (a b : ℕ) : Type 0 where
   pub over : Started book b → Ended book a
   pub after : Started book b → endOf book a ≤ startOf book b
 
+-- task i's token is live at a tick: it has started by then, and not yet ended
+pub record Live (book : Book) (tick i : ℕ) : Type 0 where
+  pub started : Started book i
+  pub from : startOf book i ≤ tick
+  pub to : Ended book i → tick < endOf book i
+
 -- so many ticks early against the plan
 pub record EarlyBy (plan : Plan) (early : ℕ) (book : Book) (i : ℕ) : Type 0 where
   pub starts : Started book i → startOf book i + early ≤ at (plan .begin) i
@@ -133,6 +139,7 @@ pub record Progress (book : Book) : Type 0 where
 pub record Finishes (book : Book) : Type 0 where
   pub events : List Event
   pub each-accepted : acceptedOf book events ≡ events
+  pub reports : (event : Event) → List·Memᴰ event events → IsReport event
   pub in-range : AllInRange events
   pub all-ended : (i : ℕ) → i < book .tasks → Ended (bookAfter book events) i
 

@@ -1,69 +1,59 @@
 -- What each call may answer: the table's numbers, what they say besides, and what a refusal leaves.
-use Prim.Native.Nat.{ℕ, _+_, _-_, _≤_, _<_}
+use Prim.Native.Nat.{ℕ, _+_, _≤_, _<_}
 use mathlib.Core.Path.{_≡_}
-use mathlib.Core.Logic.{_≢_, _⊎_}
+use mathlib.Core.Logic.{_⊎_}
 use mathlib.Core.Bool.{Bool, true, false, cond, _&&_}
-use mathlib.Core.List.{List}
+use mathlib.Core.List.{List, [], _∷_}
 use lib.Dec.{eqb}
 use lib.ListN.{length}
 use lib.Seq.{sets}
 use Rattle.plan.specs.Answer.{refuse, granted}
-use Rattle.plan.specs.Value.{at, zeroPlan, isAccepted}
 use Rattle.plan.specs.Task.{Task}
-use Rattle.plan.specs.Pairs.{pairCode}
-use Rattle.text.specs.Line.{TAB, LF, hasLine, skip, lineAt, field}
-use Rattle.text.specs.Number.{valueOf}
-use Rattle.text.specs.Items.{listOf, holdOf, hasShared}
+use Rattle.plan.specs.Value.{at, taskAt, rangesOk, zeroPlan, isAccepted}
+use Rattle.text.specs.Line.{TAB, LF, hasLine, skip, lineAt, fields, field}
+use Rattle.text.specs.Number.{valueOf, most}
+use Rattle.lists.specs.Items.{listOf, holdOf, hasShared}
 use Rattle.plan.specs.Read.{sizesOk, editionOf, boardsOf, tasksOf, taskCodes, textTask, formAnswer}
 use Rattle.plan.specs.Write.{textOf}
+use Rattle.plan.specs.declared.Answer.{Answer}
 use Rattle.plan.specs.declared.Plan.{Plan}
 use Rattle.plan.specs.declared.Reading.{Reading}
 use Rattle.plan.specs.declared.Written.{Written}
 use Rattle.book.specs.Sound.{isSound}
 use Rattle.book.specs.Open.{blankBook, openedOn}
 use Rattle.book.specs.declared.Book.{Book}
-use Rattle.book.specs.declared.Opening.{Opening}
-use Rattle.book.specs.declared.Reported.{Reported}
+use Rattle.book.specs.declared.Handed.{Handed}
 use Rattle.book.specs.declared.Rule.{Rule}
-use Rattle.book.specs.declared.Dropped.{Dropped}
 use Rattle.book.specs.declared.Figure.{Figure}
+use Rattle.laws.specs.Digits.{digitsOf}
 use Rattle.laws.specs.Lists.{same}
 use Rattle.laws.specs.Split.{before, beginOf}
 use Rattle.text.specs.Bytes.{bytes}
-use Rattle.entries.specs.Entries.{entryCode, endCodes, dropCodes}
+use Rattle.entries.specs.Entries.{endCodes, dropCodes}
 use Rattle.entries.specs.declared.Entry.{Entry}
-use Rattle.entries.specs.declared.Entry.the-variants.{Refused}
+use Rattle.entries.specs.declared.Entry.the-variants.{End, Drop, Refused}
 use Rattle.entries.specs.Rules.{ruleCodes}
 use Rattle.entries.specs.declared.Choice.{Choice}
 use Rattle.entries.specs.declared.Choice.the-variants.{Unsaid, Chosen, Malformed}
+use Rattle.promises.specs.Checks.{FirstFaulty}
 use Rattle.promises.specs.Columns.{ColumnSays}
 
 -- A refused reading gives a plan of zeros
 abbrev pub noPlan : ℕ → ℕ → ℕ → Reading
 noPlan code first second = record { answer = refuse code first second; plan = zeroPlan }
 
--- (x, y) is examined before (a, b): by a, then by b
-abbrev pub Before : ℕ → ℕ → ℕ → ℕ → Type 0
-Before x y a b = (x < a) ⊎ ((x ≡ a) × (y < b))
+-- no task is planned at 0, and start is the least planned start
+pub record StartsLate (tasks : ℕ) (task : ℕ → Task) (start : ℕ) : Type 0 where
+  pub from : 1 ≤ start
+  pub least : (k : ℕ) → k < tasks → start ≤ task k .begin
+  pub met : (k : ℕ) × (k < tasks) × (task k .begin ≡ start)
 
--- the first faulty pair of these tasks, counted from 1; (a, a) only for code 8
-pub record FirstFaulty (tasks : ℕ) (task : ℕ → Task) (code a b : ℕ) : Type 0 where
-  pub from : 1 ≤ a
-  pub ordered : a ≤ b
-  pub to : b ≤ tasks
-  pub number : (6 ≤ code) × (code ≤ 8)
-  pub faulty : pairCode task (a - 1) (b - 1) ≡ code
-  pub first : (x y : ℕ) → 1 ≤ x → x ≤ y → y ≤ tasks → Before x y a b → pairCode task (x - 1) (y - 1) ≡ 0
-  pub two : code ≢ 8 → a < b
-
--- Of a text reading, and the second call, which mends, are said once.
--- the text's lines are faultless, nothing follows them, no task is planned at 0, and start is the least planned start
+-- so of a text whose lines are faultless and followed by nothing
 pub record BeginsLate (mends : Bool) (text : List ℕ) (start : ℕ) : Type 0 where
   pub lines : formAnswer mends text ≡ granted
-  pub from : 1 ≤ start
-  pub least : (k : ℕ) → k < tasksOf text → start ≤ textTask mends text k .begin
-  pub met : (k : ℕ) × (k < tasksOf text) × (textTask mends text k .begin ≡ start)
+  pub starts : StartsLate (tasksOf text) (textTask mends text) start
 
+-- Of a text reading, and the second call, which mends, are said once.
 -- the codes of the fields of task line k, and of its end
 abbrev pub codesOf : Bool → List ℕ → ℕ → List ℕ
 codesOf mends text k = taskCodes mends (hasLine (skip k text)) (editionOf text) (boardsOf text) (tasksOf text) (lineAt text k) k
@@ -109,18 +99,27 @@ pub data ReadingSays (mends : Bool) (text : List ℕ) (r : Reading) : Type 0 whe
   late : (start : ℕ) → BeginsLate mends text start → r ≡ noPlan 17 start 0 → ReadingSays mends text r
   faulty-pair : (code a b : ℕ) → FirstFaulty (tasksOf text) (textTask mends text) code a b → r ≡ noPlan code a b → ReadingSays mends text r
 
-pub data OpeningSays (plan : Plan) (rule : Rule) (r : Opening) : Type 0 where
+-- what a plan handed in as a value is judged
+pub data JudgedSays (plan : Plan) (r : Answer) : Type 0 where
+  accepted : isAccepted plan ≡ true → r ≡ granted → JudgedSays plan r
+  unkept : rangesOk plan ≡ false → r ≡ refuse 9 0 0 → JudgedSays plan r
+  late : (start : ℕ) → rangesOk plan ≡ true → StartsLate (plan .tasks) (taskAt plan) start → r ≡ refuse 17 start 0 → JudgedSays plan r
+  faulty-pair :
+      (code a b : ℕ) → rangesOk plan ≡ true → FirstFaulty (plan .tasks) (taskAt plan) code a b → r ≡ refuse code a b
+      → JudgedSays plan r
+
+pub data OpeningSays (plan : Plan) (rule : Rule) (r : Handed) : Type 0 where
   opened : isAccepted plan ≡ true → r ≡ record { answer = granted; book = openedOn plan rule } → OpeningSays plan rule r
   refused : isAccepted plan ≡ false → r ≡ record { answer = refuse 9 0 0; book = blankBook 0 zeroPlan } → OpeningSays plan rule r
 
-pub data ReportSays (book : Book) (task tick : ℕ) (r : Reported) : Type 0 where
+pub data ReportSays (book : Book) (task tick : ℕ) (r : Handed) : Type 0 where
   taken : isSound book ≡ true → r .answer ≡ granted → ReportSays book task tick r
   unsound : isSound book ≡ false → r ≡ record { answer = refuse 9 0 0; book = book } → ReportSays book task tick r
   refused :
       (code : ℕ) → isSound book ≡ true → 10 ≤ code → code ≤ 15
       → r ≡ record { answer = refuse code task tick; book = book } → ReportSays book task tick r
 
-pub data DropSays (book : Book) (task : ℕ) (r : Dropped) : Type 0 where
+pub data DropSays (book : Book) (task : ℕ) (r : Handed) : Type 0 where
   taken : isSound book ≡ true → r .answer ≡ granted → DropSays book task r
   unsound : isSound book ≡ false → r ≡ record { answer = refuse 9 0 0; book = book } → DropSays book task r
   refused :
@@ -143,17 +142,34 @@ pub data WriteSays (plan : Plan) (out : List ℕ) (r : Written) (after : List �
       isAccepted plan ≡ true → length out < length (textOf plan)
       → r ≡ record { answer = refuse 16 (length (textOf plan)) 0; length = 0 } → after ≡ out → WriteSays plan out r after
 
--- what the line that begins a text says; `drop`, task has two fields, `end`, task, tick three
-pub data EntrySays (text : List ℕ) (r : Entry) : Type 0 where
-  said : entryCode r ≡ 0 → EntrySays text r
+-- what line n of ends.txt is answered by what it says: nothing is refused, or the number with line and column
+abbrev pub entryAnswer : ℕ → Entry → Answer
+entryAnswer n (End task tick) = granted
+entryAnswer n (Drop task) = granted
+entryAnswer n (Refused code column) = refuse code n column
+
+-- and its first line, by what it says of the rule
+abbrev pub choiceAnswer : Choice → Answer
+choiceAnswer Unsaid = granted
+choiceAnswer Chosen = granted
+choiceAnswer (Malformed column) = refuse 3 1 column
+
+-- what line n, which begins a rest of the text, says: `end`, task, tick has three fields, `drop`, task two
+pub data EntrySays (n : ℕ) (text : List ℕ) (r : Entry) : Type 0 where
+  an-end :
+      (task tick : ℕ) → task ≤ most → tick ≤ most → hasLine text ≡ true
+      → fields (before LF text) ≡ bytes "end" ∷ digitsOf task ∷ digitsOf tick ∷ [] → r ≡ End task tick → EntrySays n text r
+  a-drop :
+      (task : ℕ) → task ≤ most → hasLine text ≡ true → fields (before LF text) ≡ bytes "drop" ∷ digitsOf task ∷ []
+      → r ≡ Drop task → EntrySays n text r
   refused-drop :
       (code column : ℕ) → same (field (before LF text) 0) (bytes "drop") ≡ true → (code ≡ 3) ⊎ (code ≡ 4)
       → ColumnSays 2 (hasLine text) (before LF text) (dropCodes (hasLine text) (before LF text)) code column
-      → r ≡ Refused code column → EntrySays text r
+      → entryAnswer n r ≡ refuse code n column → EntrySays n text r
   refused-end :
       (code column : ℕ) → same (field (before LF text) 0) (bytes "drop") ≡ false → (code ≡ 3) ⊎ (code ≡ 4)
       → ColumnSays 3 (hasLine text) (before LF text) (endCodes (hasLine text) (before LF text)) code column
-      → r ≡ Refused code column → EntrySays text r
+      → entryAnswer n r ≡ refuse code n column → EntrySays n text r
 
 -- what the first line of a text chooses: nothing where its word is not `rule`; `rule`, `clash` has two fields
 pub data ChoiceSays (text : List ℕ) (r : Choice) : Type 0 where
@@ -162,4 +178,4 @@ pub data ChoiceSays (text : List ℕ) (r : Choice) : Type 0 where
   malformed :
       (column : ℕ) → same (field (before LF text) 0) (bytes "rule") ≡ true
       → ColumnSays 2 (hasLine text) (before LF text) (ruleCodes (hasLine text) (before LF text)) 3 column
-      → r ≡ Malformed column → ChoiceSays text r
+      → choiceAnswer r ≡ refuse 3 1 column → ChoiceSays text r

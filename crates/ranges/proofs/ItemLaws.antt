@@ -7,7 +7,8 @@ use lib.ListN.{length, getD, drop}
 use lib.Dec.{eqb, ltb, leb}
 use borrow.Author.Tests.{eq-eqb, ne-eqb, not-true, not-false}
 use Rattle.laws.proofs.Cases.{by-eq}
-use Rattle.laws.specs.Lists.{allOf, risesFrom}
+use Rattle.laws.specs.Lists.{allOf}
+use Rattle.laws.specs.private.Rise.{risesFrom}
 use Rattle.laws.proofs.Lists.{all-turn, all-end}
 use Rattle.laws.specs.Split.{before}
 use Rattle.laws.proofs.Split.{before-here, before-next, before-end}

@@ -8,17 +8,22 @@ use lib.ListN.{take, drop, take-append-drop}
 use lib.Dec.{leb, eqb}
 use borrow.Author.Tests.{not-true, not-false, leb-true, eqb-true, ne-eqb}
 use Rattle.laws.proofs.Cases.{by-bool, and-l, and-r, and-no, or-false}
-use Rattle.laws.specs.Lists.{allOf, anyOf, risesFrom}
+use Rattle.laws.specs.Lists.{allOf, anyOf}
+use Rattle.laws.specs.private.Rise.{risesFrom}
 use Rattle.laws.proofs.Lists.{any-append}
 use Rattle.laws.specs.Split.{indexOf}
 use Rattle.laws.proofs.Rise.{rises-is}
 use Rattle.laws.specs.Every.{every}
-use Rattle.text.specs.Items.{between, driveOf, isShared, hasShared, holdsOk, afterOk}
-use Rattle.text.specs.private.Lettered.{keyOf}
+use Rattle.lists.specs.Items.{between, driveOf, isShared, hasShared, holdsOk, afterOk}
+use Rattle.lists.specs.private.Lettered.{keyOf}
 use Rattle.plan.specs.Task.{numbersOk}
 use Rattle.plan.specs.Value.{at, row, items, planWith, blankFrom, isTrimmed, keptOk, pastBlank, rangesOk, taskAt}
 use Rattle.plan.specs.declared.Plan.{Plan}
-use Rattle.ranges.specs.private.Kept.{numbersIn, listIn, sharedIn, listsIn}
+use Rattle.ranges.specs.private.Kept.{numbersIn, listIn, sharedIn, holdsIn}
+
+-- the second half of what is kept of a task
+abbrev listsIn : ℕ → ℕ → List ℕ → List ℕ → ℕ → Bool
+listsIn edition tasks holds after k = holdsIn edition (row 32 holds k) && listIn false tasks (row 64 after k)
 
 -- a list that has nothing past its last item is as shared as its items
 blank-unshared : (l : List ℕ) → allOf (eqb 0) l ≡ true → anyOf isShared l ≡ false

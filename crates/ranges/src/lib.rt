@@ -3,11 +3,11 @@ ghost use mathlib.Core.Path.{_≡_};
 ghost use mathlib.Core.Bool.{true, false, _&&_};
 ghost use Prim.Native.Nat.{_<_, _≤_};
 ghost use Rattle.laws.specs.Every.{every};
-ghost use Rattle.laws.specs.Lists.{risesFrom};
-ghost use Rattle.text.specs.private.Lettered.{keyOf};
+ghost use Rattle.laws.specs.private.Rise.{risesFrom};
+ghost use Rattle.lists.specs.private.Lettered.{keyOf};
 ghost use Rattle.plan.specs.Value.{row, items, blankFrom, isTrimmed, planWith, keptOk, pastBlank, rangesOk};
 ghost use Rattle.ranges.specs.private.Kept.{numbersIn, listIn, sharedIn, holdsIn};
-use text::list::has_shared;
+use lists::has_shared;
 use text::part::find;
 
 // Nothing is kept from place n on. A walk that gathers to its end can use wide instructions.

@@ -7,9 +7,9 @@ ghost use Rattle.laws.specs.Bits.{has, setOf};
 ghost use Rattle.laws.specs.Every.{every, any};
 ghost use Rattle.laws.specs.Picked.{latest};
 ghost use Rattle.theory.specs.Book.{ended, taskTest};
-ghost use Rattle.plan.specs.Value.{at};
+ghost use Rattle.plan.specs.Value.{at, planWith};
 ghost use Rattle.view.specs.View.{planSeen, bookSeen};
-ghost use Rattle.sound.specs.Sound.{nothingPast, soundOn};
+ghost use Rattle.sound.specs.Sound.{nothingPast, soundOn, soundWaits};
 use ranges::blank_bytes;
 use ranges::blank_ticks;
 use view::bit_of;
@@ -17,6 +17,8 @@ use view::is_in;
 use view::limit_of;
 use view::start_of;
 use view::wide;
+use waits::Waits;
+use waits::wait_sets;
 
 // The tasks that have not ended.
 fn unended_set(mark: &[u8; 64], tasks: usize) -> u64
@@ -171,7 +173,7 @@ fn past_nothing<'a>(
 }
 
 // Known: the plan is accepted and its rule is one of the two, so these are its wait sets.
-pub fn is_sound<'a>(
+fn is_sound<'a>(
     known: bool,
     tasks: u8,
     clock: u32,
@@ -211,4 +213,53 @@ pub fn is_sound<'a>(
         return false;
     }
     clock == last_end(mark, end, n)
+}
+
+// The wait sets of a book's tasks by its rule, known where the book is sound: the test of code 9, in one call.
+pub fn sound_waits<'a>(
+    rule: u8,
+    edition: u8,
+    boards: u8,
+    tasks: u8,
+    clock: u32,
+    board: &'a [u8; 64],
+    ready: &'a [u32; 64],
+    begin: &'a [u32; 64],
+    finish: &'a [u32; 64],
+    holds: &'a [u8; 2048],
+    after: &'a [u8; 4096],
+    start: &'a [u32; 64],
+    end: &'a [u32; 64],
+    mark: &'a [u8; 64],
+    dropped: &'a [u8; 64],
+) -> Waits
+    ensures { λ r. ⌜ r ≡ soundWaits rule (planWith edition boards tasks (now (board .entry)) (now (ready .entry)) (now (begin .entry)) (now (finish .entry)) (now (holds .entry)) (now (after .entry))) (now (mark .entry)) (now (start .entry)) (now (end .entry)) (now (dropped .entry)) clock ⌝ }
+{
+    let waits = wait_sets(
+        rule,
+        edition,
+        boards,
+        tasks,
+        board,
+        ready,
+        begin,
+        finish,
+        holds,
+        after,
+    );
+    let known = is_sound(
+        waits.known,
+        tasks,
+        clock,
+        ready,
+        begin,
+        finish,
+        &waits.sets,
+        start,
+        end,
+        mark,
+        dropped,
+    );
+    let sets = waits.sets;
+    Waits { known, sets }
 }

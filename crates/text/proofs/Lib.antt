@@ -1,10 +1,4 @@
 pub mod Parts
 pub mod Spell
-pub mod ItemLaws
-pub mod Rise
 pub mod Store
 pub mod Numerals
-pub mod ListFields
-pub mod Lists
-pub mod Answers
-pub mod Shared

@@ -1,6 +1,5 @@
 pub mod Bytes
 pub mod Number
 pub mod Line
-pub mod Items
 pub mod Put
 pub mod private

@@ -1,6 +1,5 @@
-// Reading and writing the words of a text: parts between separators, numbers, list fields.
+// Reading and writing the words of a text: parts between separators, numbers.
 pub mod decimal;
-pub mod list;
 pub mod part;
 pub mod put;
 
@@ -9,12 +8,4 @@ pub enum Number {
     Value(u32, usize),
     Over(usize),
     Misspelt(usize),
-}
-
-// What a list field says: code 0 with its items, zeros after them, or 3 or 4 with none; and where its reader stopped.
-pub struct Items {
-    pub code: u8,
-    pub stop: usize,
-    pub count: usize,
-    pub items: [u8; 64],
 }

@@ -1,4 +1,4 @@
--- A sound book as facts, and a run of reports and drops.
+-- A lawful plan and a sound book as facts, and a run of reports and drops.
 use mathlib.Core.Path.{_≡_}
 use mathlib.Core.Logic.{_≢_}
 use mathlib.Core.Bool.{true, cond}
@@ -8,7 +8,13 @@ use lib.Dec.{eqb}
 use Rattle.theory.specs.Plan.{Plan}
 use Rattle.theory.specs.Book.{Book, limit, allEnded, due, readyDue, lastEnd}
 use Rattle.theory.specs.Report.{reportCode, dropCode, next, dropIt}
-use Rattle.theory.specs.Events.{Event, ends, drops}
+use Rattle.theory.specs.words.Events.{Event, ends, drops}
+
+-- all that the promises ask of a plan
+pub record Lawful (plan : Plan) : Type 0 where
+  pub ready : (i : ℕ) → i < plan .tasks → plan .ready i ≤ plan .begin i
+  pub lasts : (i : ℕ) → i < plan .tasks → plan .begin i < plan .finish i
+  pub before : (i j : ℕ) → i < plan .tasks → j < plan .tasks → plan .waits i j ≡ true → plan .finish j ≤ plan .begin i
 
 -- one it waits for that has not ended
 pub record Blocker (plan : Plan) (mark : ℕ → ℕ) (i : ℕ) : Type 0 where

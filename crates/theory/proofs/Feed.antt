@@ -6,13 +6,13 @@ use Prim.Native.Nat.{ℕ, zero, suc, _≤_, _<_}
 use native.Mathlib.Omega.{arith}
 use borrow.Author.Tests.{eqb-true, eqb-false, eq-eqb, ne-eqb, not-true}
 use Rattle.laws.proofs.Cases.{by-bool, by-eq, by-le, and-l, and-r}
-use Rattle.laws.specs.Picked.{count}
+use Rattle.laws.specs.private.Count.{count}
 use Rattle.laws.proofs.Count.{count-lt}
-use Rattle.theory.specs.Plan.{Plan, Lawful}
+use Rattle.theory.specs.Plan.{Plan}
 use Rattle.theory.specs.Book.{Book, ended, isDropped, limit}
-use Rattle.theory.proofs.Facts.{Sound}
+use Rattle.theory.proofs.Facts.{Sound, Lawful}
 use Rattle.theory.specs.Report.{next}
-use Rattle.theory.specs.Events.{Accepts}
+use Rattle.theory.specs.words.Events.{Accepts}
 use Rattle.theory.proofs.Reflect.{all-ended-of}
 use Rattle.theory.proofs.Task.{mark-range, skipped-now, free-started, ended-within, ended-after, runs-kept, end-by-clock, runs-on}
 use Rattle.theory.proofs.Step.{sound-next, next-clock, next-dropped}

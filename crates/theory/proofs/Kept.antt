@@ -7,10 +7,10 @@ use Prim.Native.Nat.{ℕ, zero, suc, _+_, _-_, _≤_, _<_}
 use native.Mathlib.Omega.{arith}
 use Rattle.laws.proofs.Cases.{by-eq, by-le}
 use Rattle.laws.proofs.Latest.{latest-under}
-use Rattle.theory.specs.Plan.{Plan, Lawful}
+use Rattle.theory.specs.Plan.{Plan}
 use Rattle.theory.specs.Book.{Book}
-use Rattle.theory.proofs.Facts.{Sound}
-use Rattle.theory.specs.Events.{Event}
+use Rattle.theory.proofs.Facts.{Sound, Lawful}
+use Rattle.theory.specs.words.Events.{Event}
 use Rattle.theory.proofs.Facts.{run}
 use Rattle.theory.specs.Figure.{minimumEarly}
 use Rattle.theory.proofs.Task.{mark-range, waiting-why, runs-kept, ended-within, end-by-clock}

@@ -9,7 +9,7 @@ use Rattle.laws.proofs.Cases.{by-eq}
 use Rattle.theory.specs.Plan.{Plan}
 use Rattle.theory.specs.Book.{Book}
 use Rattle.theory.specs.Report.{next, dropIt}
-use Rattle.theory.specs.Events.{Accepts, Event}
+use Rattle.theory.specs.words.Events.{Accepts, Event}
 use Rattle.theory.proofs.Facts.{stepTo, bookAfter, run}
 use Rattle.theory.proofs.Reflect.{Taken, code-taken, Said, said}
 use Rattle.theory.proofs.Step.{AtTask, next-at, next-clock, next-dropped}

@@ -13,6 +13,8 @@ pub mod Kept
 pub mod Past
 pub mod Same
 pub mod Progress
+pub mod Grows
+pub mod Once
 pub mod Waits
 pub mod Alike
 pub mod Feed

@@ -1,16 +1,16 @@
 -- Tasks start in order, when and only when they are due, never unready and never late.
 use mathlib.Core.Path.{_≡_, sym, ap, _∙_}
-use mathlib.Core.Logic.{_⊎_, inl, inr, _≢_, _↔_}
+use mathlib.Core.Logic.{_≢_, _↔_}
 use mathlib.Core.Bool.{true}
 use Prim.Native.Nat.{ℕ, zero, suc, _≤_, _<_, max}
 use native.Mathlib.Omega.{arith}
 use Rattle.laws.proofs.Cases.{by-eq, true-false}
 use Rattle.laws.proofs.Latest.{latest-over, latest-under, latest-is}
-use Rattle.theory.specs.Plan.{Plan, Lawful}
+use Rattle.theory.specs.Plan.{Plan}
 use Rattle.theory.specs.Book.{Book, allEnded, due, readyDue}
-use Rattle.theory.proofs.Facts.{Blocker, TaskOk, Sound}
+use Rattle.theory.proofs.Facts.{Blocker, TaskOk, Sound, Lawful}
 use Rattle.theory.specs.Report.{next}
-use Rattle.theory.specs.Events.{Accepts}
+use Rattle.theory.specs.words.Events.{Accepts}
 use Rattle.theory.proofs.Reflect.{all-ended-at}
 use Rattle.theory.proofs.Task.{started-all, started-at, started-between, skipped-now, waiting-why, ended-within, end-by-clock, runs-kept}
 use Rattle.theory.proofs.Step.{sound-next, AtTask, next-at, next-clock, next-dropped}
@@ -48,14 +48,6 @@ module _ (plan : Plan) (book : Book) (sound : Sound plan book) where
       let u = latest-over (plan .tasks) (plan .waits i) (book .end) j lj w in
       (all-ended-at plan (book .mark) i (started-all (sound .task i li) n) j lj w, omega arith)
 
-  -- of two started tasks one of which waits for the other, one ended before the other started
-  pub one-after-other :
-      (i j : ℕ) → i < plan .tasks → j < plan .tasks → (plan .waits i j ≡ true) ⊎ (plan .waits j i ≡ true) → book .mark i ≢ 0
-      → book .mark j ≢ 0
-      → ((book .mark j ≡ 2) × (book .end j ≤ book .start i)) ⊎ ((book .mark i ≡ 2) × (book .end i ≤ book .start j))
-  one-after-other i j li lj (inl w) ni nj = inl (in-order i j li lj w ni)
-  one-after-other i j li lj (inr w) ni nj = inr (in-order j i lj li w nj)
-
   module _ (law : Lawful plan) where
     -- by induction on the planned start
     not-late : (n i : ℕ) → plan .begin i < n → i < plan .tasks → book .mark i ≢ 0 → book .start i ≤ plan .begin i
@@ -75,14 +67,6 @@ module _ (plan : Plan) (book : Book) (sound : Sound plan book) where
     -- no task starts later than planned
     pub never-late : (i : ℕ) → i < plan .tasks → book .mark i ≢ 0 → book .start i ≤ plan .begin i
     never-late i l m = not-late (suc (plan .begin i)) i (omega arith) l m
-
-    -- no task ends later than planned
-    pub in-time : (i : ℕ) → i < plan .tasks → book .mark i ≡ 2 → book .end i ≤ plan .finish i
-    in-time i l m =
-        let e = ended-within (sound .task i l) m in
-        let p = law .lasts i l in
-        let q = never-late i l (omega arith) in
-        omega arith
 
 -- what an accepted report does to the start of a waiting task; a dropped one starts and ends at once, ready or not
 pub record StartsExactly (plan : Plan) (tick : ℕ) (after : Book) (i : ℕ) : Type 0 where

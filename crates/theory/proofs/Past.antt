@@ -8,7 +8,7 @@ use borrow.Author.Tests.{ne-eqb, le-ltb}
 use Rattle.theory.specs.Plan.{Plan}
 use Rattle.theory.specs.Book.{Book}
 use Rattle.theory.specs.Report.{goes, endIt, skipOnce, skipTimes, letGo, next, dropIt, blank, opened}
-use Rattle.theory.specs.Events.{Event}
+use Rattle.theory.specs.words.Events.{Event}
 use Rattle.theory.proofs.Facts.{stepTo, bookAfter, run}
 use Rattle.theory.proofs.Reflect.{Taken, code-taken, Said, said}
 

@@ -1,6 +1,7 @@
 -- From a sound book with an unended task some report is accepted, so every run can be brought to its end.
-use mathlib.Core.Path.{_≡_}
-use mathlib.Core.Logic.{_≢_}
+use mathlib.Core.Path.{_≡_, sym, subst}
+use mathlib.Core.Logic.{_≢_, ⊎-elim}
+use mathlib.Core.List.{List·Memᴰ, List·Memᴰ·cases-cons, List·Memᴰ·not-nil}
 use mathlib.Core.Bool.{Bool, not}
 use Prim.Native.Nat.{ℕ, zero, suc, _≤_, _<_}
 use native.Mathlib.Omega.{arith}
@@ -9,13 +10,13 @@ use Rattle.laws.proofs.Cases.{by-bool, by-eq}
 use Rattle.laws.specs.Every.{every}
 use Rattle.laws.proofs.Every.{every-at, every-fails}
 use Rattle.laws.proofs.Least.{has-least}
-use Rattle.laws.specs.Picked.{count}
+use Rattle.laws.specs.private.Count.{count}
 use Rattle.laws.proofs.Count.{count-lt}
-use Rattle.theory.specs.Plan.{Plan, Lawful}
+use Rattle.theory.specs.Plan.{Plan}
 use Rattle.theory.specs.Book.{Book, running, ended, limit}
-use Rattle.theory.proofs.Facts.{Sound}
+use Rattle.theory.proofs.Facts.{Sound, Lawful}
 use Rattle.theory.specs.Report.{reportCode, next}
-use Rattle.theory.specs.Events.{Event}
+use Rattle.theory.specs.words.Events.{Event, IsReport}
 use Rattle.theory.proofs.Reflect.{code-accepts, accepts-code}
 use Rattle.theory.proofs.Task.{mark-range, waiting-why, runs-on}
 use Rattle.theory.proofs.Step.{sound-next}
@@ -87,6 +88,7 @@ module _ (plan : Plan) (law : Lawful plan) (book : Book) (sound : Sound plan boo
 pub record Finish (plan : Plan) (book : Book) : Type 0 where
   pub last : Book
   pub way : Way plan book last
+  pub reports : (event : Event) → List·Memᴰ event (way .events) → IsReport event
   pub all-done : (i : ℕ) → i < plan .tasks → last .mark i ≡ 2
 
 abbrev unended : Book → ℕ → Bool
@@ -108,12 +110,14 @@ module _ (plan : Plan) (law : Lawful plan) where
       k (ok .task) (rw (ok .runs)) (rw m)
 
   finish-by : (n : ℕ) (book : Book) → Sound plan book → count (plan .tasks) (unended book) < n → Finish plan book
+  unfolding way-none way-more
   finish-by zero book sound f = absurd (omega arith)
   finish-by (suc n) book sound f =
       by-bool (every (plan .tasks) (ended (book .mark)))
       (λ a. record {
         last = book;
         way = way-none plan book;
+        reports = λ event m. absurd (List·Memᴰ·not-nil m);
         all-done = λ i l. eqb-true (book .mark i) 2 (every-at (plan .tasks) (ended (book .mark)) a i l);
       })
       (λ a.
@@ -126,6 +130,7 @@ module _ (plan : Plan) (law : Lawful plan) where
       record {
         last = rest .last;
         way = way-more plan book (rest .last) (Event.ends (p .who) tick) (p .taken) (rest .way);
+        reports = λ event m. ⊎-elim (λ e. subst IsReport (sym e) tt) (rest .reports event) (List·Memᴰ·cases-cons {l = rest .way .events} m);
         all-done = rest .all-done;
       })
 

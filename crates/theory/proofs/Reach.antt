@@ -10,13 +10,13 @@ use Rattle.laws.proofs.Cases.{by-bool, by-eq, true-false, and-l, and-r, and-of}
 use Rattle.laws.specs.Every.{any}
 use Rattle.laws.proofs.Every.{any-of, any-at}
 use Rattle.laws.proofs.Least.{has-least}
-use Rattle.laws.specs.Picked.{count}
+use Rattle.laws.specs.private.Count.{count}
 use Rattle.laws.proofs.Count.{count-lt}
-use Rattle.theory.specs.Plan.{Plan, Lawful}
+use Rattle.theory.specs.Plan.{Plan}
 use Rattle.theory.specs.Book.{Book, isDropped}
-use Rattle.theory.proofs.Facts.{Waiter, Blocker, TaskOk, Sound}
+use Rattle.theory.proofs.Facts.{Waiter, Blocker, TaskOk, Sound, Lawful}
 use Rattle.theory.specs.Report.{next, dropIt, blank, letGo, opened}
-use Rattle.theory.specs.Events.{AcceptsDrop, Event}
+use Rattle.theory.specs.words.Events.{AcceptsDrop, Event}
 use Rattle.theory.proofs.Facts.{run}
 use Rattle.theory.proofs.Reflect.{all-ended-at, accepts-code, accepts-drop-code}
 use Rattle.theory.proofs.Task.{drop-range}

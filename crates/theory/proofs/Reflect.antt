@@ -14,7 +14,7 @@ use Rattle.theory.specs.Book.{Book, ended, running, waiting, isDropped, 
 use Rattle.theory.proofs.Facts.{Blocker, Waiter, TaskOk, Sound}
 use Rattle.theory.specs.Book.{taskTest, soundTest, waitingOk, runningOk, endedOk, skippedOk}
 use Rattle.theory.specs.Report.{nonePast, reportCode, dropCode}
-use Rattle.theory.specs.Events.{Accepts, AcceptsDrop, Event}
+use Rattle.theory.specs.words.Events.{Accepts, AcceptsDrop, Event}
 use Rattle.theory.proofs.Facts.{eventCode, stepTo, bookAfter}
 
 module _ (plan : Plan) (mark : ℕ → ℕ) (i : ℕ) where

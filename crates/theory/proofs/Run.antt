@@ -5,7 +5,7 @@ use mathlib.Core.List.{List, [], _∷_, List·Memᴰ, List·Memᴰ·not-nil}
 use borrow.Author.Tests.{eq-eqb, ne-eqb}
 use Rattle.theory.specs.Plan.{Plan}
 use Rattle.theory.specs.Book.{Book}
-use Rattle.theory.specs.Events.{Event}
+use Rattle.theory.specs.words.Events.{Event}
 use Rattle.theory.proofs.Facts.{eventCode, stepTo, run, accepted}
 use Rattle.theory.proofs.Reflect.{after-taken, after-refused}
 
@@ -45,10 +45,10 @@ pub record Way (plan : Plan) (book target : Book) : Type 0 where
   pub each-accepted : accepted plan book events ≡ events
   pub leads : run plan book events ≡ target
 
-pub way-none : (plan : Plan) (book : Book) → Way plan book book
+unfoldable pub way-none : (plan : Plan) (book : Book) → Way plan book book
 way-none plan book = record { events = []; each-accepted = accepted-none plan book; leads = run-none plan book }
 
-pub way-more :
+unfoldable pub way-more :
     (plan : Plan) (book target : Book) (event : Event) → eventCode plan book event ≡ 0
     → Way plan (stepTo plan book event) target → Way plan book target
 way-more plan book target event z way = record {

@@ -8,11 +8,11 @@ use native.Mathlib.Omega.{arith}
 use borrow.Author.Tests.{eq-eqb, ne-eqb}
 use Rattle.laws.proofs.Cases.{by-eq, by-le}
 use Rattle.laws.proofs.Latest.{latest-same}
-use Rattle.theory.specs.Plan.{Plan, Lawful}
+use Rattle.theory.specs.Plan.{Plan}
 use Rattle.theory.specs.Book.{Book, due}
-use Rattle.theory.proofs.Facts.{Sound}
+use Rattle.theory.proofs.Facts.{Sound, Lawful}
 use Rattle.theory.specs.Report.{dropIt}
-use Rattle.theory.specs.Events.{Event}
+use Rattle.theory.specs.words.Events.{Event}
 use Rattle.theory.proofs.Facts.{eventCode, stepTo, run, accepted}
 use Rattle.theory.proofs.Reflect.{Taken, code-taken, all-ended-at, all-ended-of}
 use Rattle.theory.proofs.Task.{mark-range, drop-range, started-all, started-at, skipped-now, no-end, no-start, free-started, all-ended-more, ended-same}

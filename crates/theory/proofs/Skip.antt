@@ -9,7 +9,8 @@ use borrow.Author.Tests.{eqb-true, eq-eqb, ne-eqb, lt-ltb, ltb-true}
 use Rattle.laws.proofs.Cases.{by-bool, true-false, and-l, and-r, and-of}
 use Rattle.laws.specs.Every.{any}
 use Rattle.laws.proofs.Every.{any-at, any-of}
-use Rattle.laws.specs.Picked.{count, latest}
+use Rattle.laws.specs.Picked.{latest}
+use Rattle.laws.specs.private.Count.{count}
 use Rattle.laws.proofs.Count.{count-lt, count-all, count-some}
 use Rattle.laws.proofs.Latest.{latest-more}
 use Rattle.theory.specs.Plan.{Plan}

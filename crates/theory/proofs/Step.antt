@@ -14,8 +14,7 @@ use Rattle.theory.specs.Plan.{Plan}
 use Rattle.theory.specs.Book.{Book, ended, limit, allEnded}
 use Rattle.theory.proofs.Facts.{Blocker, Waiter, TaskOk, Sound}
 use Rattle.theory.specs.Report.{goes, endIt, skipTimes, letGo, next, dropIt, blank, opened}
-use Rattle.theory.specs.Events.{Accepts, AcceptsDrop}
-use Rattle.theory.specs.Events.{Event}
+use Rattle.theory.specs.words.Events.{Accepts, AcceptsDrop, Event}
 use Rattle.theory.proofs.Facts.{stepTo, bookAfter, run}
 use Rattle.theory.proofs.Reflect.{Taken, code-taken, Said, said}
 use Rattle.theory.proofs.Task.{end-by-clock, waiting-why, no-start, no-end}

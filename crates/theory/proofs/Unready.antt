@@ -10,12 +10,12 @@ use Rattle.laws.proofs.Cases.{by-bool, by-le, true-false}
 use Rattle.laws.specs.Every.{any}
 use Rattle.laws.proofs.Every.{every-same, any-at, any-not}
 use Rattle.laws.proofs.Least.{has-least, least-none, least-or-is}
-use Rattle.theory.specs.Plan.{Plan, Lawful}
+use Rattle.theory.specs.Plan.{Plan}
 use Rattle.theory.specs.Book.{Book, running, due, readyDue, lastEnd, taskFrom, taskTest, soundTest}
 use Rattle.theory.specs.Report.{goes, skipTimes, endIt, letGo, next, blank, opened}
 use Rattle.theory.specs.Figure.{minimumEarly}
-use Rattle.theory.specs.Unready.{plainLetGo, plainOpened, plainNext, plainSound, plainEarly}
-use Rattle.theory.proofs.Facts.{Sound}
+use Rattle.theory.specs.words.Unready.{plainLetGo, plainOpened, plainNext, plainSound, plainEarly}
+use Rattle.theory.proofs.Facts.{Sound, Lawful}
 use Rattle.theory.proofs.Figure.{Term, figure-least, figure-met, figure-none}
 use Rattle.theory.proofs.Order.{ready-ahead}
 use Rattle.theory.proofs.Progress.{some-runs}

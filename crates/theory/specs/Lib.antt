@@ -2,5 +2,4 @@ pub mod Plan
 pub mod Book
 pub mod Report
 pub mod Figure
-pub mod Events
-pub mod Unready
+pub mod words

@@ -9,8 +9,8 @@ use lib.Dec.{eqb, ltb, leb, lit<}
 use borrow.Author.Tests.{eqb-true, eq-eqb, ne-eqb, ltb-false, le-leb, lt-ltb}
 use Rattle.laws.proofs.Cases.{by-le, true-false, same-test, and-of, or-at, or-r, guard-passed}
 use Rattle.laws.specs.Lists.{anyOf}
-use Rattle.text.specs.Items.{driveOf, isShared}
-use Rattle.theory.specs.Plan as theory-plan
+use Rattle.lists.specs.Items.{driveOf, isShared}
+use Rattle.theory.proofs.Facts.{Lawful}
 use Rattle.theory.proofs.Waits.{minding-lawful}
 use Rattle.plan.specs.Task.{Task}
 use Rattle.plan.specs.Pairs.{overlap, sameBoard, holdsClash, clashByDrive, isListed, clash, breaksAfter, pairCode}
@@ -61,7 +61,7 @@ module _ (plan : Plan) (ok : isAccepted plan ≡ true) where
   }
 
   -- an accepted plan is lawful by either rule
-  pub plan-lawful : (rule : ℕ) → theory-plan.Lawful (planFor rule plan)
+  pub plan-lawful : (rule : ℕ) → Lawful (planFor rule plan)
   plan-lawful rule =
       minding-lawful (mindsBy rule (taskAt plan)) (plan .tasks) (at (plan .ready)) (at (plan .begin)) (at (plan .finish))
       (λ k l. task-facts k l .ready) (λ k l. task-facts k l .lasts)
@@ -97,6 +97,9 @@ module _ (task : ℕ → Task) (a b : ℕ) (differ : a ≢ b) (none : pairCode t
   pass-8 : break ≡ false
   pass-8 = guard-passed break 8 0 (lit< tt) (pass-7 .1) .0
 
+  pub keeps-after : (breaksAfter task a b ≡ false) × (breaksAfter task b a ≡ false)
+  keeps-after = or-neither (breaksAfter task a b) (breaksAfter task b a) pass-8
+
   abbrev InOrder : Type 0
   InOrder = (leb (task b .finish) (task a .begin) ≡ true) ⊎ (leb (task a .finish) (task b .begin) ≡ true)
 
@@ -110,12 +113,11 @@ module _ (task : ℕ → Task) (a b : ℕ) (differ : a ≢ b) (none : pairCode t
 
   pub pair-in-order : clash task a b ≡ true → InOrder
   pair-in-order h =
-      let n8 = or-neither (breaksAfter task a b) (breaksAfter task b a) pass-8 in
       ⊎-elim (met-apart (sameBoard (task a) (task b)) (pass-6 .0))
       (λ h2.
       ⊎-elim (met-apart (clashByDrive (task a .holds) (task b .holds)) (pass-7 .0))
       (λ h3.
-      ⊎-elim (λ h4. inl (listed a b (n8 .0) h4)) (λ h4. inr (listed b a (n8 .1) h4))
+      ⊎-elim (λ h4. inl (listed a b (keeps-after .0) h4)) (λ h4. inr (listed b a (keeps-after .1) h4))
       (or-at (isListed (task a .after) (b + 1)) _ h3))
       (or-at (clashByDrive (task a .holds) (task b .holds)) _ h2))
       (or-at (sameBoard (task a) (task b)) _ h)

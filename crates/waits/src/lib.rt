@@ -1,9 +1,10 @@
 // The wait set of every task of an accepted plan, by the rule of its book: bit j of set i stands where task i waits for task j.
+mod clash;
 mod listed;
 mod sets;
 
 use judge::value::is_accepted;
-use sets::sets_of;
+use sets::fill_sets;
 ghost use mathlib.Core.Path.{_≡_};
 ghost use Rattle.plan.specs.Value.{planWith};
 ghost use Rattle.waits.specs.Waits.{waitsOf};
@@ -28,11 +29,9 @@ pub fn wait_sets<'a>(
 ) -> Waits
     ensures { λ r. ⌜ r ≡ waitsOf rule (planWith edition boards tasks (now (board .entry)) (now (ready .entry)) (now (begin .entry)) (now (finish .entry)) (now (holds .entry)) (now (after .entry))) ⌝ }
 {
+    let mut sets = [0u64; 64];
     if 1 < rule {
-        return Waits {
-            known: false,
-            sets: [0; 64],
-        };
+        return Waits { known: false, sets };
     }
     if !is_accepted(
         edition,
@@ -45,13 +44,17 @@ pub fn wait_sets<'a>(
         holds,
         after,
     ) {
-        return Waits {
-            known: false,
-            sets: [0; 64],
-        };
+        return Waits { known: false, sets };
     }
-    Waits {
-        known: true,
-        sets: sets_of(rule, board, begin, finish, holds, after, tasks as usize),
-    }
+    fill_sets(
+        &mut sets,
+        rule,
+        board,
+        begin,
+        finish,
+        holds,
+        after,
+        tasks as usize,
+    );
+    Waits { known: true, sets }
 }

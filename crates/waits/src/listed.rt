@@ -1,11 +1,11 @@
-// The after lists of all tasks as sets, gathered once.
+// A task's after list as a set.
 use view::bit_of;
 ghost use mathlib.Core.Path.{_≡_};
 ghost use mathlib.Core.Bool.{cond};
-ghost use Prim.Native.Nat.{_-_, _^_, _<_, _≤_};
+ghost use Prim.Native.Nat.{_-_, _^_, _<_};
 ghost use lib.Dec.{leb};
 ghost use Rattle.plan.specs.Value.{items, row};
-ghost use Rattle.waits.specs.private.Arrays.{listedSet, listedSets};
+ghost use Rattle.waits.specs.private.Arrays.{listedSet};
 
 // Task n is bit n - 1; a number past 64 names no task.
 fn number_bit(number: u8) -> u64
@@ -32,22 +32,11 @@ fn listed_set(list: &[u8]) -> u64
     set
 }
 
-fn listed_by(after: &[u8; 4096], k: usize) -> u64
+pub(crate) fn listed_by(after: &[u8; 4096], k: usize) -> u64
     requires { ⌜ k < 64 ⌝ }
     ensures { λ r. ⌜ r ≡ listedSet (items (row 64 (now (after .entry)) k)) ⌝ }
 {
     let all = &after[..];
     let s = 64 * k;
     listed_set(&all[s..s + 64])
-}
-
-pub(crate) fn after_sets(after: &[u8; 4096], tasks: usize) -> [u64; 64]
-    requires { ⌜ tasks ≤ 64 ⌝ }
-    ensures { λ r. ⌜ r ≡ listedSets (now (after .entry)) tasks ⌝ }
-{
-    let mut sets = [0u64; 64];
-    for k in 0..tasks {
-        sets[k] = listed_by(after, k);
-    }
-    sets
 }

@@ -12,8 +12,8 @@ use borrow.Author.Tests.{eq-eqb, ne-eqb, le-ltb, lt-ltb, not-true, not-false}
 use Rattle.laws.proofs.Cases.{by-eq}
 use Rattle.laws.specs.Digits.{digitsOf}
 use Rattle.laws.specs.Split.{indexOf, joinOn}
-use Rattle.text.specs.Items.{COMMA, NONE, isShared, listText}
-use Rattle.text.proofs.ListFields.{holdsText, afterText}
+use Rattle.lists.specs.Items.{COMMA, NONE, isShared, listText}
+use Rattle.lists.proofs.ListFields.{holdsText, afterText}
 use Rattle.text.specs.Bytes.{bytes}
 use Rattle.text.specs.Line.{TAB, LF, lineText}
 use Rattle.plan.specs.Task.{Task}

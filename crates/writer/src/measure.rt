@@ -7,7 +7,7 @@ ghost use mathlib.Core.Bool.{true, false};
 ghost use Prim.Native.Nat.{_+_, _*_, _<_, _≤_};
 ghost use lib.ListN.{length, take, drop};
 ghost use Rattle.laws.specs.Digits.{digitsOf};
-ghost use Rattle.text.specs.Items.{listText};
+ghost use Rattle.lists.specs.Items.{listText};
 ghost use Rattle.plan.specs.Value.{items};
 ghost use Rattle.plan.specs.Write.{sizesText, taskText, taskTexts};
 ghost use Rattle.writer.specs.private.WriteParts.{tasksIn, itemText, readyField, numbersText, Measured};

@@ -10,7 +10,7 @@ ghost use mathlib.Core.Path.{_≡_};
 ghost use mathlib.Core.Bool.{true, false, cond};
 ghost use mathlib.Core.List.{_∷_};
 ghost use Prim.Native.Nat.{_+_, _*_, _<_, _≤_};
-ghost use Rattle.text.specs.Items.{COMMA, isShared, listText};
+ghost use Rattle.lists.specs.Items.{COMMA, isShared, listText};
 ghost use Rattle.plan.specs.Value.{items};
 ghost use Rattle.plan.specs.Write.{sizesText, taskText, taskTexts};
 ghost use Rattle.writer.specs.private.WriteParts.{tasksIn, itemText, numberField, listField, readyField, numbersText, Room, Wrote};

@@ -4,9 +4,9 @@ use crate::measure::tasks_len;
 use crate::parts::put_sizes;
 use crate::parts::put_tasks;
 use judge::value::is_accepted;
-use plan::Answer;
 use plan::Plan;
 use plan::Written;
+use plan::refuse;
 ghost use mathlib.Core.Path.{_≡_};
 ghost use mathlib.Core.Bool.{true};
 ghost use Prim.Native.Nat.{_+_, _<_};
@@ -15,16 +15,12 @@ ghost use Rattle.plan.specs.Value.{planWith, isAccepted};
 ghost use Rattle.plan.specs.Write.{writtenOf, bufferAfter};
 ghost use Rattle.writer.specs.private.WriteParts.{answered, Answered};
 
-fn answered(code: u32, first: u32, length: u32) -> Written
-    ensures { λ r. ⌜ r ≡ answered code first length ⌝ }
+fn answered(code: u32, first: u32, size: u32) -> Written
+    ensures { λ r. ⌜ r ≡ answered code first size ⌝ }
 {
     Written {
-        answer: Answer {
-            code,
-            first,
-            second: 0,
-        },
-        length,
+        answer: refuse(code, first, 0),
+        length: size,
     }
 }
 

@@ -1,106 +1,100 @@
-//! The library, called by a peer: the x86-64 program of `peer/peer.c`, which the
-//! toolchain's emulator runs and which says there how requests and answers look.
+//! The library, called by a peer: the x86-64 program of `peer/peer.c`, which says there how
+//! requests and answers look. Where the processor is another, the toolchain's emulator runs it.
 
-use super::{Function, Measured, Register, REGISTERS};
-use crate::values::{Book, Dropped, Figure, Opening, Plan, Reading, Reported, Rule, Written};
+use super::Function;
+use crate::exports::MEASURE_OP;
+use crate::values::*;
 use std::cell::RefCell;
 use std::io::{BufReader, Error, Read, Write};
 use std::mem::MaybeUninit;
 use std::process::{Child, ChildStdout, Command, Stdio};
 use std::slice;
 
-#[cfg(target_endian = "big")]
-compile_error!("values cross to the peer as they are, little end first");
+#[cfg(not(all(target_endian = "little", target_pointer_width = "64")))]
+compile_error!("values cross to the peer as they are, little end first, lengths of 8 bytes");
 
-pub fn read_plan(text: &[u8]) -> Reading {
-    Request::to(Function::ReadPlan).slice(text).answer()
+include!(concat!(env!("OUT_DIR"), "/peer.rs"));
+
+/// The stack that a call took, in bytes: the values that the C ABI passes in memory, the return
+/// address, and all below it. The place of an answer is the caller's. And the code that it answered.
+#[repr(C)]
+#[derive(Clone, Copy, PartialEq, Eq, Debug)]
+pub struct Measured {
+    pub used: u32,
+    pub code: u32,
 }
 
-pub fn is_accepted(plan: &Plan) -> u32 {
-    Request::to(Function::IsAccepted).value(plan).answer()
+/// A call on a stack of its own, which was filled with a pattern: what no longer holds it was used.
+pub struct Measuring {
+    function: Function,
+    in_memory: Vec<u8>,
+    registers: Vec<u8>,
+    count: u8,
 }
 
-pub fn write_plan(plan: &Plan, out: &mut [u8]) -> Written {
-    let request = Request::to(Function::WritePlan).value(plan).slice(out);
-    request.answer_and_lent(out)
-}
-
-pub fn open_book(plan: &Plan, rule: Rule) -> Opening {
-    let request = Request::to(Function::OpenBook).value(plan);
-    request.value(&u8::from(rule == Rule::Clash)).answer()
-}
-
-pub fn is_sound(book: &Book) -> u32 {
-    Request::to(Function::IsSound).value(book).answer()
-}
-
-pub fn report(book: &Book, task: u32, tick: u32) -> Reported {
-    let request = Request::to(Function::Report).value(book);
-    request.value(&task).value(&tick).answer()
-}
-
-pub fn drop_task(book: &Book, task: u32) -> Dropped {
-    let request = Request::to(Function::Drop).value(book);
-    request.value(&task).answer()
-}
-
-pub fn minimum_early(book: &Book) -> Figure {
-    Request::to(Function::MinimumEarly).value(book).answer()
-}
-
-/// Writes the log into the buffer and answers its length.
-pub fn write_log(plan: &[u8], ends: &[u8], out: &mut [u8]) -> usize {
-    let request = Request::to(Function::RunLog).slice(plan).slice(ends);
-    let length: u64 = request.slice(out).answer_and_lent(out);
-    length as usize
-}
-
-pub fn convert(plan: &Plan) -> Reading {
-    Request::to(Function::Convert).value(plan).answer()
-}
-
-pub fn read_exclusive(text: &[u8]) -> Reading {
-    Request::to(Function::ReadExclusive).slice(text).answer()
-}
-
-/// Writes what `convert` prints into the buffer and answers its length.
-pub fn write_converted(text: &[u8], out: &mut [u8]) -> usize {
-    let request = Request::to(Function::ConvertText).slice(text).slice(out);
-    let length: u64 = request.answer_and_lent(out);
-    length as usize
-}
-
-/// Calls the function with one value in memory and these registers, on a stack of its own.
-pub fn measure(function: Function, in_memory: &[u8], registers: [Register; REGISTERS]) -> Measured {
-    let mut request = Request::with(b'?').value(&(function as u8));
-    request = request.slice(in_memory);
-    for register in registers {
-        request = match register {
-            Register::Number(number) => request.value(&0u8).value(&(number as u64)),
-            Register::Lent(bytes) => request.value(&1u8).slice(bytes),
-            Register::Place => request.value(&2u8),
-        };
+impl Measuring {
+    pub fn of(function: Function) -> Measuring {
+        Measuring {
+            function,
+            in_memory: Vec::new(),
+            registers: Vec::new(),
+            count: 0,
+        }
     }
-    request.answer()
+
+    /// The address of a place for an answer too large for registers; comes first.
+    pub fn place(self) -> Measuring {
+        self.register(2, &[])
+    }
+
+    pub fn number(self, number: u64) -> Measuring {
+        self.register(0, &number.to_le_bytes())
+    }
+
+    /// The address of these bytes, and their length.
+    pub fn slice(self, bytes: &[u8]) -> Measuring {
+        let length = bytes.len() as u64;
+        let slice = [&(length as u32).to_le_bytes(), bytes].concat();
+        self.register(1, &slice).number(length)
+    }
+
+    /// A value too large for registers: it stands in memory, at a multiple of 8 bytes.
+    pub fn value<T: Raw>(mut self, value: &T) -> Measuring {
+        assert!(size_of::<T>() > 16 && align_of::<T>() <= 8);
+        self.in_memory.extend_from_slice(bytes_of(value));
+        let end = self.in_memory.len().next_multiple_of(8);
+        self.in_memory.resize(end, 0);
+        self
+    }
+
+    fn register(mut self, kind: u8, held: &[u8]) -> Measuring {
+        self.registers.push(kind);
+        self.registers.extend_from_slice(held);
+        self.count += 1;
+        self
+    }
+
+    pub fn measured(self) -> Measured {
+        let request = Request::with(MEASURE_OP).value(&(self.function as u8));
+        let mut request = request.slice(&self.in_memory).value(&self.count);
+        request.0.extend_from_slice(&self.registers);
+        request.answer()
+    }
 }
 
 /// Values without references, which cross as their bytes; any bytes are such a value.
 ///
 /// # Safety
 /// That must be so: numbers, and arrays and C structs of numbers, are such values.
-unsafe trait Raw: Copy {}
-unsafe impl Raw for u8 {}
-unsafe impl Raw for u32 {}
-unsafe impl Raw for u64 {}
-unsafe impl Raw for Plan {}
-unsafe impl Raw for Book {}
-unsafe impl Raw for Reading {}
-unsafe impl Raw for Opening {}
-unsafe impl Raw for Reported {}
-unsafe impl Raw for Dropped {}
-unsafe impl Raw for Figure {}
-unsafe impl Raw for Written {}
+pub unsafe trait Raw: Copy {}
+unsafe impl<const N: usize> Raw for [u8; N] {}
 unsafe impl Raw for Measured {}
+
+/// A value as it lies in memory. Bytes between fields go along, and nobody looks at them.
+fn bytes_of<T: Raw>(value: &T) -> &[u8] {
+    let start = std::ptr::from_ref(value).cast::<u8>();
+    unsafe { slice::from_raw_parts(start, size_of::<T>()) }
+}
 
 const LENGTH_BYTES: usize = 4;
 
@@ -119,10 +113,7 @@ impl Request {
     }
 
     fn value<T: Raw>(mut self, value: &T) -> Request {
-        let start = std::ptr::from_ref(value).cast::<u8>();
-        // Bytes between fields go along, and nobody looks at them.
-        let bytes = unsafe { slice::from_raw_parts(start, size_of::<T>()) };
-        self.0.extend_from_slice(bytes);
+        self.0.extend_from_slice(bytes_of(value));
         self
     }
 
@@ -152,6 +143,18 @@ thread_local! {
     static PEER: RefCell<Peer> = RefCell::new(Peer::start());
 }
 
+/// What starts the x86-64 program that it is handed.
+fn loader() -> Command {
+    let loader = env!("PEER_LOADER");
+    let Some(emulator) = option_env!("PEER_EMULATOR") else {
+        return Command::new(loader);
+    };
+    let mut emulated = Command::new(emulator);
+    // Fast string copies are slow when emulated, byte by byte: the C library takes others.
+    emulated.args(["-cpu", "max,-erms", loader]);
+    emulated
+}
+
 /// Its requests go to the child's standard input.
 struct Peer {
     child: Child,
@@ -160,17 +163,14 @@ struct Peer {
 
 impl Peer {
     fn start() -> Peer {
-        let mut child = Command::new(env!("PEER_EMULATOR"))
-            // Fast string copies are slow when emulated, byte by byte: the C library takes others.
-            .args(["-cpu", "max,-erms"])
-            .args([env!("PEER_LOADER"), "--library-path"])
-            .args([env!("PEER_LIBRARIES"), env!("PEER")])
+        let mut child = loader()
+            .args(["--library-path", env!("PEER_LIBRARIES"), env!("PEER")])
             .env_clear()
             .stdin(Stdio::piped())
             .stdout(Stdio::piped())
             .stderr(Stdio::piped())
             .spawn()
-            .expect("the emulator starts");
+            .expect("the peer starts");
         let answers = child.stdout.take().expect("it is piped");
         Peer {
             child,

@@ -1,17 +1,24 @@
 //! The built programs, run in a folder, and folders to run them in.
 
+use std::collections::BTreeSet;
 use std::fs;
 use std::path::{Path, PathBuf};
 use std::process::Command;
+use std::sync::Mutex;
 
 /// A path below the repository's root.
 pub fn at_root(path: &str) -> PathBuf {
     Path::new(env!("CARGO_MANIFEST_DIR")).join("..").join(path)
 }
 
-/// An empty folder of that name below a test's `CARGO_TARGET_TMPDIR`.
+static HANDED_OUT: Mutex<BTreeSet<PathBuf>> = Mutex::new(BTreeSet::new());
+
+/// An empty folder of that name below a test's `CARGO_TARGET_TMPDIR`. Tests run side by side,
+/// so none is handed out twice.
 pub fn empty_folder(below: &str, name: &str) -> PathBuf {
     let folder = Path::new(below).join(name);
+    let is_new = HANDED_OUT.lock().unwrap().insert(folder.clone());
+    assert!(is_new, "two tests name a folder {name}");
     let _ = fs::remove_dir_all(&folder);
     fs::create_dir_all(&folder).unwrap();
     folder
@@ -28,8 +35,8 @@ pub fn program_in(name: &str, folder: &Path) -> Command {
     command
 }
 
-/// The folders in that one.
-pub fn folders_below(folder: &Path) -> Vec<PathBuf> {
+/// The folders and files in that folder.
+pub fn entries_below(folder: &Path) -> Vec<PathBuf> {
     let entries = fs::read_dir(folder).unwrap();
     entries.map(|entry| entry.unwrap().path()).collect()
 }
@@ -37,7 +44,7 @@ pub fn folders_below(folder: &Path) -> Vec<PathBuf> {
 /// The folders below that one, at any depth, in which a log is kept.
 pub fn cases_below(folder: &Path) -> Vec<PathBuf> {
     let mut cases = Vec::new();
-    for below in folders_below(folder) {
+    for below in entries_below(folder) {
         if below.join("log.txt").exists() {
             cases.push(below);
         } else if below.is_dir() {

@@ -6,12 +6,15 @@ use crate::values::{refusal, Answer};
 use std::io::Write;
 use std::time::Instant;
 
+/// The refusal numbers are 1 to 28; 0 is where nothing is refused.
+const CODES: usize = 29;
+
 pub struct Tally {
     title: &'static str,
     since: Instant,
     compared: u64,
     compared_before: u64,
-    by_code: [u64; 21],
+    by_code: [u64; CODES],
 }
 
 impl Tally {
@@ -21,7 +24,7 @@ impl Tally {
             since: Instant::now(),
             compared: 0,
             compared_before: 0,
-            by_code: [0; 21],
+            by_code: [0; CODES],
         }
     }
 

@@ -1,7 +1,10 @@
 use Rattle.book.proofs.ReportLaws.{opening-refused, opening-granted}
 use Rattle.book.proofs.Fits.{fit-blank}
-use Rattle.book.proofs.Handed.{blank-plan, blank-rule, none-dropped, cleared, opened-laid}
-use Rattle.book.proofs.WaitLaws.{known-is, known-accepted, fit-seen, settled-seen}
+use Rattle.book.proofs.LaidOut.{blank-plan, blank-rule, none-dropped, opened-laid}
+use Rattle.book.proofs.WaitLaws.{fit-seen, settled-seen}
+use Rattle.sound.proofs.WaitLaws.{known-is}
+use Rattle.laws.proofs.Cases.{and-l}
+use Rattle.waits.specs.declared.Waits.{Waits}
 use Rattle.book.specs.Open.{blankBook}
 use Rattle.book.specs.View.{planIn}
 use Rattle.plan.specs.Value.{isAccepted}
@@ -9,7 +12,7 @@ use Rattle.view.specs.View.{isRule}
 use Prim.Native.Nat.{ℕ}
 use mathlib.Core.Bool.{_&&_}
 use mathlib.Core.Logic.{⊎-elim}
-use mathlib.Core.Path.{ap, _∙_}
+use mathlib.Core.Path.{sym, ap, _∙_}
 use borrow.Author.Needs.{needs}
 use Rattle.book.proofs.open_book.Statement.{statement}
 use Rattle.book.proofs.open_book.Tie as tie
@@ -36,8 +39,12 @@ settle-requires c κs =
     let blank = c .before .before .before .before .before .before .before .before .before .before .before .before .before .before .before .before .before .blank-book .ensures ∙ ap (λ (n : ℕ). blankBook n (a .plan)) (c .before .before .before .before .before .before .before .before .before .before .before .before .before .before .before .before .before .before .number-of .ensures) in
     let waits = c .before .before .before .before .before .before .before .before .before .wait-sets .ensures in
     let known = c .before .before .before .before .before .before .before .before .if1 .taken in
-    fit-seen book waits known _
-    (fit-blank (book .rule) (planIn book) (known-accepted (book .rule) (planIn book) waits known) (book .dropped) (c .unmoved .ensures) (none-dropped (a .plan) (a .rule) blank))
+    let good = sym (known-is (book .rule) (planIn book) waits) ∙ known in
+    fit-seen book good (ap (λ (x : Waits). x .sets) waits) _
+    (fit-blank (book .rule) (planIn book) (and-l _ _ good) (book .dropped) (c .unmoved .ensures) (none-dropped (a .plan) (a .rule) blank))
+
+zero-book-requires : tie.Need-zero-book-requires
+zero-book-requires c κs = search needs
 
 answer-of-requires : tie.Need-answer-of-requires
 answer-of-requires c κs = search needs
@@ -52,8 +59,8 @@ returns c =
     ⊎-elim
     (λ w.
     opening-granted (a .plan) (a .rule) ok (c .answer-of .ensures) (w .0 .taken) (w .14)
-    (w .13 ∙ opened-laid (a .plan) (a .rule) b (w .8 .ensures) (settled-seen book waits (w .0 .taken) _ (w .9 .ensures))))
-    (λ w. opening-refused (a .plan) (a .rule) ok (c .answer-of .ensures) (w .0 .left) (w .8) (w .7 ∙ cleared (a .plan) (a .rule) b))
+    (w .13 ∙ opened-laid (a .plan) (a .rule) b (w .8 .ensures) (settled-seen book (sym (known-is (book .rule) (planIn book) waits) ∙ w .0 .taken) (ap (λ (x : Waits). x .sets) waits) _ (w .9 .ensures))))
+    (λ w. opening-refused (a .plan) (a .rule) ok (c .answer-of .ensures) (w .0 .left) (w .3) (w .2 ∙ w .1 .ensures))
     (c .before .if1 .came)
 
 pub open-book-spec : {M : Type 1} → statement M
@@ -66,5 +73,6 @@ open-book-spec =
     unmoved-requires
     cast-settle
     settle-requires
+    zero-book-requires
     answer-of-requires
     returns)

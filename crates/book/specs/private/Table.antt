@@ -8,7 +8,7 @@ use lib.Dec.{eqb}
 use lib.ListN.{getD}
 use Rattle.laws.specs.Each.{each}
 use Rattle.laws.specs.Every.{every}
-use Rattle.laws.specs.Picked.{lastOf}
+use Rattle.laws.specs.private.Last.{lastOf}
 use Rattle.theory.specs.Plan.{Plan}
 use Rattle.theory.specs.Book.{Book, waiting, ended, isDropped}
 use Rattle.plan.specs.Value.{at}
@@ -19,11 +19,7 @@ use Rattle.book.specs.declared.Moved.{Moved}
 abbrev pub waitsOn : Plan → (ℕ → ℕ) → ℕ → ℕ → ℕ → Bool
 waitsOn plan board i on k = plan .waits i k && eqb (board k) on
 
--- the last task of the board that i waits for, counted from 1; 0 for none
-abbrev pub lastTask : Plan → (ℕ → ℕ) → ℕ → ℕ → ℕ
-lastTask plan board i on = lastOf (plan .tasks) (waitsOn plan board i on) (plan .finish)
-
--- that task, if there is one, has ended
+-- the task counted l from 1, if there is one, has ended
 abbrev pub hasEnded : (ℕ → ℕ) → ℕ → Bool
 hasEnded mark l = eqb l 0 || ended mark (l - 1)
 

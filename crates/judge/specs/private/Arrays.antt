@@ -1,19 +1,12 @@
 -- Short names for what single functions say of lent arrays.
 use Prim.Native.Nat.{ℕ, _+_, _-_, _≤_, _<_}
 use mathlib.Core.Path.{_≡_}
-use mathlib.Core.Bool.{Bool, true, false, not, cond, _&&_, _||_}
+use mathlib.Core.Bool.{Bool, true, false, not, _&&_, _||_}
 use mathlib.Core.List.{List}
 use lib.Dec.{ltb, eqb}
 use Rattle.laws.specs.Lists.{anyOf}
-use Rattle.plan.specs.Task.{Task, taskOf}
 use Rattle.plan.specs.Pairs.{isListed}
 use Rattle.plan.specs.Value.{at, row, items}
-use Rattle.drives.specs.Drives.{setsClash}
-
--- the tasks that arrays hold, whose ready ticks no pair looks at
-abbrev pub tasksIn : List ℕ → List ℕ → List ℕ → List ℕ → List ℕ → ℕ → Task
-tasksIn board begin finish holds after k =
-    taskOf (at board k) 0 (at begin k) (at finish k) (items (row 32 holds k)) (items (row 64 after k))
 
 abbrev pub overlapsIn : List ℕ → List ℕ → ℕ → ℕ → Bool
 overlapsIn begin finish a b = ltb (at begin a) (at finish b) && ltb (at begin b) (at finish a)
@@ -23,17 +16,6 @@ meetIn begin finish a b = not (eqb a b) && overlapsIn begin finish a b
 
 abbrev pub breaksIn : List ℕ → List ℕ → List ℕ → ℕ → ℕ → Bool
 breaksIn begin finish after a b = ltb (at begin a) (at finish b) && isListed (items (row 64 after a)) (b + 1)
-
--- by the sets of the drives that each task holds exclusively and of all that it holds
-abbrev pub drivesMeet : List ℕ → List ℕ → ℕ → ℕ → Bool
-drivesMeet exclusive held a b = setsClash (at exclusive a) (at held a) (at exclusive b) (at held b)
-
--- the code of a pair, by these sets
-abbrev pub codeIn : List ℕ → List ℕ → List ℕ → List ℕ → List ℕ → List ℕ → ℕ → ℕ → ℕ
-codeIn board begin finish exclusive held after a b =
-    cond (meetIn begin finish a b && eqb (at board a) (at board b)) 6
-    (cond (meetIn begin finish a b && drivesMeet exclusive held a b) 7
-    (cond (breaksIn begin finish after a b || breaksIn begin finish after b a) 8 0))
 
 -- the listed task is no task, or its planned finish is past the tick
 abbrev pub isLate : List ℕ → ℕ → ℕ → Bool

@@ -1,64 +1,53 @@
--- Names for what single functions say: lines made from lent arrays, and how long they can be.
+-- Names for what single functions say: the lines of a book by the marks before, and how long they can be.
 use Prim.Native.Nat.{ℕ, zero, suc, _+_, _-_, _*_, _<_, _≤_}
 use mathlib.Core.Bool.{Bool, cond, not, _&&_}
-use mathlib.Core.List.{List, [], _∷_, _++_}
+use mathlib.Core.List.{List, [], _++_}
 use lib.Dec.{eqb}
 use lib.ListN.{replicate}
-use Rattle.text.specs.Bytes.{bytes}
-use Rattle.theory.specs.Book.{isDropped}
-use Rattle.plan.specs.Answer.{isGranted}
+use Rattle.laws.specs.private.Count.{count}
+use Rattle.plan.specs.Answer.{granted, isGranted}
 use Rattle.plan.specs.Value.{at}
-use Rattle.plan.specs.declared.Answer.{Answer}
+use Rattle.book.specs.declared.Book.{Book}
 use Rattle.book.specs.declared.Rule.{Rule}
 use Rattle.book.specs.declared.Rule.the-variants.{EarlyStart, Clash}
 use Rattle.entries.specs.declared.Choice.{Choice}
 use Rattle.entries.specs.declared.Choice.the-variants.{Unsaid, Chosen, Malformed}
 use Rattle.entries.specs.declared.Entry.{Entry}
 use Rattle.entries.specs.declared.Entry.the-variants.{End, Drop, Refused}
-use Rattle.lines.specs.Lines.{numbersLine, runBy, taskLine, startWord, refusedLine}
+use Rattle.log_lines.specs.Lines.{refusedLine}
+use Rattle.log.specs.Lines.{runLine, startLine, endLine, dropLine, earlyLine}
+use Rattle.log.specs.declared.Shown.{Shown}
 
 -- task i waited by the old marks and waits no longer by the new ones
 abbrev pub starting : List ℕ → List ℕ → ℕ → Bool
 starting old mark i = eqb (at old i) 0 && not (eqb (at mark i) 0)
 
-abbrev pub startIn : List ℕ → List ℕ → List ℕ → List ℕ → List ℕ → List ℕ → ℕ → List ℕ
-startIn old mark dropped board begin start i =
-    cond (starting old mark i)
-    (taskLine (startWord (isDropped (at dropped) i)) (i + 1) (at board i) (at begin i) (at start i))
-    []
+-- the `start` and `skip` lines of a book's tasks below n
+unfoldable pub startsIn : List ℕ → Book → ℕ → List ℕ
+startsIn old book zero = []
+startsIn old book (suc n) = startsIn old book n ++ cond (starting old (book .mark) n) (startLine book n) []
 
-unfoldable pub startsIn : List ℕ → List ℕ → List ℕ → List ℕ → List ℕ → List ℕ → ℕ → List ℕ
-startsIn old mark dropped board begin start zero = []
-startsIn old mark dropped board begin start (suc n) =
-    startsIn old mark dropped board begin start n ++ startIn old mark dropped board begin start n
+-- how many of a book's tasks started
+abbrev pub started : List ℕ → Book → ℕ
+started old book = count (book .tasks) (starting old (book .mark))
 
-abbrev pub earlyIn : ℕ → ℕ → List ℕ
-earlyIn clock early = numbersLine (bytes "early") (clock ∷ early ∷ [])
-
-abbrev pub openedIn : ℕ → ℕ → ℕ → List ℕ → List ℕ → List ℕ → List ℕ → List ℕ → ℕ → ℕ → List ℕ
-openedIn rule boards tasks mark dropped board begin start clock early =
-    runBy rule boards tasks
-    ++ (startsIn (replicate 64 0) mark dropped board begin start tasks ++ earlyIn clock early)
+abbrev pub openedIn : Book → ℕ → List ℕ
+openedIn book early =
+    runLine book
+    ++ (startsIn (replicate 64 0) book (book .tasks) ++ earlyLine (record { answer = granted; book = book; early = early }))
 
 -- what a report prints but for the `early` line
-abbrev pub endedIn : ℕ → List ℕ → List ℕ → List ℕ → List ℕ → List ℕ → List ℕ → List ℕ → List ℕ → ℕ → List ℕ
-endedIn task old mark dropped board begin start finish end tasks =
-    taskLine (bytes "end") task (at board (task - 1)) (at finish (task - 1)) (at end (task - 1))
-    ++ startsIn old mark dropped board begin start tasks
+abbrev pub endedIn : ℕ → List ℕ → Book → List ℕ
+endedIn task old book = endLine book task ++ startsIn old book (book .tasks)
 
-abbrev pub linesIn : Entry → List ℕ → List ℕ → List ℕ → List ℕ → List ℕ → List ℕ → List ℕ → List ℕ → ℕ → List ℕ
-linesIn (End task tick) old mark dropped board begin start finish end tasks =
-    endedIn task old mark dropped board begin start finish end tasks
-linesIn (Drop task) old mark dropped board begin start finish end tasks =
-    numbersLine (bytes "drop") (task ∷ at board (task - 1) ∷ [])
-linesIn (Refused code column) old mark dropped board begin start finish end tasks = []
+abbrev pub linesIn : Entry → List ℕ → Book → List ℕ
+linesIn (End task tick) old book = endedIn task old book
+linesIn (Drop task) old book = dropLine book task
+linesIn (Refused code column) old book = []
 
-abbrev pub toldIn :
-    Entry → Answer → List ℕ → List ℕ → List ℕ → List ℕ → List ℕ → List ℕ → List ℕ → List ℕ → ℕ → ℕ → ℕ → List ℕ
-toldIn entry answer old mark dropped board begin start finish end tasks clock early =
-    cond (isGranted answer)
-    (linesIn entry old mark dropped board begin start finish end tasks ++ earlyIn clock early)
-    (refusedLine answer)
+abbrev pub toldIn : Entry → List ℕ → Shown → List ℕ
+toldIn entry old told =
+    cond (isGranted (told .answer)) (linesIn entry old (told .book) ++ earlyLine told) (refusedLine (told .answer))
 
 -- at most so many bytes, by how many tasks started
 abbrev pub linesMost : Entry → ℕ → ℕ
@@ -66,8 +55,8 @@ linesMost (End task tick) started = 52 + 52 * started
 linesMost (Drop task) started = 30
 linesMost (Refused code column) started = 0
 
-abbrev pub toldMost : Entry → Answer → ℕ → ℕ
-toldMost entry answer started = cond (isGranted answer) (linesMost entry started + 30) 41
+abbrev pub toldMost : Entry → List ℕ → Shown → ℕ
+toldMost entry old told = cond (isGranted (told .answer)) (linesMost entry (started old (told .book)) + 30) 41
 
 -- a column that an answer can say
 abbrev pub Short : Entry → Type 0

@@ -12,7 +12,7 @@ use Rattle.laws.specs.Split.{after}
 use Rattle.laws.specs.Lists.{same}
 use Rattle.text.specs.Bytes.{bytes}
 use Rattle.text.specs.Line.{LF, lineAt, field}
-use Rattle.theory.specs.Events.{Event}
+use Rattle.theory.specs.words.Events.{Event}
 use Rattle.plan.specs.Answer.{granted, isGranted}
 use Rattle.plan.specs.Value.{isAccepted, taskAt}
 use Rattle.plan.specs.Read.{readingOf}
@@ -23,12 +23,12 @@ use Rattle.plan.specs.declared.Plan.{Plan}
 use Rattle.plan.specs.declared.Reading.{Reading}
 use Rattle.plan.proofs.ReadOk.{read-answer, read-accepted, read-sized}
 use Rattle.plan.proofs.Converted.{exclusive-sized, converted-plan, converted-accepted}
-use Rattle.rounds.proofs.RoundPlan.{plan-back}
+use Rattle.round_trips.proofs.RoundPlan.{plan-back}
 use Rattle.book.specs.View.{layOut}
 use Rattle.book.specs.Open.{ruleNumber, blankBook, openedOn}
 use Rattle.book.specs.Early.{figureOf}
-use Rattle.book.specs.Event.{answerTo, bookTold}
-use Rattle.book.specs.Sized.{SizedPlan}
+use Rattle.book.specs.words.Event.{answerTo, bookTold}
+use Rattle.book.specs.words.Sized.{SizedPlan}
 use Rattle.book.specs.declared.Book.{Book}
 use Rattle.book.specs.declared.Figure.{Figure}
 use Rattle.book.specs.declared.Rule.{Rule}
@@ -39,14 +39,14 @@ use Rattle.entries.specs.declared.Entry.the-variants.{End, Drop, Refused}
 use Rattle.entries.specs.Rules.{choiceOf}
 use Rattle.entries.specs.declared.Choice.{Choice}
 use Rattle.entries.specs.declared.Choice.the-variants.{Unsaid, Chosen, Malformed}
-use Rattle.lines.specs.Lines.{refusedLine}
+use Rattle.log_lines.specs.Lines.{refusedLine}
 use Rattle.log.specs.Lines.{runLine, endLine, startLines, hasStarted, startLine, earlyLine}
 use Rattle.log.specs.Log.{shownAfter, openLog, toldOf, linesOf, toldLog, endsLog, restLog, chosenLog, logOf}
 use Rattle.log.specs.declared.Shown.{Shown}
-use Rattle.editions.specs.Renewed.{renewedText}
+use Rattle.converter.specs.Renewed.{renewedText}
 use Rattle.promises.specs.Conversion.{Unshared, exclusiveBook}
 use Rattle.promises.proofs.RunView.{Good, good-event, opened-good, opened-is}
-use Rattle.promises.proofs.codes.Conversion.{SameWaits, BothWays, early-waits, unshared-waits, answer-same, told-same, figure-same, both-told, on-same, both-opened}
+use Rattle.promises.proofs.codes.ConvertedBook.{SameWaits, BothWays, early-waits, unshared-waits, answer-same, told-same, figure-same, both-told, on-same, both-opened}
 
 -- ---- the lines of a book look at neither its plan's edition nor its holds
 

@@ -1,26 +1,32 @@
 -- What a line of ends.txt says, and the column that a refused one names.
 use Prim.Native.Nat.{ℕ, zero, suc, _≤_, _<_}
-use mathlib.Core.Path.{_≡_, refl}
+use mathlib.Core.Path.{_≡_, refl, sym, _∙_}
 use mathlib.Core.Logic.{_≢_, inl}
-use mathlib.Core.Bool.{Bool}
-use mathlib.Core.List.{List}
+use mathlib.Core.Bool.{Bool, true, false}
+use mathlib.Core.List.{List, [], _∷_}
 use native.Mathlib.Omega.{arith}
 use lib.ListN.{length}
 use borrow.Author.Tests.{eq-eqb, ne-eqb}
-use Rattle.laws.proofs.Cases.{by-bool, by-eq}
-use Rattle.laws.specs.Lists.{same}
+use Rattle.laws.proofs.Cases.{by-bool, by-eq, by-le, and-of, true-false}
+use Rattle.laws.specs.Lists.{allOf, same}
 use Rattle.laws.specs.Split.{before}
 use Rattle.text.specs.Bytes.{bytes}
-use Rattle.text.specs.Number.{isNumber, numberOf}
+use Rattle.text.specs.Number.{isNumber, valueOf, most, numberOf}
 use Rattle.text.specs.Line.{LF, hasLine, fields, field}
-use Rattle.faults.specs.Faults.{wordCode, worst, columnOf, faultOf}
+use Rattle.line_faults.specs.Faults.{wordCode, worst, columnOf, faultOf}
 use Rattle.plan.specs.Value.{at}
-use Rattle.entries.specs.Entries.{entryCode, endCodes, dropCodes, unlessFault, entryOf, nextEntry}
+use Rattle.entries.specs.Entries.{endCodes, dropCodes, unlessFault, entryOf, nextEntry}
 use Rattle.entries.specs.declared.Entry.{Entry}
-use Rattle.entries.specs.declared.Entry.the-variants.{Refused}
 use Rattle.promises.specs.Columns.{ColumnSays}
-use Rattle.promises.specs.Says.{EntrySays}
-use Rattle.faults.proofs.Alike.{Plain, field-plain}
+use Rattle.promises.specs.Says.{entryAnswer, EntrySays}
+use Rattle.plan.specs.Answer.{refuse}
+use Rattle.line_faults.proofs.FaultLaws.{field-is-code, word-is-code, end-is-code, faultless-is, zero-at, word-zero, end-zero}
+use Rattle.line_faults.proofs.RangedLaws.{field-zero}
+use Rattle.text.proofs.Numerals.{number-spelt}
+use Rattle.laws.proofs.Seams.{places-own}
+use Rattle.laws.proofs.Lists.{same-eq}
+use Rattle.laws.specs.Digits.{digitsOf}
+use Rattle.line_faults.proofs.Alike.{Plain, field-plain}
 use Rattle.promises.proofs.codes.Columns.{word-plain, end-plain, worst-plain, column-says, no-field}
 
 module _ (line : List ℕ) (ended : Bool) where
@@ -60,26 +66,73 @@ module _ (line : List ℕ) (ended : Bool) where
   unfolding dropCodes
   drop-column = column-says 2 ended line (dropCodes ended line) refl refl drop-missing
 
--- the code of an entry is that of its line
-fault-code : (line codes : List ℕ) (entry : Entry) → worst codes ≢ 0 → unlessFault (faultOf line codes) entry ≡ Refused (worst codes) (columnOf line codes (worst codes))
+-- the answer of an entry is that of its line
+fault-answer :
+    (n : ℕ) (line codes : List ℕ) (entry : Entry) → worst codes ≢ 0
+    → entryAnswer n (unlessFault (faultOf line codes) entry) ≡ refuse (worst codes) n (columnOf line codes (worst codes))
 unfolding faultOf
-fault-code line codes entry n = rw (ne-eqb (worst codes) 0 n)
+fault-answer n line codes entry d = rw (ne-eqb (worst codes) 0 d)
 
-fault-none : (line codes : List ℕ) (entry : Entry) → entryCode entry ≡ 0 → worst codes ≡ 0 → entryCode (unlessFault (faultOf line codes) entry) ≡ 0
+fault-none : (line codes : List ℕ) (entry : Entry) → worst codes ≡ 0 → unlessFault (faultOf line codes) entry ≡ entry
 unfolding faultOf
-fault-none line codes entry e z = rw (eq-eqb (worst codes) 0 z) e
+fault-none line codes entry z = rw (eq-eqb (worst codes) 0 z)
 
-pub entry-says : (text : List ℕ) → EntrySays text (nextEntry text)
+-- a faultless line is its word and its numbers
+module _ (line : List ℕ) (ended : Bool) where
+  -- a number's field is there
+  there : (n : ℕ) → isNumber (field line n) ≡ true → n < length (fields line)
+  unfolding isNumber
+  there n e =
+      by-le (length (fields line)) n
+      (λ few. let z : false ≡ true = rw (no-field line n few) at e in true-false z refl)
+      (λ l. l)
+
+  end-spelt :
+      worst (endCodes ended line) ≡ 0
+      → (ended ≡ true)
+      × (fields line ≡ bytes "end" ∷ digitsOf (valueOf (field line 1)) ∷ digitsOf (valueOf (field line 2)) ∷ [])
+      × (valueOf (field line 1) ≤ most) × (valueOf (field line 2) ≤ most)
+  unfolding endCodes allOf
+  end-spelt z =
+      let kinds =
+      and-of (word-is-code (bytes "end") (field line 0))
+      (and-of (field-is-code 0 most (field line 1)) (and-of (field-is-code 0 most (field line 2)) (and-of (end-is-code ended 3 line) refl))) in
+      let all = zero-at (endCodes ended line) (faultless-is (endCodes ended line) kinds ∙ eq-eqb (worst (endCodes ended line)) 0 z) in
+      let a = field-zero 0 most (field line 1) (omega arith) (all 1 (omega arith)) in
+      let b = field-zero 0 most (field line 2) (omega arith) (all 2 (omega arith)) in
+      let e = end-zero ended 3 line (all 3 (omega arith)) in
+      let word = same-eq (field line 0) (bytes "end") (word-zero (bytes "end") (field line 0) (all 0 (omega arith))) in
+      let one = number-spelt (field line 1) (a .spelt) in
+      let two = number-spelt (field line 2) (b .spelt) in
+      let own = places-own (fields line) [] 3 (omega (arith, e .1, there 2 (b .spelt))) in
+      (e .0, sym own ∙ (λ i. word i ∷ sym one i ∷ sym two i ∷ []), a .to, b .to)
+
+  drop-spelt :
+      worst (dropCodes ended line) ≡ 0
+      → (ended ≡ true) × (fields line ≡ bytes "drop" ∷ digitsOf (valueOf (field line 1)) ∷ []) × (valueOf (field line 1) ≤ most)
+  unfolding dropCodes allOf
+  drop-spelt z =
+      let kinds =
+      and-of (word-is-code (bytes "drop") (field line 0)) (and-of (field-is-code 0 most (field line 1)) (and-of (end-is-code ended 2 line) refl)) in
+      let all = zero-at (dropCodes ended line) (faultless-is (dropCodes ended line) kinds ∙ eq-eqb (worst (dropCodes ended line)) 0 z) in
+      let a = field-zero 0 most (field line 1) (omega arith) (all 1 (omega arith)) in
+      let e = end-zero ended 2 line (all 2 (omega arith)) in
+      let word = same-eq (field line 0) (bytes "drop") (word-zero (bytes "drop") (field line 0) (all 0 (omega arith))) in
+      let one = number-spelt (field line 1) (a .spelt) in
+      let own = places-own (fields line) [] 2 (omega (arith, e .1, there 1 (a .spelt))) in
+      (e .0, sym own ∙ (λ i. word i ∷ sym one i ∷ []), a .to)
+
+pub entry-says : (n : ℕ) (text : List ℕ) → EntrySays n text (nextEntry text)
 unfolding nextEntry entryOf
-entry-says text =
+entry-says n text =
     let line = before LF text in
     let ended = hasLine text in
     by-bool (same (field line 0) (bytes "drop"))
     (λ d.
     by-eq (worst (dropCodes ended line)) 0
-    (λ z. EntrySays.said (rw d (fault-none line (dropCodes ended line) _ refl z)))
-    (λ n. EntrySays.refused-drop _ _ d (worst-plain (dropCodes ended line) (drop-plain-at line ended) n) (drop-column line ended n) (rw d (fault-code line (dropCodes ended line) _ n))))
+    (λ z. let s = drop-spelt line ended z in EntrySays.a-drop _ (s .2) (s .0) (s .1) (rw d (fault-none line (dropCodes ended line) _ z)))
+    (λ f. EntrySays.refused-drop _ _ d (worst-plain (dropCodes ended line) (drop-plain-at line ended) f) (drop-column line ended f) (rw d (fault-answer n line (dropCodes ended line) _ f))))
     (λ d.
     by-eq (worst (endCodes ended line)) 0
-    (λ z. EntrySays.said (rw d (fault-none line (endCodes ended line) _ refl z)))
-    (λ n. EntrySays.refused-end _ _ d (worst-plain (endCodes ended line) (end-plain-at line ended) n) (end-column line ended n) (rw d (fault-code line (endCodes ended line) _ n))))
+    (λ z. let s = end-spelt line ended z in EntrySays.an-end _ _ (s .2) (s .3) (s .0) (s .1) (rw d (fault-none line (endCodes ended line) _ z)))
+    (λ f. EntrySays.refused-end _ _ d (worst-plain (endCodes ended line) (end-plain-at line ended) f) (end-column line ended f) (rw d (fault-answer n line (endCodes ended line) _ f))))

@@ -2,7 +2,7 @@
 use Prim.Native.Nat.{ℕ, _+_, _-_, _≤_}
 use native.Mathlib.Omega.{arith}
 use mathlib.Core.Bool.{not, _&&_, _||_}
-use mathlib.Core.Path.{_≡_, refl, sym, ap, _∙_}
+use mathlib.Core.Path.{_≡_, refl, sym, ap, subst, _∙_}
 use mathlib.Core.Logic.{_⊎_, inl, inr, ⊎-elim}
 use lib.Dec.{eqb}
 use borrow.Author.Tests.{eq-eqb}
@@ -10,7 +10,9 @@ use Rattle.laws.proofs.Cases.{by-bool, by-eq}
 use Rattle.plan.specs.Task.{Task}
 use Rattle.plan.specs.Pairs.{overlap, sameBoard, clashByDrive, breaksAfter, pairCode}
 use Rattle.plan.proofs.FirstFault.{FirstPair}
-use Rattle.promises.specs.Says.{FirstFaulty}
+use Rattle.promises.specs.Ladder.{Ladder}
+use Rattle.promises.specs.Checks.{pairChecks, FirstFaulty}
+use Rattle.promises.proofs.codes.Clashes.{pair-ladder}
 
 abbrev pub PairNumber : ℕ → Type 0
 PairNumber code = (code ≡ 0) ⊎ ((6 ≤ code) × (code ≤ 8))
@@ -47,10 +49,12 @@ named tasks task f c =
       ordered = omega (arith, f .ordered);
       to = omega (arith, f .below);
       number = c;
-      faulty = rw (a, b);
+      faulty = rw (a, b) (pair-ladder task (f .a) (f .b));
       first = λ x y p h l w.
-          f .earlier (x - 1) (y - 1) (omega (arith, h)) (omega (arith, l, h, p))
-          (⊎-elim (λ m. inl (omega (arith, m, p))) (λ m. inr (omega (arith, m .0), omega (arith, m .1, h, p))) w);
+          subst (Ladder (pairChecks task (x - 1) (y - 1)))
+          (f .earlier (x - 1) (y - 1) (omega (arith, h)) (omega (arith, l, h, p))
+          (⊎-elim (λ m. inl (omega (arith, m, p))) (λ m. inr (omega (arith, m .0), omega (arith, m .1, h, p))) w))
+          (pair-ladder task (x - 1) (y - 1));
       two = λ n.
           by-eq (f .a) (f .b)
           (λ same.

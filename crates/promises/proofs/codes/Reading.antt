@@ -11,8 +11,9 @@ use borrow.Author.Tests.{ne-eqb, not-true, not-false, ltb-true}
 use Rattle.laws.proofs.Cases.{by-bool, by-eq, and-r}
 use Rattle.laws.proofs.Scan.{Found, Nothing, scan-cases}
 use Rattle.text.specs.Line.{hasLine, skip, lineAt, field}
-use Rattle.faults.specs.Faults.{worst, columnOf, faultOf}
+use Rattle.line_faults.specs.Faults.{worst, columnOf, faultOf}
 use Rattle.plan.specs.Answer.{refuse, granted, isGranted, isRefused}
+use Rattle.plan.specs.Task.{Task}
 use Rattle.plan.specs.Pairs.{firstFault}
 use Rattle.plan.specs.Judged.{beginsAtZero, leastStart, tasksAnswer}
 use Rattle.plan.specs.Value.{at, zeroPlan}
@@ -24,8 +25,9 @@ use Rattle.plan.proofs.Judged.{begins-none, none-begins, start-under, start-met
 use Rattle.plan.proofs.PlanTasks.{planOf-sized}
 use Rattle.plan.proofs.TextLines.{number-range, sizes-test}
 use Rattle.plan.proofs.ReadOk.{form-ok, form-tasks, read-answer, read-accepted}
-use Rattle.book.specs.Sized.{SizedPlan}
-use Rattle.promises.specs.Says.{FirstFaulty, BeginsLate, codesOf, SharedHold, ReadyLate, FirstFaultyLine, LineCode, ReadingSays}
+use Rattle.book.specs.words.Sized.{SizedPlan}
+use Rattle.promises.specs.Checks.{FirstFaulty}
+use Rattle.promises.specs.Says.{StartsLate, BeginsLate, codesOf, SharedHold, ReadyLate, FirstFaultyLine, LineCode, ReadingSays}
 use Rattle.promises.proofs.codes.Pairs.{pair-number, named}
 use Rattle.promises.proofs.codes.Columns.{plain-not, worst-kind}
 use Rattle.promises.proofs.codes.TaskLine.{task-column, task-faultless, first-plain, task-shared, task-unready}
@@ -39,6 +41,13 @@ line-says mends s k = refl
 line-column : (mends : Bool) (s : List ℕ) (k : ℕ) → worst (codesOf mends s k) ≢ 0 → faultOf (lineAt s k) (codesOf mends s k) .column ≡ columnOf (lineAt s k) (codesOf mends s k) (worst (codesOf mends s k))
 unfolding faultOf
 line-column mends s k n = rw (ne-eqb (worst (codesOf mends s k)) 0 n)
+
+-- the least planned start, where no task is planned at 0
+pub late-starts : (tasks : ℕ) (task : ℕ → Task) → 0 < tasks → beginsAtZero tasks task ≡ false → StartsLate tasks task (leastStart tasks task)
+late-starts tasks task some h =
+    let m = start-met tasks task some in
+    let n = begins-none tasks task h (m .0) (m .1) in
+    record { from = omega (arith, n, m .2); least = start-under tasks task; met = m }
 
 module _ (mends : Bool) (s : List ℕ) where
   refused-reading : (x : Answer) → textAnswer mends s ≡ x → x .code ≢ 0 → readIn mends s ≡ record { answer = x; plan = zeroPlan }
@@ -114,9 +123,7 @@ module _ (mends : Bool) (s : List ℕ) where
     begins-late : BeginsLate mends s (leastStart (tasksOf s) (textTask mends s))
     begins-late =
         let f = form-ok mends s (ap (λ (x : Answer). x .code) e) in
-        let m = start-met (tasksOf s) (textTask mends s) (form-tasks mends s f .0) in
-        let n = begins-none (tasksOf s) (textTask mends s) h (m .0) (m .1) in
-        record { lines = e; from = omega (arith, n, m .2); least = start-under (tasksOf s) (textTask mends s); met = m }
+        record { lines = e; starts = late-starts (tasksOf s) (textTask mends s) (form-tasks mends s f .0) h }
 
   tasks-say : formAnswer mends s ≡ granted → Says
   tasks-say e =
@@ -204,7 +211,7 @@ pub reading-late :
     → (readIn mends s .answer .code ≡ 17)
     ↔ ((formAnswer mends s ≡ granted) × ((k : ℕ) → k < tasksOf s → textTask mends s k .begin ≢ 0))
 reading-late mends s = (
-  λ h. let l = reading-start mends s h in (l .lines, λ k below z. omega (arith, l .from, l .least k below, z)),
+  λ h. let l = reading-start mends s h in (l .lines, λ k below z. omega (arith, l .starts .from, l .starts .least k below, z)),
   λ f.
       ap (λ (x : Answer). x .code) (read-answer mends s ∙ answer-late mends s (f .0) (none-begins (tasksOf s) (textTask mends s) (f .1))),
 )

@@ -14,7 +14,7 @@ use Rattle.laws.specs.Lists.{same, anyOf}
 use Rattle.laws.specs.Split.{before, joinOn}
 use Rattle.text.specs.Bytes.{bytes}
 use Rattle.text.specs.Line.{TAB, LF, hasLine, fields, field}
-use Rattle.faults.specs.Faults.{wordCode, endCode, worst, columnOf, faultOf}
+use Rattle.line_faults.specs.Faults.{wordCode, endCode, worst, columnOf, faultOf}
 use Rattle.plan.specs.Value.{at}
 use Rattle.entries.specs.Rules.{ruleCodes, choiceIn, choiceOf}
 use Rattle.promises.specs.Columns.{ColumnSays}

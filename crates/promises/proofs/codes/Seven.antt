@@ -17,9 +17,9 @@ use Rattle.laws.proofs.Split.{index-found}
 use Rattle.text.specs.Bytes.{bytes}
 use Rattle.text.specs.Number.{isNumber, valueOf}
 use Rattle.text.specs.Line.{hasLine, skip, lineAt, field}
-use Rattle.faults.specs.Faults.{worst, faultOf}
-use Rattle.faults.specs.declared.Fault.{Fault}
-use Rattle.faults.proofs.FaultLaws.{any-found}
+use Rattle.line_faults.specs.Faults.{worst, faultOf}
+use Rattle.line_faults.specs.declared.Fault.{Fault}
+use Rattle.line_faults.proofs.FaultLaws.{any-found}
 use Rattle.plan.specs.Answer.{refuse, granted, isGranted, isRefused}
 use Rattle.plan.specs.Judged.{tasksAnswer}
 use Rattle.plan.specs.Value.{at, planOf}
@@ -29,7 +29,7 @@ use Rattle.plan.specs.declared.Answer.{Answer}
 use Rattle.plan.specs.declared.Plan.{Plan}
 use Rattle.plan.proofs.TextLines.{number-range, sizes-test}
 use Rattle.promises.specs.Edition1.{sevenSizes, sevenCodes, sevenTask, sevenWorst, sevenFault, sevenLine, sevenLines, sevenForm, sevenAnswer, sevenReading}
-use Rattle.faults.proofs.Alike.{Plain}
+use Rattle.line_faults.proofs.Alike.{Plain}
 use Rattle.promises.proofs.codes.Columns.{plain-not}
 use Rattle.promises.proofs.codes.TaskLine.{holds-first, first-plain}
 
@@ -106,7 +106,7 @@ module _ (s : List ℕ) (other : same (field (lineAt s 0) 1) (bytes "2") ≡ fal
 
   -- the first line is as stated
   module _ (h : sizesOk false (lineAt s 0) ≡ true) where
-    one : editionOf s ≡ 1
+    pub one : editionOf s ≡ 1
     one = one-is (field (lineAt s 0) 1) (sym (edition-one (field (lineAt s 0) 1) other) ∙ sizes-test false (lineAt s 0) h 2 (omega arith)) .1
 
     line-seven : (k : ℕ) → lineAnswer false s k ≡ sevenLine s k

@@ -5,7 +5,7 @@ use mathlib.Core.List.{List, _++_}
 use mathlib.Core.Path.{_≡_, refl, ap, _∙_}
 use Rattle.laws.specs.Digits.{digitsFrom, digitsOf}
 use Rattle.laws.proofs.Every.{every-same}
-use Rattle.text.specs.Items.{between}
+use Rattle.lists.specs.Items.{between}
 use Rattle.plan.specs.Answer.{isGranted}
 use Rattle.plan.specs.Task.{Task}
 use Rattle.plan.specs.Judged.{tasksAnswer}

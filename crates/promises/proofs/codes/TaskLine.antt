@@ -15,14 +15,14 @@ use Rattle.laws.proofs.Split.{index-found}
 use Rattle.text.specs.Bytes.{bytes}
 use Rattle.text.specs.Number.{isNumber, valueOf, most, numberOf}
 use Rattle.text.specs.Line.{TAB, fields, field}
-use Rattle.text.specs.Items.{isList, listOf, isHold, holdOf, hasShared, holdsOk, afterOk}
-use Rattle.faults.specs.Faults.{codeFor, fieldCode, wordCode, endCode, worst, columnOf}
-use Rattle.faults.proofs.FaultLaws.{faultless-is, zero-at}
+use Rattle.lists.specs.Items.{isList, listOf, isHold, holdOf, hasShared, holdsOk, afterOk}
+use Rattle.line_faults.specs.Faults.{codeFor, fieldCode, wordCode, endCode, worst, columnOf}
+use Rattle.line_faults.proofs.FaultLaws.{faultless-is, zero-at}
 use Rattle.plan.specs.Value.{at}
 use Rattle.plan.specs.Read.{holdsCode, codesFrom, readyCode, taskCodes}
 use Rattle.plan.proofs.LineCodes.{task-kinds}
 use Rattle.promises.specs.Columns.{ColumnSays}
-use Rattle.faults.proofs.Alike.{Plain, field-plain}
+use Rattle.line_faults.proofs.Alike.{Plain, field-plain}
 use Rattle.promises.proofs.codes.Columns.{worst-is, plain-not, for-plain, word-plain, end-plain, column-says, no-field}
 
 -- where nothing is retired a holds field is refused by its spelling and its range alone
@@ -53,7 +53,7 @@ module _ (line : List ℕ) where
     ready-missing zero h few = rw (no-field line 3 few)
     ready-missing (suc m) h few = from-missing (not mends) 4 m (omega arith) (omega arith)
 
-    task-missing : (n : ℕ) → n < width → length (fields line) ≤ n → at codes n ≡ 3
+    pub task-missing : (n : ℕ) → n < width → length (fields line) ≤ n → at codes n ≡ 3
     unfolding taskCodes wordCode same numberOf isNumber
     task-missing zero h few = rw (no-field line 0 few)
     task-missing (suc zero) h few = rw (no-field line 1 few)

@@ -1,4 +1,4 @@
-use Rattle.text.specs.private.Lettered.{keyOf}
+use Rattle.lists.specs.private.Lettered.{keyOf}
 use Rattle.ranges.proofs.key.Statement.{statement}
 use Rattle.ranges.proofs.key.Tie as tie
 

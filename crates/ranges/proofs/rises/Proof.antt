@@ -1,9 +1,9 @@
 use Prim.Native.Nat.{_-_}
 use mathlib.Core.Path.{_≡_, refl}
 use lib.ListN.{length, drop}
-use Rattle.laws.specs.Lists.{risesFrom}
+use Rattle.laws.specs.private.Rise.{risesFrom}
 use Rattle.laws.specs.Split.{before}
-use Rattle.text.specs.private.Lettered.{keyOf}
+use Rattle.lists.specs.private.Lettered.{keyOf}
 use Rattle.plan.specs.Value.{items}
 use Rattle.ranges.proofs.ItemLaws.{rise-stop, rise-out, rise-fail, rise-pass}
 use borrow.Author.Needs.{needs}

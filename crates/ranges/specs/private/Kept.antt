@@ -3,13 +3,13 @@ use Prim.Native.Nat.{ℕ}
 use mathlib.Core.Bool.{Bool, true, false, not, _&&_, _||_}
 use mathlib.Core.List.{List}
 use lib.Dec.{ltb, leb, eqb}
-use Rattle.laws.specs.Lists.{risesFrom}
+use Rattle.laws.specs.private.Rise.{risesFrom}
 use Rattle.text.specs.Number.{most}
-use Rattle.text.specs.Items.{between, hasShared}
-use Rattle.text.specs.private.Lettered.{keyOf}
-use Rattle.plan.specs.Value.{at, row, items, isTrimmed}
+use Rattle.lists.specs.Items.{between, hasShared}
+use Rattle.lists.specs.private.Lettered.{keyOf}
+use Rattle.plan.specs.Value.{at, items, isTrimmed}
 
--- the two halves of what is kept of a task
+-- what is kept of a task: of its numbers, and of its lists
 abbrev pub numbersIn : ℕ → ℕ → List ℕ → List ℕ → List ℕ → List ℕ → ℕ → Bool
 numbersIn edition boards board ready begin finish k =
     (between 1 boards (at board k)
@@ -24,6 +24,3 @@ sharedIn edition l = not (eqb edition 2) || not (hasShared l)
 
 abbrev pub holdsIn : ℕ → List ℕ → Bool
 holdsIn edition l = listIn true 32 l && sharedIn edition l
-
-abbrev pub listsIn : ℕ → ℕ → List ℕ → List ℕ → ℕ → Bool
-listsIn edition tasks holds after k = holdsIn edition (row 32 holds k) && listIn false tasks (row 64 after k)

@@ -7,7 +7,7 @@ use lib.Dec.{eqb}
 use lib.ListN.{length}
 use lib.Seq.{sets}
 use Rattle.laws.specs.Digits.{digitsOf}
-use Rattle.text.specs.Items.{holdText, listText}
+use Rattle.lists.specs.Items.{holdText, listText}
 use Rattle.text.specs.Line.{TAB}
 use Rattle.plan.specs.Answer.{refuse}
 use Rattle.plan.specs.Task.{Task}
@@ -57,7 +57,7 @@ pub record Wrote (out : List ℕ) (at : ℕ) (text written : List ℕ) (r : ℕ)
 
 -- the writer's answer, and the length of what it wrote
 abbrev pub answered : ℕ → ℕ → ℕ → Written
-answered code first length = record { answer = refuse code first 0; length = length }
+answered code first size = record { answer = refuse code first 0; length = size }
 
 -- the writer's answer on a plan and a buffer, and the bytes after it
 abbrev pub Answered : Plan → List ℕ → Written → List ℕ → Type 0

@@ -2,22 +2,22 @@ use Prim.Native.Nat.{_-_}
 use mathlib.Core.Logic.{⊎-elim}
 use mathlib.Core.Path.{_∙_}
 use Rattle.book.proofs.ReportLaws.{dropped-refused, dropped-granted, dropped-task, dropped-place, dropped-known, dropped-facts}
-use Rattle.book.proofs.Handed.{dropped-laid}
+use Rattle.book.proofs.LaidOut.{dropped-laid}
 use Rattle.book.proofs.WaitLaws.{drop-seen}
 use borrow.Author.Needs.{needs}
 use Rattle.book.proofs.Book.drop.Statement.{statement}
 use Rattle.book.proofs.Book.drop.Tie as tie
 
-wait-sets-requires : tie.Need-wait-sets-requires
-wait-sets-requires c κs = search needs
+sound-waits-requires : tie.Need-sound-waits-requires
+sound-waits-requires c κs = search needs
 
 drop-code-requires : tie.Need-drop-code-requires
 drop-code-requires c κs = search needs
 
 sub-k : tie.Need-sub-k
 sub-k c =
-    let a = c .before .before .before .before .before .before .before .before .before .before .before .before .before .before .before .before .before .before .before .before .args in
-    let code = drop-seen (a .t1) (c .before .before .before .before .before .before .before .before .before .before .before .before .wait-sets .ensures) (a .task) (c .before .drop-code .ensures) in
+    let a = c .before .before .before .before .before .before .before .before .before .before .before .before .before .before .before .before .before .args in
+    let code = drop-seen (a .t1) (c .before .before .before .before .before .sound-waits .ensures) (a .task) (c .before .drop-code .ensures) in
     dropped-task (a .t1) (a .task) code (c .if1 .taken)
 
 cast-k : tie.Need-cast-k
@@ -25,8 +25,8 @@ cast-k c = search needs
 
 element-write-self : tie.Need-element-write-self
 element-write-self c =
-    let a = c .before .before .before .before .before .before .before .before .before .before .before .before .before .before .before .before .before .before .before .before .args in
-    let code = drop-seen (a .t1) (c .before .before .before .before .before .before .before .before .before .before .before .before .wait-sets .ensures) (a .task) (c .before .drop-code .ensures) in
+    let a = c .before .before .before .before .before .before .before .before .before .before .before .before .before .before .before .before .before .args in
+    let code = drop-seen (a .t1) (c .before .before .before .before .before .sound-waits .ensures) (a .task) (c .before .drop-code .ensures) in
     dropped-place (a .t1) (a .task) code (c .if1 .taken)
 
 answer-of-requires : tie.Need-answer-of-requires
@@ -34,9 +34,9 @@ answer-of-requires c κs = search needs
 
 returns : tie.Need-returns
 returns c =
-    let a = c .before .before .before .before .before .before .before .before .before .before .before .before .before .before .before .before .before .before .before .before .before .args in
-    let code = drop-seen (a .t1) (c .before .before .before .before .before .before .before .before .before .before .before .before .before .wait-sets .ensures) (a .task) (c .before .before .drop-code .ensures) in
-    let good = c .before .before .before .before .before .before .before .before .before .before .before .before .before .before .before .before .before .before .before .before .before .good .0 in
+    let a = c .before .before .before .before .before .before .before .before .before .before .before .before .before .before .before .before .before .before .args in
+    let code = drop-seen (a .t1) (c .before .before .before .before .before .before .sound-waits .ensures) (a .task) (c .before .before .drop-code .ensures) in
+    let good = c .before .before .before .before .before .before .before .before .before .before .before .before .before .before .before .before .before .before .good .0 in
     ⊎-elim
     (λ w.
     let zero = w .0 .taken in
@@ -50,4 +50,4 @@ returns c =
 pub drop-spec : {M : Type 1} → statement M
 drop-spec =
     tie.close
-    (tie.spec wait-sets-requires drop-code-requires sub-k cast-k element-write-self answer-of-requires returns)
+    (tie.spec sound-waits-requires drop-code-requires sub-k cast-k element-write-self answer-of-requires returns)

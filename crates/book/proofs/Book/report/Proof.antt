@@ -3,8 +3,8 @@ use mathlib.Core.Logic.{⊎-elim}
 use mathlib.Core.Path.{_∙_}
 use Rattle.book.proofs.ReportLaws.{reported-refused, reported-granted, granted-task, granted-place, granted-accepts, granted-facts, its-sound}
 use Rattle.book.proofs.Fits.{fit-ended}
-use Rattle.book.proofs.Handed.{next-laid}
-use Rattle.book.proofs.WaitLaws.{report-seen, known-of, fit-seen, settled-seen}
+use Rattle.book.proofs.LaidOut.{next-laid}
+use Rattle.book.proofs.WaitLaws.{its-code, its-sets, good-of, fit-seen, settled-seen}
 use borrow.Author.Needs.{needs}
 use Rattle.book.proofs.Book.report.Statement.{statement}
 use Rattle.book.proofs.Book.report.Tie as tie
@@ -12,35 +12,33 @@ use Rattle.book.proofs.Book.report.Tie as tie
 cast-tasks : tie.Need-cast-tasks
 cast-tasks c = search needs
 
-wait-sets-requires : tie.Need-wait-sets-requires
-wait-sets-requires c κs = search needs
+judge-report-requires : tie.Need-judge-report-requires
+judge-report-requires c κs = search needs
 
-report-code-requires : tie.Need-report-code-requires
-report-code-requires c κs = search needs
+sub-k : tie.Need-sub-k
+sub-k c =
+    let a = c .before .before .before .before .before .before .before .before .before .before .before .before .before .args in
+    let code = its-code (a .t1) (a .task) (a .tick) (c .before .judge-report .ensures) in
+    granted-task (a .t1) (a .task) (a .tick) code (c .if1 .taken)
 
-sub-ended-at : tie.Need-sub-ended-at
-sub-ended-at c =
-    let a = c .before .before .before .before .before .before .before .before .before .before .before .before .before .before .before .before .before .before .before .before .before .before .before .args in
-    let code = report-seen (a .t1) (c .before .before .before .before .before .before .before .before .before .before .before .before .before .before .before .wait-sets .ensures) (a .task) (a .tick) (c .before .before .before .before .report-code .ensures) in
-    granted-task (a .t1) (a .task) (a .tick) code (c .before .before .before .if1 .taken)
-
-cast-ended-at : tie.Need-cast-ended-at
-cast-ended-at c = search needs
+cast-k : tie.Need-cast-k
+cast-k c = search needs
 
 ended-at-requires : tie.Need-ended-at-requires
 ended-at-requires c κs =
-    let a = c .before .before .before .before .before .before .before .before .before .before .before .before .before .before .before .before .before .before .before .before .before .before .before .args in
-    let code = report-seen (a .t1) (c .before .before .before .before .before .before .before .before .before .before .before .before .before .before .before .wait-sets .ensures) (a .task) (a .tick) (c .before .before .before .before .report-code .ensures) in
+    let a = c .before .before .before .before .before .before .before .before .before .before .before .before .before .before .before .before .args in
+    let code = its-code (a .t1) (a .task) (a .tick) (c .before .before .before .before .judge-report .ensures) in
     granted-place (a .t1) (a .task) (a .tick) code (c .before .before .before .if1 .taken)
 
 settle-requires : tie.Need-settle-requires
 settle-requires c κs =
-    let a = c .before .before .before .before .before .before .before .before .before .before .before .before .before .before .before .before .before .before .before .before .before .before .before .before .before .before .before .before .before .before .before .args in
-    let waits = c .before .before .before .before .before .before .before .before .before .before .before .before .before .before .before .before .before .before .before .before .before .before .before .wait-sets .ensures in
-    let code = report-seen (a .t1) waits (a .task) (a .tick) (c .before .before .before .before .before .before .before .before .before .before .before .before .report-code .ensures) in
+    let start = c .before .before .before .before .before .before .before .before .before .before .before .before .before .before .before .before .before .before .before .before .before .before .before .before in
+    let a = start .args in
+    let judged = c .before .before .before .before .before .before .before .before .before .before .before .before .judge-report .ensures in
+    let code = its-code (a .t1) (a .task) (a .tick) judged in
     let zero = c .before .before .before .before .before .before .before .before .before .before .before .if1 .taken in
-    let good = c .before .before .before .before .before .before .before .before .before .before .before .before .before .before .before .before .before .before .before .before .before .before .before .before .before .before .before .before .before .before .before .good in
-    fit-seen (a .t1) waits (known-of (a .t1) waits (its-sound (a .t1) (a .task) (a .tick) code zero)) _
+    let good = start .good in
+    fit-seen (a .t1) (good-of (a .t1) (its-sound (a .t1) (a .task) (a .tick) code zero)) (its-sets (a .t1) (a .task) (a .tick) judged) _
     (fit-ended (a .t1) (a .task - 1) (a .tick) (search (needs, good .0 .1 .1 .1 .1 .1 .1 .1 .1 .1 .1 .1 .1 .1 .0)) (search (needs, good .0 .1 .1 .1 .1 .1 .1 .1 .1 .1 .1 .1 .1 .0)) (granted-place (a .t1) (a .task) (a .tick) code zero) (c .before .before .before .before .before .before .before .ended-at .ensures)
     (granted-facts (a .t1) (a .task) (a .tick) code zero) (granted-accepts (a .t1) (a .task) (a .tick) code zero))
 
@@ -49,19 +47,20 @@ answer-of-requires c κs = search needs
 
 returns : tie.Need-returns
 returns c =
-    let a = c .before .before .before .before .before .before .before .before .before .before .before .before .before .before .before .before .before .before .before .before .before .args in
-    let waits = c .before .before .before .before .before .before .before .before .before .before .before .before .before .wait-sets .ensures in
-    let code = report-seen (a .t1) waits (a .task) (a .tick) (c .before .before .report-code .ensures) in
-    let good = c .before .before .before .before .before .before .before .before .before .before .before .before .before .before .before .before .before .before .before .before .before .good .0 in
+    let start = c .before .before .before .before .before .before .before .before .before .before .before .before .before .before in
+    let a = start .args in
+    let judged = c .before .before .judge-report .ensures in
+    let code = its-code (a .t1) (a .task) (a .tick) judged in
+    let good = start .good .0 in
     ⊎-elim
     (λ w.
     let zero = w .0 .taken in
-    let known = known-of (a .t1) waits (its-sound (a .t1) (a .task) (a .tick) code zero) in
+    let known = good-of (a .t1) (its-sound (a .t1) (a .task) (a .tick) code zero) in
     reported-granted (a .t1) (a .task) (a .tick) code (c .answer-of .ensures) zero
     (w .16
     ∙ next-laid (a .t1) (granted-facts (a .t1) (a .task) (a .tick) code zero) (search (needs, good .1 .1 .1 .1 .1 .1 .1 .1 .1 .1 .1 .1 .1 .1 .0)) (a .task - 1) (a .tick)
     (search (needs, good .1 .1 .1 .1 .1 .1 .1 .1 .1 .1 .1 .1 .1 .0)) (search (needs, good .1 .1 .1 .1 .1 .1 .1 .1 .1 .1 .1 .1 .0)) (granted-place (a .t1) (a .task) (a .tick) code zero)
-    (w .4 .ensures) (settled-seen (a .t1) waits known _ (w .12 .ensures))))
+    (w .4 .ensures) (settled-seen (a .t1) known (its-sets (a .t1) (a .task) (a .tick) judged) _ (w .12 .ensures))))
     (λ w. reported-refused (a .t1) (a .task) (a .tick) code (c .answer-of .ensures) (w .0 .left) (w .1))
     (c .before .if1 .came)
 
@@ -70,10 +69,9 @@ report-spec =
     tie.close
     (tie.spec
     cast-tasks
-    wait-sets-requires
-    report-code-requires
-    sub-ended-at
-    cast-ended-at
+    judge-report-requires
+    sub-k
+    cast-k
     ended-at-requires
     settle-requires
     answer-of-requires

@@ -1,35 +1,31 @@
 use denote.Ref.{now}
 use Prim.Native.Nat.{_-_}
-use mathlib.Core.Path.{refl, _∙_}
+use mathlib.Core.Path.{refl}
 use native.Mathlib.Omega.{arith}
 use Rattle.plan.specs.Pairs.{firstFault, rowFault}
-use Rattle.judge.specs.private.Arrays.{tasksIn}
-use Rattle.judge.proofs.PairLaws.{RowsFrom, PairsFrom, pair-passed, row-passed, pair-found, none-found, code-is}
-use Rattle.drives.proofs.DriveLaws.{drives-clash}
+use Rattle.judge.specs.Tasks.{tasksIn}
+use Rattle.judge.proofs.PairLaws.{RowsFrom, PairsFrom, pair-passed, row-passed, pair-found, none-found}
 use Rattle.judge.proofs.OrderLaws.{pair-in-order, passed-over}
 use borrow.Author.Needs.{needs}
 use Rattle.judge.proofs.pairs.first_fault.Statement.{statement}
 use Rattle.judge.proofs.pairs.first_fault.Tie as tie
 
 abbrev Inv-loop : tie.InvT-loop
-Inv-loop board begin finish holds after tasks ordered drives a b₀ b =
+Inv-loop board begin finish holds after tasks ordered a b₀ b =
     PairsFrom tasks (tasksIn board begin finish holds after) a b
 
 abbrev μ-loop : tie.MeasureT-loop
-μ-loop board begin finish holds after tasks ordered drives a b₀ b = tasks - b
+μ-loop board begin finish holds after tasks ordered a b₀ b = tasks - b
 
 abbrev Inv-search : tie.InvT-search
-Inv-search board begin finish holds after tasks ordered drives a₀ a =
+Inv-search board begin finish holds after tasks ordered a₀ a =
     RowsFrom tasks (tasksIn board begin finish holds after) a
 
 abbrev μ-search : tie.MeasureT-search
-μ-search board begin finish holds after tasks ordered drives a₀ a = tasks - a
+μ-search board begin finish holds after tasks ordered a₀ a = tasks - a
 
 in-order-requires : tie.Need-in-order-requires Inv-loop μ-loop Inv-search μ-search
 in-order-requires c κs = c .pre .few
-
-drive-sets-requires : tie.Need-drive-sets-requires Inv-loop μ-loop Inv-search μ-search
-drive-sets-requires c κs = search needs
 
 search-holds : tie.Need-search-holds Inv-loop μ-loop Inv-search μ-search
 unfolding firstFault
@@ -41,11 +37,16 @@ loop-holds c = refl
 
 pair-code-requires : tie.Need-pair-code-requires Inv-loop μ-loop Inv-search μ-search
 pair-code-requires c κs =
-    let start = c .before .before .before .before .before .before .before .before .before in
-    let low = c .before .before .before .before .before .if1 .left in
-    let next = c .before .before .before .loop-test .taken in
-    let few = start .pre .few in
-    (omega arith, omega arith, pair-in-order (now (start .args .begin)) (now (start .args .finish)) (now (start .args .after)) _ (c .before .before .before .before .before .before .before .before .in-order .ensures) _ _ low next)
+    let low = c .before .before .if1 .left in
+    let few = c .before .before .before .before .before .pre .few in (
+      record {
+        below-a = omega arith;
+        below-b = omega arith;
+        range-a = c .before .before .before .before .before .pre .range _ low;
+        range-b = c .before .before .before .before .before .pre .range _ (c .loop-test .taken);
+      },
+      pair-in-order (now (c .before .before .before .before .before .args .begin)) (now (c .before .before .before .before .before .args .finish)) (now (c .before .before .before .before .before .args .after)) _ (c .before .before .before .before .in-order .ensures) _ _ low (c .loop-test .taken),
+    )
 
 add-first : tie.Need-add-first Inv-loop μ-loop Inv-search μ-search
 add-first c = search needs
@@ -63,22 +64,15 @@ add-next-pair : tie.Need-add-next-pair Inv-loop μ-loop Inv-search μ-search
 add-next-pair c = search needs
 
 next-pair-requires : tie.Need-next-pair-requires Inv-loop μ-loop Inv-search μ-search
-next-pair-requires c κs = (c .before .before .before .before .before .before .before .if1 .left, c .before .before .before .before .before .before .before .before .before .before .before .pre .few)
+next-pair-requires c κs = (c .before .before .before .before .if1 .left, c .before .before .before .before .before .before .before .pre .few)
 
 loop-less : tie.Need-loop-less Inv-loop μ-loop Inv-search μ-search
-loop-less c = omega (arith, c .next-pair .ensures .onward, c .before .before .before .before .before .before .loop-test .taken)
+loop-less c = omega (arith, c .next-pair .ensures .onward, c .before .before .before .loop-test .taken)
 
 loop-again : tie.Need-loop-again Inv-loop μ-loop Inv-search μ-search
 loop-again c =
-    let start = c .before .before .before .before .before .before .before .before .before .before .before .before in
-    let s = start .args in
-    let low = c .before .before .before .before .before .before .before .before .if1 .left in
-    let next = c .before .before .before .before .before .before .loop-test .taken in
-    let sets = c .before .before .before .before .before .before .before .before .before .before .drive-sets in
-    let drives = drives-clash (now (s .holds)) (s .tasks) (start .pre) (sets .ensures) _ _ low next in
-    let code = c .before .before .pair-code .ensures ∙ code-is (now (s .board)) (now (s .begin)) (now (s .finish)) (now (s .holds)) (now (s .after)) (sets .result .exclusive) (sets .result .held) _ _ drives in
-    passed-over (now (s .board)) (now (s .begin)) (now (s .finish)) (now (s .holds)) (now (s .after)) _ (c .before .before .before .before .before .before .before .before .before .before .before .in-order .ensures) _ _ _ low
-    (pair-passed _ _ _ _ (c .before .before .before .before .before .before .before .loop .inv) next code (c .before .if2 .left))
+    passed-over (now (c .before .before .before .before .before .before .before .before .args .board)) (now (c .before .before .before .before .before .before .before .before .args .begin)) (now (c .before .before .before .before .before .before .before .before .args .finish)) (now (c .before .before .before .before .before .before .before .before .args .holds)) (now (c .before .before .before .before .before .before .before .before .args .after)) _ (c .before .before .before .before .before .before .before .in-order .ensures) _ _ _ (c .before .before .before .before .before .if1 .left)
+    (pair-passed _ _ _ _ (c .before .before .before .before .loop .inv) (c .before .before .before .loop-test .taken) (c .before .before .pair-code .ensures) (c .before .if2 .left))
     (c .next-pair .ensures)
 
 add-a : tie.Need-add-a Inv-loop μ-loop Inv-search μ-search
@@ -96,14 +90,8 @@ returns c = none-found _ _ _ (c .before .search .inv) (c .if1 .taken)
 
 returns-2 : tie.Need-returns-2 Inv-loop μ-loop Inv-search μ-search
 returns-2 c =
-    let start = c .before .before .before .before .before .before .before .before .before .before .before in
-    let s = start .args in
-    let low = c .before .before .before .before .before .before .before .if1 .left in
-    let next = c .before .before .before .before .before .loop-test .taken in
-    let sets = c .before .before .before .before .before .before .before .before .before .drive-sets in
-    let drives = drives-clash (now (s .holds)) (s .tasks) (start .pre) (sets .ensures) _ _ low next in
-    let code = c .before .pair-code .ensures ∙ code-is (now (s .board)) (now (s .begin)) (now (s .finish)) (now (s .holds)) (now (s .after)) (sets .result .exclusive) (sets .result .held) _ _ drives in
-    pair-found _ _ _ _ (c .before .before .before .before .before .before .before .before .search .inv) low (c .before .before .before .before .before .before .loop .inv) next code (c .if2 .taken)
+    pair-found _ _ _ _ (c .before .before .before .before .before .search .inv) (c .before .before .before .before .if1 .left)
+    (c .before .before .before .loop .inv) (c .before .before .loop-test .taken) (c .before .pair-code .ensures) (c .if2 .taken)
 
 pub first-fault-spec : {M : Type 1} → statement M
 first-fault-spec =
@@ -114,7 +102,6 @@ first-fault-spec =
     Inv-search
     μ-search
     in-order-requires
-    drive-sets-requires
     search-holds
     loop-holds
     pair-code-requires

@@ -1,6 +1,3 @@
-use lib.Dec.{eqb}
-use Rattle.plan.specs.Value.{at}
-use Rattle.judge.specs.private.Arrays.{meetIn, drivesMeet, breaksIn}
 use mathlib.Core.Path.{refl}
 use Rattle.judge.proofs.PairLaws.{pair-6, pair-7, pair-8-this, pair-8-that, pair-0}
 use borrow.Author.Needs.{needs}
@@ -17,35 +14,25 @@ element-copy-out-if1-2 : tie.Need-element-copy-out-if1-2
 element-copy-out-if1-2 c = search needs
 
 returns : tie.Need-returns
-returns c =
-    let a = c .before .before .before .before .args in
-    pair-6 (meetIn (a .begin .now) (a .finish .now) (a .a) (a .b)) (eqb (at (a .board .now) (a .a)) (at (a .board .now) (a .b))) (drivesMeet (a .exclusive .now) (a .held .now) (a .a) (a .b)) (breaksIn (a .begin .now) (a .finish .now) (a .after .now) (a .a) (a .b)) (breaksIn (a .begin .now) (a .finish .now) (a .after .now) (a .b) (a .a))
-    (c .before .before .before .meet .ensures) (c .if1 .taken)
+returns c = pair-6 _ _ _ (c .before .before .before .meet .ensures) (c .if1 .taken)
 
 meet-on-drive-requires : tie.Need-meet-on-drive-requires
 meet-on-drive-requires c κs = search needs
 
 returns-2 : tie.Need-returns-2
-returns-2 c =
-    let a = c .before .before .before .before .before .before .args in
-    pair-7 (meetIn (a .begin .now) (a .finish .now) (a .a) (a .b)) (eqb (at (a .board .now) (a .a)) (at (a .board .now) (a .b))) (drivesMeet (a .exclusive .now) (a .held .now) (a .a) (a .b)) (breaksIn (a .begin .now) (a .finish .now) (a .after .now) (a .a) (a .b)) (breaksIn (a .begin .now) (a .finish .now) (a .after .now) (a .b) (a .a))
-    (c .before .before .before .before .before .meet .ensures) (c .before .before .if1 .left) (c .before .meet-on-drive .ensures) (c .if2 .taken)
+returns-2 c = pair-7 _ _ _ (c .before .before .before .before .before .meet .ensures) (c .before .before .if1 .left) (c .before .meet-on-drive .ensures) (c .if2 .taken)
 
 returns-3 : tie.Need-returns-3
 returns-3 c =
-    let a = c .before .before .before .before .before .before .before .args in
-    let kept = c .before .before .before .before .before .before .before .pre .2 (c .if3 .taken) in
-    pair-0 (meetIn (a .begin .now) (a .finish .now) (a .a) (a .b)) (eqb (at (a .board .now) (a .a)) (at (a .board .now) (a .b))) (drivesMeet (a .exclusive .now) (a .held .now) (a .a) (a .b)) (breaksIn (a .begin .now) (a .finish .now) (a .after .now) (a .a) (a .b)) (breaksIn (a .begin .now) (a .finish .now) (a .after .now) (a .b) (a .a))
-    (c .before .before .before .before .before .before .meet .ensures) (c .before .before .before .if1 .left) (c .before .before .meet-on-drive .ensures) (c .before .if2 .left) refl (kept .0) refl (kept .1)
+    let kept = c .before .before .before .before .before .before .before .pre .1 (c .if3 .taken) in
+    pair-0 _ _ _ (c .before .before .before .before .before .before .meet .ensures) (c .before .before .before .if1 .left) (c .before .before .meet-on-drive .ensures) (c .before .if2 .left) refl (kept .0) refl (kept .1)
 
 breaks-after-requires : tie.Need-breaks-after-requires
 breaks-after-requires c κs = search needs
 
 returns-4 : tie.Need-returns-4
 returns-4 c =
-    let a = c .before .before .before .before .before .before .before .before .before .args in
-    pair-8-this (meetIn (a .begin .now) (a .finish .now) (a .a) (a .b)) (eqb (at (a .board .now) (a .a)) (at (a .board .now) (a .b))) (drivesMeet (a .exclusive .now) (a .held .now) (a .a) (a .b)) (breaksIn (a .begin .now) (a .finish .now) (a .after .now) (a .a) (a .b)) (breaksIn (a .begin .now) (a .finish .now) (a .after .now) (a .b) (a .a))
-    (c .before .before .before .before .before .before .before .before .meet .ensures) (c .before .before .before .before .before .if1 .left) (c .before .before .before .before .meet-on-drive .ensures) (c .before .before .before .if2 .left)
+    pair-8-this _ _ _ (c .before .before .before .before .before .before .before .before .meet .ensures) (c .before .before .before .before .before .if1 .left) (c .before .before .before .before .meet-on-drive .ensures) (c .before .before .before .if2 .left)
     (c .before .breaks-after .ensures) (c .if4 .taken)
 
 breaks-after-requires-2 : tie.Need-breaks-after-requires-2
@@ -53,16 +40,12 @@ breaks-after-requires-2 c κs = search needs
 
 returns-5 : tie.Need-returns-5
 returns-5 c =
-    let a = c .before .before .before .before .before .before .before .before .before .before .before .args in
-    pair-8-that (meetIn (a .begin .now) (a .finish .now) (a .a) (a .b)) (eqb (at (a .board .now) (a .a)) (at (a .board .now) (a .b))) (drivesMeet (a .exclusive .now) (a .held .now) (a .a) (a .b)) (breaksIn (a .begin .now) (a .finish .now) (a .after .now) (a .a) (a .b)) (breaksIn (a .begin .now) (a .finish .now) (a .after .now) (a .b) (a .a))
-    (c .before .before .before .before .before .before .before .before .before .before .meet .ensures) (c .before .before .before .before .before .before .before .if1 .left) (c .before .before .before .before .before .before .meet-on-drive .ensures) (c .before .before .before .before .before .if2 .left)
+    pair-8-that _ _ _ (c .before .before .before .before .before .before .before .before .before .before .meet .ensures) (c .before .before .before .before .before .before .before .if1 .left) (c .before .before .before .before .before .before .meet-on-drive .ensures) (c .before .before .before .before .before .if2 .left)
     (c .before .before .before .breaks-after .ensures) (c .before .before .if4 .left) (c .before .breaks-after2 .ensures) (c .if5 .taken)
 
 returns-6 : tie.Need-returns-6
 returns-6 c =
-    let a = c .before .before .before .before .before .before .before .before .before .before .before .args in
-    pair-0 (meetIn (a .begin .now) (a .finish .now) (a .a) (a .b)) (eqb (at (a .board .now) (a .a)) (at (a .board .now) (a .b))) (drivesMeet (a .exclusive .now) (a .held .now) (a .a) (a .b)) (breaksIn (a .begin .now) (a .finish .now) (a .after .now) (a .a) (a .b)) (breaksIn (a .begin .now) (a .finish .now) (a .after .now) (a .b) (a .a))
-    (c .before .before .before .before .before .before .before .before .before .before .meet .ensures) (c .before .before .before .before .before .before .before .if1 .left) (c .before .before .before .before .before .before .meet-on-drive .ensures) (c .before .before .before .before .before .if2 .left)
+    pair-0 _ _ _ (c .before .before .before .before .before .before .before .before .before .before .meet .ensures) (c .before .before .before .before .before .before .before .if1 .left) (c .before .before .before .before .before .before .meet-on-drive .ensures) (c .before .before .before .before .before .if2 .left)
     (c .before .before .before .breaks-after .ensures) (c .before .before .if4 .left) (c .before .breaks-after2 .ensures) (c .if5 .left)
 
 pub pair-code-spec : {M : Type 1} → statement M

@@ -1,13 +1,19 @@
-use Rattle.judge.proofs.ValueLaws.{accepted-by}
+use Rattle.judge.proofs.ValueLaws.{kept-in-range, not-kept, accepted-by}
 use borrow.Author.Needs.{needs}
 use Rattle.judge.proofs.value.is_accepted.Statement.{statement}
 use Rattle.judge.proofs.value.is_accepted.Tie as tie
 
-judge-plan-requires : tie.Need-judge-plan-requires
-judge-plan-requires c κs = search needs
+keeps-ranges-requires : tie.Need-keeps-ranges-requires
+keeps-ranges-requires c κs = search needs
 
 returns : tie.Need-returns
-returns c = accepted-by _ (c .before .judge-plan .ensures)
+returns c = not-kept _ (c .before .keeps-ranges .ensures) (c .if1 .taken)
+
+judge-kept-requires : tie.Need-judge-kept-requires
+judge-kept-requires c κs = kept-in-range _ (c .before .keeps-ranges .ensures) (c .if1 .left)
+
+returns-2 : tie.Need-returns-2
+returns-2 c = accepted-by _ (c .before .before .before .keeps-ranges .ensures) (c .before .before .if1 .left) (c .before .judge-kept .ensures)
 
 pub is-accepted-spec : {M : Type 1} → statement M
-is-accepted-spec = tie.close (tie.spec judge-plan-requires returns)
+is-accepted-spec = tie.close (tie.spec keeps-ranges-requires returns judge-kept-requires returns-2)

@@ -1,7 +1,7 @@
 use Prim.{tt}
 use native.Mathlib.Omega.{arith}
 use lib.ListN.{length}
-use Rattle.lines.proofs.WriteLaws.{wrote-length}
+use Rattle.log_lines.proofs.WriteLaws.{wrote-length}
 use Rattle.log.proofs.ReportLaws.{told-names}
 use Rattle.log.proofs.EndsLaws.{Walk, walk-start, walk-short, walk-end, walk-stops, walk-less, walk-goes}
 use Rattle.log.proofs.ends.put_ends.Statement.{statement}
@@ -23,13 +23,19 @@ tell-requires : tie.Need-tell-requires Inv-loop μ-loop
 tell-requires c κs = walk-short (c .before .before .loop .inv) (c .before .before .before .before .before .pre .short) (c .next-entry .ensures)
 
 put-told-requires : tie.Need-put-told-requires Inv-loop μ-loop
-put-told-requires c κs = let w = c .before .before .before .before .before .before .before .before .before .before .before .before .before .before .before .loop .inv in (omega (arith, w .kept, w .room, c .before .before .before .before .before .before .before .before .before .before .before .before .before .before .before .before .before .before .pre .room), told-names _ _ _ (c .before .before .before .before .before .before .before .before .before .before .before .before .tell .ensures))
+put-told-requires c κs =
+    let walk = c .before .before .before .before .before .before .loop .inv in
+    (omega (arith, walk .kept, walk .room, c .before .before .before .before .before .before .before .before .before .pre .room), told-names _ _ _ (c .before .before .before .tell .ensures))
 
 entry-code-requires : tie.Need-entry-code-requires Inv-loop μ-loop
 entry-code-requires c κs = tt
 
 returns : tie.Need-returns Inv-loop μ-loop
-returns c = walk-stops (c .before .before .before .before .before .before .before .before .before .before .before .before .before .before .before .before .before .before .before .before .loop .inv) (c .before .before .before .before .before .before .before .before .before .before .before .before .before .before .before .before .before .before .next-entry .ensures) (c .before .before .before .before .before .before .before .before .before .before .before .before .before .before .before .before .before .before .before .loop-test .taken) (c .before .before .before .before .before .before .before .before .before .before .before .before .before .before .before .before .before .tell .ensures) (c .before .before .before .before .put-told .ensures) (c .before .entry-code .ensures) (c .if1 .taken)
+returns c =
+    let told = c .before .before .before .before .before .before .before .before in
+    let read = told .before in
+    walk-stops (read .before .before .loop .inv) (read .next-entry .ensures) (read .before .loop-test .taken) (told .tell .ensures)
+    (c .before .before .before .before .put-told .ensures) (c .before .entry-code .ensures) (c .if1 .taken)
 
 same-length : tie.Need-same-length Inv-loop μ-loop
 same-length c = wrote-length (returns c)
@@ -38,13 +44,21 @@ part-after-requires : tie.Need-part-after-requires Inv-loop μ-loop
 part-after-requires c κs = tt
 
 add-line : tie.Need-add-line Inv-loop μ-loop
-add-line c = omega (arith, c .before .before .before .before .before .before .before .before .before .before .before .before .before .before .before .before .before .before .before .before .before .before .loop .inv .lines, c .before .before .before .before .before .before .before .before .before .before .before .before .before .before .before .before .before .before .before .before .before .before .before .before .before .pre .short, c .before .before .before .before .before .before .before .before .before .before .before .before .before .before .before .before .before .before .before .before .before .loop-test .taken)
+add-line c =
+    let test = c .before .before .before .before .before .before .before .before .before .before .before .before in
+    omega (arith, test .before .loop .inv .lines, test .before .before .before .before .pre .short, test .loop-test .taken)
 
 loop-less : tie.Need-loop-less Inv-loop μ-loop
-loop-less c = walk-less (c .before .before .before .before .before .before .before .before .before .before .before .before .before .before .before .before .before .before .before .before .before .before .loop .inv) (c .before .before .before .before .before .before .before .before .before .before .before .before .before .before .before .before .before .before .before .before .next-entry .ensures) (c .before .before .before .entry-code .ensures) (c .before .before .if1 .left) (c .part-after .ensures)
+loop-less c =
+    let read = c .before .before .before .before .before .before .before .before .before .before .before in
+    walk-less (read .before .before .loop .inv) (read .next-entry .ensures) (c .before .before .before .entry-code .ensures) (c .before .before .if1 .left) (c .part-after .ensures)
 
 loop-again : tie.Need-loop-again Inv-loop μ-loop
-loop-again c = walk-goes (c .before .before .before .before .before .before .before .before .before .before .before .before .before .before .before .before .before .before .before .before .before .before .loop .inv) (c .before .before .before .before .before .before .before .before .before .before .before .before .before .before .before .before .before .before .before .before .next-entry .ensures) (c .before .before .before .before .before .before .before .before .before .before .before .before .before .before .before .before .before .before .before .before .before .loop-test .taken) (c .before .before .before .before .before .before .before .before .before .before .before .before .before .before .before .before .before .before .before .tell .ensures) (c .before .before .before .before .before .before .put-told .ensures) (c .before .before .before .entry-code .ensures) (c .before .before .if1 .left) (c .part-after .ensures)
+loop-again c =
+    let told = c .before .before .before .before .before .before .before .before .before .before in
+    let read = told .before in
+    walk-goes (read .before .before .loop .inv) (read .next-entry .ensures) (read .before .loop-test .taken) (told .tell .ensures)
+    (c .before .before .before .before .before .before .put-told .ensures) (c .before .before .before .entry-code .ensures) (c .before .before .if1 .left) (c .part-after .ensures)
 
 returns-2 : tie.Need-returns-2 Inv-loop μ-loop
 returns-2 c = walk-end (c .before .loop .inv) (c .loop-test .left)

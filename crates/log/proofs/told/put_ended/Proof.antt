@@ -1,6 +1,6 @@
 use Prim.{tt}
 use native.Mathlib.Omega.{arith}
-use Rattle.lines.proofs.WriteLaws.{also, wrote-line, wrote-length}
+use Rattle.log_lines.proofs.WriteLaws.{also, wrote-line, wrote-length}
 use borrow.Author.Needs.{needs}
 use Rattle.log.proofs.told.put_ended.Statement.{statement}
 use Rattle.log.proofs.told.put_ended.Tie as tie
@@ -30,10 +30,15 @@ put-end-requires : tie.Need-put-end-requires
 put-end-requires c κs = tt
 
 put-starts-requires : tie.Need-put-starts-requires
-put-starts-requires c κs = let w = wrote-line (omega (arith, c .before .before .before .before .before .before .before .before .before .pre .3)) (c .before .before .before .put-end .ensures) in (c .before .before .before .before .before .before .before .before .before .pre .2, omega (arith, c .before .before .before .before .before .before .before .before .before .pre .3, w .place, w .small, wrote-length w))
+put-starts-requires c κs =
+    let pre = c .before .before .before .before .before .before .before .before .before .pre in
+    let w = wrote-line (omega (arith, pre .3)) (c .before .before .before .put-end .ensures) in
+    (pre .2, omega (arith, pre .3, w .place, w .small, wrote-length w))
 
 returns : tie.Need-returns
-returns c = also (wrote-line (omega (arith, c .before .before .before .before .before .before .before .before .before .before .before .before .pre .3)) (c .before .before .before .before .before .before .put-end .ensures)) (c .before .before .put-starts .ensures)
+returns c =
+    let pre = c .before .before .before .before .before .before .before .before .before .before .before .before .pre in
+    also (wrote-line (omega (arith, pre .3)) (c .before .before .before .before .before .before .put-end .ensures)) (c .before .before .put-starts .ensures)
 
 same-length : tie.Need-same-length
 same-length c = wrote-length (returns c)

@@ -1,8 +1,6 @@
 use Prim.{tt}
 use native.Mathlib.Omega.{arith}
-use Rattle.laws.specs.Picked.{count}
-use Rattle.lines.proofs.WriteLaws.{wrote-length, wrote-line}
-use Rattle.log.specs.private.Writes.{starting}
+use Rattle.log_lines.proofs.WriteLaws.{wrote-length, wrote-line}
 use Rattle.log.proofs.ToldLaws.{named-end, named-drop, lines-none}
 use borrow.Author.Needs.{needs}
 use Rattle.log.proofs.told.put_lines.Statement.{statement}
@@ -45,7 +43,7 @@ same-length-2 : tie.Need-same-length-2
 same-length-2 c = wrote-length (returns-2 c)
 
 returns-3 : tie.Need-returns-3
-returns-3 c = let s = c .before .before .before .args in lines-none (s .old .now) (s .mark .now) (s .dropped .now) (s .board .now) (s .begin .now) (s .start .now) (s .finish .now) (s .end .now) (s .tasks) (count (s .tasks) (starting (s .old .now) (s .mark .now))) (s .entry) (c .before .match .keys3)
+returns-3 c = let a = c .before .before .before .args in lines-none (a .old .now) (a .t5) (a .entry) (c .before .match .keys3)
 
 pub put-lines-spec : {M : Type 1} → statement M
 put-lines-spec =

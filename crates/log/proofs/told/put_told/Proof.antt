@@ -1,9 +1,6 @@
-use Rattle.lines.proofs.WriteLaws.{wrote-length}
+use Rattle.log_lines.proofs.WriteLaws.{wrote-length}
 use Prim.{tt}
 use native.Mathlib.Omega.{arith}
-use Rattle.laws.specs.Picked.{count}
-use Rattle.log.specs.private.Writes.{starting}
-use Rattle.log.proofs.StartLaws.{count-below}
 use Rattle.log.proofs.ToldLaws.{told-no, told-yes}
 use Rattle.log.proofs.told.put_told.Statement.{statement}
 use Rattle.log.proofs.told.put_told.Tie as tie
@@ -12,19 +9,26 @@ put-refused-requires : tie.Need-put-refused-requires
 put-refused-requires c κs = tt
 
 returns : tie.Need-returns
-returns c = let s = c .before .before .before .before .before .before .before .args in told-no (s .old .now) (s .mark .now) (s .dropped .now) (s .board .now) (s .begin .now) (s .start .now) (s .finish .now) (s .end .now) (s .tasks) (count (s .tasks) (starting (s .old .now) (s .mark .now))) (s .entry) (s .answer) (s .clock) (s .early) (c .before .before .before .before .before .before .before .pre .0) (c .before .before .before .before .if1 .taken) (c .before .before .put-refused .ensures)
+returns c =
+    let start = c .before .before .before .before .before .before .before .before in
+    let a = start .args in
+    told-no (start .pre .0) (a .entry) (a .old .now) (a .told) (c .before .before .before .before .if1 .taken) (c .before .before .put-refused .ensures)
 
 same-length : tie.Need-same-length
 same-length c = wrote-length (returns c)
 
 put-lines-requires : tie.Need-put-lines-requires
-put-lines-requires c κs = (omega (arith, c .before .before .before .before .pre .0), c .before .before .before .before .pre .1 (c .before .if1 .left))
+put-lines-requires c κs = let pre = c .before .before .before .before .before .pre in (omega (arith, pre .0), pre .1 (c .before .if1 .left))
 
 put-early-requires : tie.Need-put-early-requires
 put-early-requires c κs = tt
 
 returns-2 : tie.Need-returns-2
-returns-2 c = let s = c .before .before .before .before .before .before .before .before .before .before .before .args in told-yes (s .old .now) (s .mark .now) (s .dropped .now) (s .board .now) (s .begin .now) (s .start .now) (s .finish .now) (s .end .now) (s .tasks) (count (s .tasks) (starting (s .old .now) (s .mark .now))) (s .entry) (s .answer) (s .clock) (s .early) (c .before .before .before .before .before .before .before .before .before .before .before .pre .0) (c .before .before .before .before .before .before .before .before .if1 .left) (c .before .before .before .before .before .before .before .before .before .before .before .pre .1) (count-below (s .tasks) (starting (s .old .now) (s .mark .now))) (c .before .before .before .before .before .before .put-lines .ensures) (c .before .before .put-early .ensures)
+returns-2 c =
+    let start = c .before .before .before .before .before .before .before .before .before .before .before .before in
+    let a = start .args in
+    let zero = c .before .before .before .before .before .before .before .before .if1 .left in
+    told-yes (start .pre .0) (a .entry) (a .old .now) (a .told) zero (start .pre .1 zero) (c .before .before .before .before .before .before .put-lines .ensures) (c .before .before .put-early .ensures)
 
 same-length-2 : tie.Need-same-length-2
 same-length-2 c = wrote-length (returns-2 c)

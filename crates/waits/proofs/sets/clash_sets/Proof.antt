@@ -1,47 +1,44 @@
 use Prim.Native.Nat.{_-_, _≤_}
 use native.Mathlib.Omega.{arith}
 use mathlib.Core.Path.{_≡_, refl}
-use lib.Bits.{bitAnd}
-use lib.Dec.{leb}
-use lib.ListN.{replicate}
-use Rattle.laws.specs.Bits.{setOf}
 use Rattle.laws.specs.Each.{each}
-use Rattle.plan.specs.Value.{at}
-use Rattle.waits.proofs.SetLaws.{each-more}
-use Rattle.waits.specs.private.Arrays.{clashIn}
+use Rattle.waits.proofs.SetLaws.{clash-more}
+use Rattle.waits.specs.private.Arrays.{clashSets}
 use borrow.Author.Needs.{needs}
 use Rattle.waits.proofs.sets.clash_sets.Statement.{statement}
 use Rattle.waits.proofs.sets.clash_sets.Tie as tie
 
 abbrev Inv-loop : tie.InvT-loop
-Inv-loop board begin finish exclusive held after tasks sets₀ i₀ sets i =
-    (i ≤ tasks)
-    × (sets ≡ each i (λ k. bitAnd (setOf tasks (clashIn board exclusive held after k)) (setOf tasks (λ j. leb (at finish j) (at begin k)))) (replicate 64 0))
+Inv-loop sets₀ board holds after tasks on drives i₀ sets i = (i ≤ tasks) × (sets ≡ clashSets sets₀ board holds after tasks i)
 
 abbrev μ-loop : tie.MeasureT-loop
-μ-loop board begin finish exclusive held after tasks sets₀ i₀ sets i = tasks - i
+μ-loop sets₀ board holds after tasks on drives i₀ sets i = tasks - i
+
+board-sets-requires : tie.Need-board-sets-requires Inv-loop μ-loop
+board-sets-requires c κs = search needs
+
+holders-of-requires : tie.Need-holders-of-requires Inv-loop μ-loop
+holders-of-requires c κs = search needs
 
 loop-holds : tie.Need-loop-holds Inv-loop μ-loop
-unfolding each
+unfolding each clashSets
 loop-holds c = (omega arith, refl)
 
 clash-set-requires : tie.Need-clash-set-requires Inv-loop μ-loop
-clash-set-requires c κs = search needs
-
-mul-finished-by : tie.Need-mul-finished-by Inv-loop μ-loop
-mul-finished-by c = search needs
-
-element-copy-out-finished-by : tie.Need-element-copy-out-finished-by Inv-loop μ-loop
-element-copy-out-finished-by c = search needs
-
-finished-by-requires : tie.Need-finished-by-requires Inv-loop μ-loop
-finished-by-requires c κs = search needs
+clash-set-requires c κs =
+    let own = c .before .before .before .before .before .before .before .before .pre .1 (c .before .before .before .before .before .loop .i) (c .before .before .before .before .loop-test .taken) in (omega arith, own .0, own .1)
 
 mul-sets : tie.Need-mul-sets Inv-loop μ-loop
 mul-sets c = search needs
 
-array-write-sets : tie.Need-array-write-sets Inv-loop μ-loop
-array-write-sets c = search needs
+element-copy-out-sets : tie.Need-element-copy-out-sets Inv-loop μ-loop
+element-copy-out-sets c = search needs
+
+mul-sets-2 : tie.Need-mul-sets-2 Inv-loop μ-loop
+mul-sets-2 c = search needs
+
+element-write-sets : tie.Need-element-write-sets Inv-loop μ-loop
+element-write-sets c = search needs
 
 add-i : tie.Need-add-i Inv-loop μ-loop
 add-i c = search needs
@@ -50,10 +47,15 @@ loop-less : tie.Need-loop-less Inv-loop μ-loop
 loop-less c = search needs
 
 loop-again : tie.Need-loop-again Inv-loop μ-loop
-loop-again c = (omega arith, each-more _ _ _ (c .before .before .before .before .loop .inv .1) (rw (c .before .before .clash-set .ensures, c .finished-by .ensures)))
+loop-again c =
+    let a = c .before .before .before .before .before .before .before .before .before .before .args in (
+      omega arith,
+      clash-more (a .sets .now) (a .board .now) (a .holds .now) (a .after .now) (a .tasks) _
+          (c .before .before .before .before .before .before .before .before .before .board-sets .ensures) (c .before .before .before .before .before .before .before .before .holders-of .ensures) (c .before .before .before .before .before .before .before .loop .inv .1) (c .before .clash-set .ensures),
+    )
 
 returns : tie.Need-returns Inv-loop μ-loop
-returns c = let e : c .before .loop .i ≡ c .before .before .args .tasks = omega arith in rw e at (c .before .loop .inv .1)
+returns c = let e : c .before .loop .i ≡ c .before .before .before .before .args .tasks = omega arith in rw e at (c .before .loop .inv .1)
 
 pub clash-sets-spec : {M : Type 1} → statement M
 clash-sets-spec =
@@ -61,13 +63,14 @@ clash-sets-spec =
     (tie.spec
     Inv-loop
     μ-loop
+    board-sets-requires
+    holders-of-requires
     loop-holds
     clash-set-requires
-    mul-finished-by
-    element-copy-out-finished-by
-    finished-by-requires
     mul-sets
-    array-write-sets
+    element-copy-out-sets
+    mul-sets-2
+    element-write-sets
     add-i
     loop-less
     loop-again

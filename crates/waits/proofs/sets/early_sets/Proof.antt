@@ -1,53 +1,45 @@
 use Prim.Native.Nat.{_-_, _≤_}
 use native.Mathlib.Omega.{arith}
-use mathlib.Core.Path.{_≡_, refl}
+use mathlib.Core.Path.{_≡_}
 use lib.Dec.{leb}
-use lib.ListN.{replicate}
-use Rattle.laws.specs.Bits.{setOf}
+use Rattle.laws.specs.Bits.{setOf, setsTo}
 use Rattle.laws.specs.Each.{each}
+use Rattle.laws.proofs.Noted.{sets-length, sets-more}
 use Rattle.plan.specs.Value.{at}
-use Rattle.waits.proofs.SetLaws.{each-more}
 use borrow.Author.Needs.{needs}
 use Rattle.waits.proofs.sets.early_sets.Statement.{statement}
 use Rattle.waits.proofs.sets.early_sets.Tie as tie
 
 abbrev Inv-loop : tie.InvT-loop
-Inv-loop begin finish tasks sets₀ i₀ sets i =
-    (i ≤ tasks) × (sets ≡ each i (λ k. setOf tasks (λ j. leb (at finish j) (at begin k))) (replicate 64 0))
+Inv-loop sets₀ begin finish tasks j₀ sets j = (j ≤ tasks) × (sets ≡ setsTo 64 j (λ i k. leb (at finish k) (at begin i)))
 
 abbrev μ-loop : tie.MeasureT-loop
-μ-loop begin finish tasks sets₀ i₀ sets i = tasks - i
+μ-loop sets₀ begin finish tasks j₀ sets j = tasks - j
 
 loop-holds : tie.Need-loop-holds Inv-loop μ-loop
-unfolding each
-loop-holds c = (omega arith, refl)
+unfolding each setOf
+loop-holds c = (omega arith, c .pre .1)
 
-mul-finished-by : tie.Need-mul-finished-by Inv-loop μ-loop
-mul-finished-by c = search needs
+mul-await-task : tie.Need-mul-await-task Inv-loop μ-loop
+mul-await-task c = search needs
 
-element-copy-out-finished-by : tie.Need-element-copy-out-finished-by Inv-loop μ-loop
-element-copy-out-finished-by c = search needs
+element-copy-out-await-task : tie.Need-element-copy-out-await-task Inv-loop μ-loop
+element-copy-out-await-task c = search needs
 
-finished-by-requires : tie.Need-finished-by-requires Inv-loop μ-loop
-finished-by-requires c κs = search needs
+await-task-requires : tie.Need-await-task-requires Inv-loop μ-loop
+await-task-requires c κs = (omega arith, sets-length 64 _ _ (c .before .before .before .loop .inv .1))
 
-mul-sets : tie.Need-mul-sets Inv-loop μ-loop
-mul-sets c = search needs
-
-array-write-sets : tie.Need-array-write-sets Inv-loop μ-loop
-array-write-sets c = search needs
-
-add-i : tie.Need-add-i Inv-loop μ-loop
-add-i c = search needs
+add-j : tie.Need-add-j Inv-loop μ-loop
+add-j c = search needs
 
 loop-less : tie.Need-loop-less Inv-loop μ-loop
 loop-less c = search needs
 
 loop-again : tie.Need-loop-again Inv-loop μ-loop
-loop-again c = (omega arith, each-more _ _ _ (c .before .before .before .loop .inv .1) (c .finished-by .ensures))
+loop-again c = (omega arith, sets-more 64 _ _ (c .before .before .before .before .loop .inv .1) (c .await-task .ensures))
 
 returns : tie.Need-returns Inv-loop μ-loop
-returns c = let e : c .before .loop .i ≡ c .before .before .args .tasks = omega arith in rw e at (c .before .loop .inv .1)
+returns c = let e : c .before .loop .j ≡ c .before .before .args .tasks = omega arith in rw e at (c .before .loop .inv .1)
 
 pub early-sets-spec : {M : Type 1} → statement M
 early-sets-spec =
@@ -56,12 +48,10 @@ early-sets-spec =
     Inv-loop
     μ-loop
     loop-holds
-    mul-finished-by
-    element-copy-out-finished-by
-    finished-by-requires
-    mul-sets
-    array-write-sets
-    add-i
+    mul-await-task
+    element-copy-out-await-task
+    await-task-requires
+    add-j
     loop-less
     loop-again
     returns)

@@ -2,7 +2,7 @@ use Prim.Native.Nat.{_+_, _-_, _*_, _≤_}
 use mathlib.Core.Path.{_≡_, sym, ap}
 use native.Mathlib.Omega.{arith}
 use lib.ListN.{length, drop}
-use Rattle.text.specs.Items.{listText}
+use Rattle.lists.specs.Items.{listText}
 use Rattle.writer.specs.private.WriteParts.{itemText}
 use Rattle.writer.proofs.WriteLaws.{laterText, list-none, len-start, len-turn, len-end}
 use borrow.Author.Needs.{needs}

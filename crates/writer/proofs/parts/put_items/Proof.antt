@@ -1,5 +1,5 @@
 use mathlib.Core.List.{[], _∷_}
-use Rattle.text.specs.Items.{NONE}
+use Rattle.lists.specs.Items.{NONE}
 use Prim.Native.Nat.{_-_}
 use mathlib.Core.Path.{_∙_}
 use lib.ListN.{length, getD, drop}

@@ -1,5 +1,5 @@
 use mathlib.Core.List.{[], _∷_}
-use Rattle.text.specs.Items.{COMMA}
+use Rattle.lists.specs.Items.{COMMA}
 use Rattle.writer.specs.private.WriteParts.{itemText}
 use Rattle.writer.proofs.RunLaws.{two, all-left, next-room, put, turn, done}
 use borrow.Author.Needs.{needs}

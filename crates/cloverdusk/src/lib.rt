@@ -1,0 +1,137 @@
+// The static library: what C and the tests in Rust call, and nothing else.
+ghost use mathlib.Core.Path.{_≡_};
+ghost use mathlib.Core.Bool.{cond};
+ghost use Prim.Native.Nat.{_≤_};
+ghost use lib.ListN.{length};
+ghost use lib.Seq.{sets};
+ghost use Rattle.plan.specs.Read.{readingOf, mendedOf};
+ghost use Rattle.plan.specs.Convert.{convertedOf};
+ghost use Rattle.plan.specs.Write.{writtenOf, bufferAfter};
+ghost use Rattle.plan.specs.Value.{isAccepted};
+ghost use Rattle.book.specs.Sound.{isSound};
+ghost use Rattle.book.specs.Open.{openingOf};
+ghost use Rattle.book.specs.declared.Rule.the-variants.{EarlyStart, Clash};
+ghost use Rattle.book.specs.Report.{reportedOf};
+ghost use Rattle.book.specs.Drop.{droppedOf};
+ghost use Rattle.book.specs.Early.{figureOf};
+ghost use Rattle.converter.specs.Renewed.{textMost, renewedIn};
+ghost use Rattle.log.specs.Log.{logMost, logIn};
+use book::Book;
+use book::Figure;
+use book::Handed;
+use book::Rule;
+use plan::Plan;
+use plan::Reading;
+use plan::Written;
+
+#[no_mangle]
+pub extern "C" fn dispatch_read_plan(text: &[u8]) -> Reading
+    ensures { λ r. ⌜ r ≡ readingOf (now (text .entry)) ⌝ }
+{
+    reader::read_plan(text)
+}
+
+#[no_mangle]
+pub extern "C" fn dispatch_read_exclusive(text: &[u8]) -> Reading
+    ensures { λ r. ⌜ r ≡ mendedOf (now (text .entry)) ⌝ }
+{
+    reader::read_exclusive(text)
+}
+
+#[no_mangle]
+pub extern "C" fn dispatch_convert(plan: Plan) -> Reading
+    ensures { λ r. ⌜ r ≡ convertedOf plan ⌝ }
+{
+    converter::convert(plan)
+}
+
+#[no_mangle]
+pub extern "C" fn dispatch_convert_text(text: &[u8], out: &mut [u8]) -> usize
+    ensures { λ r. ⌜ (r ≡ length (renewedIn (length (now (out .entry))) (now (text .entry)))) × (now (out .exit) ≡ sets (now (out .entry)) 0 (renewedIn (length (now (out .entry))) (now (text .entry)))) × (r ≤ textMost) ⌝ }
+{
+    converter::convert_text(text, out)
+}
+
+fn number(yes: bool) -> u32
+    ensures { λ r. ⌜ r ≡ cond yes 1 0 ⌝ }
+{
+    if yes {
+        return 1;
+    }
+    0
+}
+
+#[no_mangle]
+pub extern "C" fn dispatch_is_accepted(plan: Plan) -> u32
+    ensures { λ r. ⌜ r ≡ cond (isAccepted plan) 1 0 ⌝ }
+{
+    number(judge::value::is_accepted(
+        plan.edition,
+        plan.boards,
+        plan.tasks,
+        &plan.board,
+        &plan.ready,
+        &plan.begin,
+        &plan.finish,
+        &plan.holds,
+        &plan.after,
+    ))
+}
+
+#[no_mangle]
+pub extern "C" fn dispatch_is_sound(book: Book) -> u32
+    ensures { λ r. ⌜ r ≡ cond (isSound book) 1 0 ⌝ }
+{
+    number(book::is_sound(book))
+}
+
+fn rule_for(clash: bool) -> Rule
+    ensures { λ r. ⌜ r ≡ cond clash Clash EarlyStart ⌝ }
+{
+    if clash {
+        return Rule::Clash;
+    }
+    Rule::EarlyStart
+}
+
+#[no_mangle]
+pub extern "C" fn dispatch_open_book(plan: Plan, clash: bool) -> Handed
+    ensures { λ r. ⌜ r ≡ openingOf plan (cond clash Clash EarlyStart) ⌝ }
+{
+    book::open_book(plan, rule_for(clash))
+}
+
+#[no_mangle]
+pub extern "C" fn dispatch_report(book: Book, task: u32, tick: u32) -> Handed
+    ensures { λ r. ⌜ r ≡ reportedOf book task tick ⌝ }
+{
+    book.report(task, tick)
+}
+
+#[no_mangle]
+pub extern "C" fn dispatch_drop(book: Book, task: u32) -> Handed
+    ensures { λ r. ⌜ r ≡ droppedOf book task ⌝ }
+{
+    book.drop(task)
+}
+
+#[no_mangle]
+pub extern "C" fn dispatch_minimum_early(book: Book) -> Figure
+    ensures { λ r. ⌜ r ≡ figureOf book ⌝ }
+{
+    book.minimum_early()
+}
+
+#[no_mangle]
+pub extern "C" fn dispatch_write_plan(plan: Plan, out: &mut [u8]) -> Written
+    ensures { λ r. ⌜ (r ≡ writtenOf plan (length (now (out .entry)))) × (now (out .exit) ≡ bufferAfter plan (now (out .entry))) ⌝ }
+{
+    writer::write::write_plan(plan, out)
+}
+
+#[no_mangle]
+pub extern "C" fn dispatch_run_log(plan: &[u8], ends: &[u8], out: &mut [u8]) -> usize
+    ensures { λ r. ⌜ (r ≡ length (logIn (length (now (out .entry))) (now (plan .entry)) (now (ends .entry)))) × (now (out .exit) ≡ sets (now (out .entry)) 0 (logIn (length (now (out .entry))) (now (plan .entry)) (now (ends .entry)))) × (r ≤ logMost) ⌝ }
+{
+    log::run_log(plan, ends, out)
+}

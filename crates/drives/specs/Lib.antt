@@ -1,2 +1,0 @@
-pub mod Drives
-pub mod private

@@ -1,0 +1,2 @@
+pub mod ClashLaws
+pub mod HoldLaws

@@ -1,0 +1,4 @@
+pub mod Count
+pub mod Last
+pub mod Rise
+pub mod Noted

@@ -1,0 +1,17 @@
+pub mod PlanA
+pub mod Walk
+pub mod Starred
+pub mod Drops
+pub mod Listing
+pub mod Impostors
+pub mod Weaker
+pub mod Late
+pub mod Columns
+pub mod Ready
+pub mod Shared
+pub mod Clash
+pub mod Texts
+pub mod Orders
+pub mod Limits
+pub mod Dispatchers
+pub mod FieldStops
