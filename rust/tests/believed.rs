@@ -217,6 +217,23 @@ fn a_public_contract_that_cites_a_word_or_a_private_name_is_refused() {
     ]);
 }
 
+#[test]
+fn the_promises_of_a_request_stand_in_a_crate_of_their_own() {
+    let made = MadeUp::new("believed-own");
+    made.put("crates.txt", &format!("{CRATES}own_promises: high\n"));
+    let place = "crates/own_promises/specs/Said.antt";
+    made.put(place, &definition("saidOf", ""));
+    made.expect_refused(&[], &[
+        "there is no crates/own_promises/proofs/Promises.antt",
+        "no statement of the promises uses saidOf of crates/own_promises/specs/Said.antt: it belongs to specs/private/ or proofs/",
+    ]);
+    let claim = "use Rattle.own_promises.specs.Said.{saidOf}\n\npub claim : saidOf 0 ≡ 0\nclaim = refl\n";
+    made.put("crates/own_promises/proofs/Promises.antt", claim);
+    let (status, printed) = made.counted(&[]);
+    assert_eq!(status, 0, "{printed}");
+    assert!(tables(&printed).last().unwrap().contains(&"| `own_promises` | Said | 1 | 2 |"));
+}
+
 /// The committed tables are counted by `./test`; here only that what is said of them is so.
 #[test]
 fn nobody_who_calls_believes_a_set_of_bits() {

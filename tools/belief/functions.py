@@ -4,6 +4,7 @@ import os
 import re
 
 from belief.house import Source
+from belief.rooms import WORDS, is_promises
 from belief.texts import cited, imports_of, read
 
 EXPORTS = "cloverdusk"
@@ -111,9 +112,15 @@ def contracts(house, functions, kinds=("ensures",)):
                 yield d, by
 
 
+def statement_files(house):
+    """those of the demands, and of each request that has a crate of promises of its own"""
+    own = (crate for crate in house.crates() if is_promises(crate) and crate != WORDS)
+    return [*STATEMENTS, *("crates/%s/proofs/Promises.antt" % crate for crate in own)]
+
+
 def statements(house):
     """the definitions that the public statements of the promises name, each with its statement"""
-    for path in STATEMENTS:
+    for path in statement_files(house):
         if not os.path.exists(house.path(path)):
             house.lost.append("there is no %s" % path)
             continue

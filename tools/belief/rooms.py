@@ -1,10 +1,14 @@
 """The rooms of specs/: a path tells whether a file must be believed.
 
 `specs/` has what public contracts rest on, `specs/words/` what only the statements of the promises add, `specs/private/` what
-only private functions say and ask. What proofs alone use stands in `proofs/`. Two crates have no function: the specs/ of
-`promises` are words as a whole, and those of `tables` are the rows of its own theorems.
+only private functions say and ask. What proofs alone use stands in `proofs/`. Some crates have no function: the specs/ of
+`promises`, and of a request's own `NAME_promises`, are words as a whole, and those of `tables` are the rows of its own theorems.
 """
 WORDS, ROWS = "promises", "tables"
+
+
+def is_promises(crate):
+    return crate == WORDS or crate.endswith("_" + WORDS)
 
 
 def room_of(place):
@@ -12,7 +16,7 @@ def room_of(place):
     _, crate, folder, *rest = place.split("/")
     if folder != "specs":
         return None
-    whole = {WORDS: "words", ROWS: "rows"}.get(crate, "")
+    whole = "words" if is_promises(crate) else "rows" if crate == ROWS else ""
     return rest[0] if rest[0] in ("words", "private") else whole
 
 
