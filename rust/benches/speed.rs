@@ -5,6 +5,7 @@
 //! so does `cargo bench` where the proved implementation runs under an emulator.
 
 use dispatcher::sample::events::{droppable_tasks, ends_text, must_take, passed_tasks, Event};
+use dispatcher::sample::lengths::{lengths_text, Case};
 use dispatcher::sample::mornings::random_morning;
 use dispatcher::sample::old_texts::with_all_shared;
 use dispatcher::sample::plans::{exclusively_held, full_plan, with_even_ready_ticks};
@@ -13,8 +14,10 @@ use dispatcher::sample::{announced_seed, Rng};
 use dispatcher::text::plan_text;
 use dispatcher::values::LONGEST_TEXT;
 use dispatcher::{accepted, convert, convert_text, drop_task, minimum_early, open_book, proved};
-use dispatcher::{read_exclusive, read_plan, report, run_log, write_plan};
-use dispatcher::{Answer, Book, Plan, Rule};
+use dispatcher::{
+    read_exclusive, read_plan, report, run_log, timetable, timetable_text, write_plan,
+};
+use dispatcher::{Answer, Book, Lengths, Plan, Rule};
 use std::fs;
 use std::hint::black_box;
 use std::time::{Duration, Instant};
@@ -237,6 +240,45 @@ fn time_drops(rounds: u32, rng: &mut Rng, plan: &Plan, rule: Rule) {
     );
 }
 
+/// The engine without reports by both rules, with short lengths and a quarter of the tasks dropped, and its program's work.
+fn time_timetables(rounds: u32, rng: &mut Rng, plan: &Plan) {
+    for rule in Rule::BOTH {
+        let mut given = Lengths::planned(plan);
+        given.length = given.length.map(|planned| planned - planned / 3);
+        let none_dropped = given;
+        given.dropped = with_a_quarter_dropped(plan, rule).dropped;
+        assert_eq!(timetable(plan, rule, &given).answer, Answer::ACCEPTED);
+        println!("by {rule:?}");
+        for (what, given) in [
+            ("timetable, 64 tasks", none_dropped),
+            ("timetable, 16 dropped", given),
+        ] {
+            time_both(
+                rounds,
+                what,
+                || proved::timetable(black_box(plan), rule, black_box(&given)),
+                || timetable(black_box(plan), rule, black_box(&given)),
+            );
+        }
+        let text = plan_text(plan);
+        let case = Case {
+            plan: *plan,
+            rule,
+            given,
+        };
+        let lengths = lengths_text(rng, &case);
+        let mut out = vec![0; proved::LONGEST_TIMETABLE];
+        let length = proved::write_timetable(&text, &lengths, &mut out);
+        assert!(out[..length] == timetable_text(&text, &lengths));
+        time_both(
+            rounds,
+            "timetable, whole program",
+            || proved::write_timetable(black_box(&text), black_box(&lengths), black_box(&mut out)),
+            || timetable_text(black_box(&text), black_box(&lengths)).len(),
+        );
+    }
+}
+
 fn main() {
     // Cargo says --bench to a benchmark only when times are wanted.
     let times_wanted = std::env::args().any(|arg| arg == "--bench");
@@ -257,10 +299,12 @@ fn main() {
     }
     let plan = full_plan(&mut rng, 64);
     time_rules(rounds, &mut rng, &plan);
+    time_timetables(rounds, &mut rng, &plan);
     time_conversions(rounds, &plan);
     println!("edition 2");
     let awaited = with_even_ready_ticks(&plan);
     time_random_morning(rounds, &mut rng, &awaited);
     time_texts(rounds, &awaited);
     time_rules(rounds, &mut rng, &awaited);
+    time_timetables(rounds, &mut rng, &awaited);
 }

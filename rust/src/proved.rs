@@ -5,7 +5,7 @@
 //! linked and called over the C ABI; elsewhere a peer under an emulator calls it.
 //! The bindings of both ways are made by the build, from the Rattle source.
 
-use crate::values::{Book, Handed, Plan, Rule, LONGEST_TEXT};
+use crate::values::{Book, Handed, Lengths, Plan, Rule, Timetable, LONGEST_TEXT};
 
 #[cfg(direct)]
 mod direct;
@@ -28,6 +28,9 @@ pub const EMULATED: bool = cfg!(not(direct));
 /// No log is longer, and a shorter buffer gets nothing.
 pub const LONGEST_LOG: usize = 212_992;
 
+/// So it is with the text of a timetable.
+pub const LONGEST_TIMETABLE: usize = 3_328;
+
 /// The converter writes nothing into a shorter buffer; no text of a plan is longer.
 pub const CONVERTED_ROOM: usize = LONGEST_TEXT;
 
@@ -41,6 +44,10 @@ pub fn sound(book: &Book) -> bool {
 
 pub fn open_book(plan: &Plan, rule: Rule) -> Handed {
     library::open_book(plan, rule == Rule::Clash)
+}
+
+pub fn timetable(plan: &Plan, rule: Rule, given: &Lengths) -> Timetable {
+    library::timetable(plan, rule == Rule::Clash, given)
 }
 
 /// The truth values the library answers are 1 and 0, and no other number.

@@ -27,8 +27,8 @@ enum EndsLine {
     Drop { task: u32 },
 }
 
-/// What the first line of `ends.txt` says of the rule.
-enum RuleLine<'a> {
+/// What the first line of `ends.txt`, or of `lengths.txt`, says of the rule.
+pub enum RuleLine<'a> {
     Absent,
     /// The clash rule, and the text from the next line on.
     Clash(&'a [u8]),
@@ -66,7 +66,7 @@ pub fn run_log(plan_text: &[u8], ends_text: &[u8]) -> Vec<u8> {
     log
 }
 
-fn read_rule_line(ends_text: &[u8]) -> RuleLine<'_> {
+pub fn read_rule_line(ends_text: &[u8]) -> RuleLine<'_> {
     let line = first_line(ends_text);
     if first_field(line) != b"rule" {
         return RuleLine::Absent;

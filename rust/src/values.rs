@@ -115,6 +115,24 @@ pub struct Written {
     pub length: u32,
 }
 
+/// What the engine without reports is given of each task. Where `dropped` is
+/// 1 the task is dropped, and its length is not read.
+#[repr(C)]
+#[derive(Clone, Copy, PartialEq, Eq, Debug)]
+pub struct Lengths {
+    pub length: [u32; 64],
+    pub dropped: [u8; 64],
+}
+
+/// An answer, and each task's start and end.
+#[repr(C)]
+#[derive(Clone, Copy, PartialEq, Eq, Debug)]
+pub struct Timetable {
+    pub answer: Answer,
+    pub start: [u32; 64],
+    pub end: [u32; 64],
+}
+
 impl Answer {
     pub const ACCEPTED: Answer = refusal(0, 0, 0);
     /// A plan handed in is not accepted, or a book is not sound.
@@ -213,6 +231,32 @@ impl Book {
             after: self.after,
         }
     }
+}
+
+impl Lengths {
+    /// Every task takes its planned length, and none is dropped.
+    pub fn planned(plan: &Plan) -> Lengths {
+        let mut length = [0; 64];
+        for (i, length) in length[..plan.task_count()].iter_mut().enumerate() {
+            *length = plan.finish[i] - plan.begin[i];
+        }
+        Lengths {
+            length,
+            dropped: [0; 64],
+        }
+    }
+
+    pub fn is_dropped(&self, i: usize) -> bool {
+        self.dropped[i] == DROPPED
+    }
+}
+
+impl Timetable {
+    pub const ZERO: Timetable = Timetable {
+        answer: Answer::ACCEPTED,
+        start: [0; 64],
+        end: [0; 64],
+    };
 }
 
 /// The items of a list: its places up to the first empty one.

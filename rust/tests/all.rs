@@ -12,6 +12,7 @@ mod compare_columns;
 mod compare_convert;
 mod compare_log;
 mod compare_text;
+mod compare_timetable;
 mod conversion;
 mod convert;
 mod drops;
@@ -30,6 +31,9 @@ mod rule_lines;
 mod shared_holds;
 mod shortcuts;
 mod stack;
+mod timetable;
+mod timetable_feeds;
+mod timetable_impostors;
 
 use dispatcher::sample::program::{at_root, entries_below};
 

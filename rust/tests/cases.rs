@@ -62,7 +62,7 @@ fn the_second_dispatcher_prints_the_logs_of_cases_and_examples() {
 
 #[test]
 fn examples_print_their_logs() {
-    assert_eq!(expect_logs_below(&at_root("examples")), 10);
+    assert_eq!(expect_logs_below(&at_root("examples")), 11);
 }
 
 /// The ticks at which tasks start and end by a log, each by its number.

@@ -9,9 +9,10 @@ use std::process::{Command, Output};
 use std::time::{Duration, Instant};
 use std::{env, fs, thread};
 
-const COMMANDS: [&str; 7] = [
+const COMMANDS: [&str; 8] = [
     "runlog",
     "convert",
+    "timetable",
     "explain",
     "test",
     "tools/bench",
@@ -122,7 +123,7 @@ fn expect_failed(output: &Output, why: &str) {
 fn a_folder_is_found_from_where_the_command_is_called() {
     let elsewhere = folder("cdpath");
     fs::create_dir_all(elsewhere.join("examples/plan-a")).unwrap();
-    for command in ["runlog", "convert", "explain"] {
+    for command in ["runlog", "convert", "timetable", "explain"] {
         let called = |path: &Path| {
             let mut command = Command::new(at_root(command).canonicalize().unwrap());
             let command = command.arg("examples/plan-a").current_dir(at_root(""));
@@ -212,7 +213,7 @@ fn project(command: &str, name: &str, rt: &str) -> PathBuf {
     fs::create_dir_all(root.join("crates")).unwrap();
     fs::create_dir_all(root.join("examples/plan-a")).unwrap();
     let crates =
-        "# NAME: DEP DEP\nlow:\nhigh: low io\nbeside: low high\nconvert: low\nrunlog: high os\n";
+        "# NAME: DEP DEP\nlow:\nhigh: low io\nbeside: low high\nconvert: low\nrunlog: high os\ntimetable: low\n";
     fs::write(root.join("crates.txt"), crates).unwrap();
     put_script(&root.join("tools/program"), "echo \"$* ran\"");
     for script in [command, "tools/run.bash", "tools/use.bash"] {

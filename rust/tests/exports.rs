@@ -9,7 +9,7 @@ use dispatcher::sample::program::at_root;
 use dispatcher::sample::reports::last_moment_report;
 use dispatcher::sample::{announced_seed, Rng};
 use dispatcher::text::plan_text;
-use dispatcher::{Plan, Rule};
+use dispatcher::{Lengths, Plan, Rule};
 use std::fs;
 
 /// The names that the archive's index lists: a count, so many offsets of 4 bytes, so many names.
@@ -126,10 +126,28 @@ fn compare_on_plan(plan: &Plan) {
         let by_peer = with_buffer(length, |out| peer::convert_text(&text, out));
         assert!(by_peer == with_buffer(length, |out| proved::convert_text(&text, out)));
     }
+    for lengths in [&b""[..], b"length\t1\t1\n", b"rule\tclash\n"] {
+        let length = proved::LONGEST_TIMETABLE;
+        let by_peer = with_buffer(length, |out| peer::write_timetable(&text, lengths, out));
+        assert!(by_peer == with_buffer(length, |out| proved::write_timetable(&text, lengths, out)));
+    }
     for ends in [&b""[..], b"end\t1\t1\n", b"rule\tclash\n"] {
         let length = proved::LONGEST_LOG;
         let by_peer = with_buffer(length, |out| peer::run_log(&text, ends, out));
         assert!(by_peer == with_buffer(length, |out| proved::run_log(&text, ends, out)));
+    }
+}
+
+/// A struct of arrays that is handed in, and one that comes back.
+fn compare_timetables(plan: &Plan, rule: Rule) {
+    let planned = Lengths::planned(plan);
+    let none = Lengths {
+        length: [0; 64],
+        ..planned
+    };
+    for given in [planned, none] {
+        let by_peer = peer::timetable(plan, rule == Rule::Clash, &given);
+        assert!(by_peer == proved::timetable(plan, rule, &given));
     }
 }
 
@@ -156,6 +174,7 @@ fn the_peer_answers_as_the_library_does() {
         compare_on_plan(&plan);
         for rule in Rule::BOTH {
             compare_on_books(&plan, rule);
+            compare_timetables(&plan, rule);
         }
     }
 }

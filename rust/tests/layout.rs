@@ -1,6 +1,6 @@
 //! Where each field of the values lies, for callers in another language.
 
-use dispatcher::{Answer, Book, Figure, Handed, Plan, Reading, Rule, Written};
+use dispatcher::{Answer, Book, Figure, Handed, Lengths, Plan, Reading, Rule, Timetable, Written};
 use std::mem::{offset_of, size_of};
 
 #[test]
@@ -35,6 +35,17 @@ fn book_lies_as_stated() {
     assert_eq!(offset_of!(Book, holds), 1480);
     assert_eq!(offset_of!(Book, after), 3528);
     assert_eq!(size_of::<Book>(), 7624);
+}
+
+#[test]
+fn lengths_and_timetable_lie_as_stated() {
+    assert_eq!(offset_of!(Lengths, length), 0);
+    assert_eq!(offset_of!(Lengths, dropped), 256);
+    assert_eq!(size_of::<Lengths>(), 320);
+    assert_eq!(offset_of!(Timetable, answer), 0);
+    assert_eq!(offset_of!(Timetable, start), 12);
+    assert_eq!(offset_of!(Timetable, end), 268);
+    assert_eq!(size_of::<Timetable>(), 524);
 }
 
 #[test]

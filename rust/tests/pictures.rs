@@ -21,6 +21,12 @@ const DRAWN: [&str; 6] = [
 /// Shown in the README of their own example.
 const DRAWN_BELOW: [(&str, &str); 2] = [("two-rules", "early-start"), ("two-rules", "clash")];
 
+/// One morning drawn from its timetable and from its log, both shown in the README of the example.
+const DRAWN_TWICE: [(&str, &str); 2] = [
+    ("timetable.txt", "timetable.svg"),
+    ("log.txt", "picture.svg"),
+];
+
 /// Drawn by drive, each from what refuses its plan; shown in the README of their own example.
 const DRAWN_BY_DRIVE: [(&str, &str); 2] = [
     ("one-clash", "log.txt"),
@@ -98,6 +104,13 @@ fn the_committed_pictures_are_drawn_anew() {
         assert!(output.status.success());
         assert!(output.stdout == committed, "{folder}/picture.svg is old");
     }
+    for (text, svg) in DRAWN_TWICE {
+        let folder = "examples/timetable";
+        let output = draw(&format!("{folder}/plan.txt"), &format!("{folder}/{text}"));
+        let committed = fs::read(at_root(&format!("{folder}/{svg}"))).unwrap();
+        assert!(output.status.success());
+        assert!(output.stdout == committed, "{folder}/{svg} is old");
+    }
     for (name, refusal) in DRAWN_BY_DRIVE {
         let file = |file: &str| at_root("examples").join(name).join(file);
         let output = picture(&["--by", "drive"], &[file("plan.txt"), file(refusal)]);
@@ -121,6 +134,11 @@ fn the_readmes_show_them() {
     for (example, name) in DRAWN_BELOW {
         let readme = fs::read_to_string(at_root(&format!("examples/{example}/README.md"))).unwrap();
         assert!(readme.contains(&format!("({name}/picture.svg)")), "{name}");
+    }
+    assert!(readme.contains("(examples/timetable/timetable.svg)"));
+    let beside = fs::read_to_string(at_root("examples/timetable/README.md")).unwrap();
+    for (_, svg) in DRAWN_TWICE {
+        assert!(beside.contains(&format!("({svg})")), "{svg}");
     }
     for (name, _) in DRAWN_BY_DRIVE {
         let readme = fs::read_to_string(at_root(&format!("examples/{name}/README.md"))).unwrap();
@@ -275,6 +293,67 @@ fn a_refused_pair_is_marked() {
     assert!(svg.contains("refused by 6 (tasks 1 and 2)"));
     assert!(svg.contains("<title>board 1: task 1 and task 2 overlap from 4 to 6</title>"));
     assert!(heights(&svg, 2)[0] >= heights(&svg, 1)[0] + 18.0);
+}
+
+/// The bars of the timetable stand where those of the log do; it tells nothing of M.
+#[test]
+fn a_timetable_has_the_bars_of_its_log() {
+    let [timetable, log] = DRAWN_TWICE.map(|(_, svg)| {
+        let file = at_root("examples/timetable").join(svg);
+        fs::read_to_string(file).unwrap()
+    });
+    assert_eq!(bars(&timetable).len(), 7 + 1 + 6);
+    assert!(bars(&timetable) == bars(&log));
+    let diamonds = |svg: &str| svg.matches("dropped, skipped at 7").count();
+    assert_eq!(diamonds(&timetable), diamonds(&log));
+    assert!(timetable.contains("7 tasks on 3 boards: the plan and its timetable"));
+    assert!(log.contains("M, how early") && !timetable.contains("M, how early"));
+    let by_drive = picture(
+        &["--by", "drive"],
+        &["plan.txt", "timetable.txt"].map(|name| at_root("examples/timetable").join(name)),
+    );
+    let by_drive = String::from_utf8(by_drive.stdout).unwrap();
+    assert!(by_drive.contains("exclusive, planned and actual"));
+}
+
+/// Lines of plan A's timetable, and what is wrong with them.
+#[test]
+fn a_timetable_of_another_plan_is_not_drawn() {
+    let lines = [
+        "task\t1\t1\t0\t4\n",
+        "task\t2\t2\t0\t3\n",
+        "task\t3\t2\t3\t6\n",
+        "task\t4\t1\t6\t9\n",
+        "task\t5\t2\t6\t8\n",
+    ];
+    let folder = empty_folder(env!("CARGO_TARGET_TMPDIR"), "timetables");
+    let (plan, file) = (folder.join("plan.txt"), folder.join("timetable.txt"));
+    fs::write(&plan, PLAN_A).unwrap();
+    let drawn_of = |text: String| {
+        fs::write(&file, text).unwrap();
+        let output = picture(&[], &[plan.clone(), file.clone()]);
+        let said = String::from_utf8_lossy(&output.stderr).into_owned();
+        (output.status.code(), said)
+    };
+    assert_eq!(drawn_of(lines.concat()), (Some(0), String::new()));
+    for (line, why) in [
+        ("", "not of this plan"),
+        ("task\t2\t1\t0\t3\n", "line 2: the timetable is not of"),
+        ("task\t3\t2\t0\t3\n", "line 2: the timetable is not of"),
+        ("task\t2\t2\t0\n", "line 2: the timetable is not of"),
+        ("end\t2\t2\t0\t3\n", "line 2: the timetable is not of"),
+        ("task\t2\t2\t3\t2\n", "task 2 takes no length"),
+        ("task\t2\t2\t0\t5\n", "task 2 takes no length"),
+        ("task\t2\t2\t0\tx\n", "no number"),
+    ] {
+        let mut wrong = lines;
+        wrong[1] = line;
+        let (status, said) = drawn_of(wrong.concat());
+        assert_eq!(status, Some(1), "{line:?}");
+        assert!(said.contains(why), "{said}");
+    }
+    let (_, said) = drawn_of("refused\t22\t3\t0\n".to_string());
+    assert!(said.contains("refused by 22 (3, 0)"), "{said}");
 }
 
 #[test]

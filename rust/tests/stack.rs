@@ -1,6 +1,7 @@
 //! How much stack one call of the proved implementation takes (`proved::Measured` says what counts).
 
-use dispatcher::proved::{measured, Function, Measured, Measuring};
+use dispatcher::fields::line_of;
+use dispatcher::proved::{measured, Function, Measured, Measuring, LONGEST_TIMETABLE};
 use dispatcher::sample::events::{droppable_tasks, must_take, Event};
 use dispatcher::sample::old_texts::with_all_shared;
 use dispatcher::sample::plans::{exclusively_held, full_plan, with_even_ready_ticks};
@@ -8,8 +9,8 @@ use dispatcher::sample::reports::last_moment_report;
 use dispatcher::sample::tally::say;
 use dispatcher::sample::Rng;
 use dispatcher::text::plan_text;
-use dispatcher::values::LONGEST_TEXT;
-use dispatcher::{open_book, Book, Plan, Rule};
+use dispatcher::values::{DROPPED, LONGEST_TEXT};
+use dispatcher::{open_book, Book, Lengths, Plan, Rule};
 
 const MOST_STACK: u32 = 32_768;
 
@@ -110,6 +111,64 @@ fn a_converted_text_takes_no_more_than_64_kib() {
         let used = measured::convert_text(&text, &[0; LONGEST_TEXT]).used;
         say(&format!("stack of a converted text: {used} bytes"));
         assert!(used <= MOST_FOR_A_TEXT, "{used}");
+    }
+}
+
+/// The lengths that the plan has, every second droppable task dropped.
+fn lengths_with_drops(plan: &Plan, rule: Rule) -> Lengths {
+    let mut given = Lengths::planned(plan);
+    let book = open_book(plan, rule).book;
+    for task in droppable_tasks(&book).into_iter().step_by(2) {
+        given.dropped[task as usize - 1] = DROPPED;
+    }
+    given
+}
+
+fn check_timetable(what: &str, plan: &Plan, rule: Rule, given: &Lengths, code: u32) {
+    let measured = measured::timetable(plan, rule == Rule::Clash, given);
+    check(&format!("{what} by {rule:?}"), measured, code);
+}
+
+#[test]
+fn no_timetable_takes_more_than_32_kib() {
+    for (plan, rule) in full_plans()
+        .iter()
+        .flat_map(|plan| Rule::BOTH.map(|rule| (plan, rule)))
+    {
+        let given = lengths_with_drops(plan, rule);
+        check_timetable("a timetable", plan, rule, &given, 0);
+        check_timetable(
+            "a timetable without drops",
+            plan,
+            rule,
+            &Lengths::planned(plan),
+            0,
+        );
+        let all_dropped = Lengths {
+            dropped: [DROPPED; 64],
+            ..given
+        };
+        check_timetable("a timetable with all dropped", plan, rule, &all_dropped, 19);
+        let mut wrong = given;
+        wrong.length[63] = 0;
+        wrong.dropped[63] = 0;
+        check_timetable("a timetable with a wrong length", plan, rule, &wrong, 22);
+        check_timetable("a timetable of no plan", &Plan::ZERO, rule, &given, 9);
+    }
+}
+
+#[test]
+fn the_text_of_a_timetable_takes_no_more_than_64_kib() {
+    for plan in full_plans() {
+        let text = plan_text(&plan);
+        let lengths: Vec<u8> = (1..=64)
+            .flat_map(|task| line_of("length", &[task, 1]))
+            .collect();
+        for lengths in [&b""[..], b"rule\tclash\n", &lengths, b"length\n"] {
+            let used = measured::write_timetable(&text, lengths, &[0; LONGEST_TIMETABLE]).used;
+            say(&format!("stack of the text of a timetable: {used} bytes"));
+            assert!(used <= MOST_FOR_A_TEXT, "{used}");
+        }
     }
 }
 

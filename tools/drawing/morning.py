@@ -1,4 +1,4 @@
-"""A plan and its log as rows of bars, boards or drives, and the figure M."""
+"""A plan and its log or timetable as rows of bars, boards or drives, and the figure M of a log."""
 from .svg import ALONE, BAR, FIGURE, INK, LANE, LEFT, LINE, MARK, QUIET, RIGHT, SHARED, TOP, WIDTH, Picture
 from .texts import Log, read_log, read_plan
 
@@ -61,17 +61,18 @@ def step_of(last, most):
         power *= 10
 
 
-def draw_legend(picture, title, by_drive, has_log):
+def draw_legend(picture, title, by_drive, log):
     picture.text(LEFT, 26, title, 16, INK, "start")
-    many = 2 if has_log else 1
+    has_actual = log.clock is not None
+    many = 2 if has_actual else 1
     if by_drive:
-        words = ", planned and actual" if has_log else ", planned"
+        words = ", planned and actual" if has_actual else ", planned"
         x = picture.swatch(LEFT, ALONE[:many], "exclusive" + words)
         x = picture.swatch(x, SHARED[:many], "shared" + words)
     else:
         x = picture.swatch(LEFT, ALONE[:1], "planned")
-        x = picture.swatch(x, ALONE[1:], "actual") if has_log else x
-    if has_log:
+        x = picture.swatch(x, ALONE[1:], "actual") if has_actual else x
+    if log.steps:
         picture.lines.append(f'<path d="M{x} 47h26" stroke="{LINE}" stroke-width="2"/>')
         picture.text(x + 34, 52, "M, how early all that is left will be at least", 12, INK, "start")
 
@@ -165,6 +166,7 @@ def legends_of(tasks, by_drive):
 
 def title_of(boards, tasks, log, by_drive):
     went = f"the plan, {log.refused}" if log.refused else "the plan and how it went" if log.steps else "the plan"
+    went += " and its timetable" if log.is_timetable() else ""
     rule = " by the clash rule" if log.by_clash else ""
     many = f"{len(tasks)} task{'' if len(tasks) == 1 else 's'} on {boards} board{'' if boards == 1 else 's'}"
     return f"{many}{', by drive' if by_drive else ''}: {went}{rule}"
@@ -173,18 +175,18 @@ def title_of(boards, tasks, log, by_drive):
 def draw(plan_path, log_path, by_drive):
     boards, tasks = read_plan(plan_path)
     log = read_log(log_path, boards, tasks) if log_path else Log()
-    clock = log.steps[-1][0] if log.steps else None
-    rows = rows_of(boards, tasks, by_drive, clock)
-    last = max([clock or 0] + [task.finish for task in tasks])
+    rows = rows_of(boards, tasks, by_drive, log.clock)
+    last = max([log.clock or 0] + [task.finish for task in tasks])
     picture = Picture(sum(row.height for row in rows), last, bool(log.steps))
-    draw_legend(picture, title_of(boards, tasks, log, by_drive), by_drive, bool(log.steps))
+    draw_legend(picture, title_of(boards, tasks, log, by_drive), by_drive, log)
     draw_axis(picture)
-    draw_rows(picture, rows, clock)
+    draw_rows(picture, rows, log.clock)
     if log.steps:
         draw_figure(picture, log.steps)
     legends = "; ".join(legends_of(tasks, by_drive))
     if legends:
         picture.text(LEFT, picture.bottom + 42, legends, 11, INK, "start")
-    words = "Drawn by tools/picture from a plan and its log" if log_path else "Drawn by tools/picture from a plan"
-    picture.text(LEFT, picture.height - 14, f"{words}. The drawing is no part of what is proved.", 11, QUIET, "start")
+    source = "a plan and its timetable" if log.is_timetable() else "a plan and its log" if log_path else "a plan"
+    words = f"Drawn by tools/picture from {source}. The drawing is no part of what is proved."
+    picture.text(LEFT, picture.height - 14, words, 11, QUIET, "start")
     return picture.whole()

@@ -1,4 +1,4 @@
-"""Reads a plan and its log for drawing, and refuses what cannot be drawn."""
+"""Reads a plan and its log or timetable for drawing, and refuses what cannot be drawn."""
 import re
 
 # How many numbers follow each word of a log, below its first line.
@@ -14,7 +14,7 @@ class Unfit(Exception):
 
 
 class Task:
-    """A task's planned times, and what the log says of it."""
+    """A task's planned times, and what the log or the timetable says of it."""
 
     def __init__(self, number, board, ready, begin, finish, holds):
         self.number, self.board, self.ready, self.begin, self.finish = number, board, ready, begin, finish
@@ -39,10 +39,17 @@ class Task:
 
 
 class Log:
-    """What a log says of a whole morning: the rule, the steps of M as (clock, M), and where the plan is refused by what."""
+    """What a log says of a whole morning: the rule, the steps of M as (clock, M), and where the plan is refused by what.
 
-    def __init__(self, by_clash=False, steps=(), refused=None):
+    The clock is the tick up to which is told what went on, in a timetable its last end; none where only the plan is drawn.
+    """
+
+    def __init__(self, by_clash=False, steps=(), refused=None, clock=None):
         self.by_clash, self.steps, self.refused = by_clash, list(steps), refused
+        self.clock = self.steps[-1][0] if self.steps else clock
+
+    def is_timetable(self):
+        return self.clock is not None and not self.steps
 
 
 def number(text, what):
@@ -89,6 +96,8 @@ def read_task(k, edition, boards, row):
 def read_log(path, boards, tasks):
     """Fills in the tasks. Of a refusal of the whole plan a pair is marked, and nothing else is in such a log."""
     rows = rows_of(path)
+    if rows[0][1][0] == "task":
+        return read_timetable(path, rows, tasks)
     refused = read_refusal(rows[0], tasks)
     if refused:
         return Log(refused=refused)
@@ -108,6 +117,24 @@ def read_log(path, boards, tasks):
     if not steps:
         raise Unfit(f"{path}: it has no early line, so it is not a whole log")
     return Log(by_clash, steps)
+
+
+def read_timetable(path, rows, tasks):
+    """Fills in the tasks, of which each has its line; one that takes no time is a dropped one."""
+    if len(rows) != len(tasks):
+        raise Unfit(f"{path}: the timetable is not of this plan")
+    for task, (where, fields) in zip(tasks, rows):
+        numbers = [number(field, where) for field in fields[1:]]
+        if fields[0] != "task" or len(numbers) != 4 or numbers[:2] != [task.number, task.board]:
+            raise Unfit(f"{where}: the timetable is not of this plan")
+        start, end = numbers[2:]
+        if not 0 <= end - start <= task.finish - task.begin:
+            raise Unfit(f"{where}: task {task.number} takes no length from 0 to its planned one")
+        if start == end:
+            task.dropped, task.skip = True, start
+        else:
+            task.start, task.known, task.end = start, start, end
+    return Log(clock=max(task.skip if task.dropped else task.end for task in tasks))
 
 
 def read_refusal(row, tasks):

@@ -16,10 +16,15 @@ ghost use Rattle.book.specs.Drop.{droppedOf};
 ghost use Rattle.book.specs.Early.{figureOf};
 ghost use Rattle.converter.specs.Renewed.{textMost, renewedIn};
 ghost use Rattle.log.specs.Log.{logMost, logIn};
+ghost use Rattle.engine.specs.Timetable.{timetableOf};
+ghost use Rattle.timetable_lines.specs.Rows.{tableMost};
+ghost use Rattle.timetable_text.specs.Table.{tableIn};
 use book::Book;
 use book::Figure;
 use book::Handed;
 use book::Rule;
+use engine::Lengths;
+use engine::Timetable;
 use plan::Plan;
 use plan::Reading;
 use plan::Written;
@@ -123,6 +128,13 @@ pub extern "C" fn dispatch_minimum_early(book: Book) -> Figure
 }
 
 #[no_mangle]
+pub extern "C" fn dispatch_timetable(plan: Plan, clash: bool, given: Lengths) -> Timetable
+    ensures { λ r. ⌜ r ≡ timetableOf plan (cond clash Clash EarlyStart) given ⌝ }
+{
+    engine::work_out(plan, rule_for(clash), given)
+}
+
+#[no_mangle]
 pub extern "C" fn dispatch_write_plan(plan: Plan, out: &mut [u8]) -> Written
     ensures { λ r. ⌜ (r ≡ writtenOf plan (length (now (out .entry)))) × (now (out .exit) ≡ bufferAfter plan (now (out .entry))) ⌝ }
 {
@@ -134,4 +146,11 @@ pub extern "C" fn dispatch_run_log(plan: &[u8], ends: &[u8], out: &mut [u8]) -> 
     ensures { λ r. ⌜ (r ≡ length (logIn (length (now (out .entry))) (now (plan .entry)) (now (ends .entry)))) × (now (out .exit) ≡ sets (now (out .entry)) 0 (logIn (length (now (out .entry))) (now (plan .entry)) (now (ends .entry)))) × (r ≤ logMost) ⌝ }
 {
     log::run_log(plan, ends, out)
+}
+
+#[no_mangle]
+pub extern "C" fn dispatch_write_timetable(plan: &[u8], lengths: &[u8], out: &mut [u8]) -> usize
+    ensures { λ r. ⌜ (r ≡ length (tableIn (length (now (out .entry))) (now (plan .entry)) (now (lengths .entry)))) × (now (out .exit) ≡ sets (now (out .entry)) 0 (tableIn (length (now (out .entry))) (now (plan .entry)) (now (lengths .entry)))) × (r ≤ tableMost) ⌝ }
+{
+    timetable_text::write_timetable(plan, lengths, out)
 }

@@ -20,6 +20,9 @@ use Rattle.converter.specs.Renewed.{renewedText}
 use Rattle.theory.specs.Book.{allEnded, taskTest, soundTest}
 use Rattle.theory.specs.Report.{nonePast, reportCode, dropCode, goes, skipTimes, next, opened}
 use Rattle.theory.specs.Figure.{minimumEarly}
+use Rattle.times.specs.Times.{endsBy, lowest}
+use Rattle.length_codes.specs.Codes.{lengthsAnswer}
+use Rattle.engine.specs.Timetable.{timetableAnswer, timetableOf}
 use Rattle.view.specs.View.{laid}
 use Rattle.sound.specs.Sound.{soundOn}
 use Rattle.book.specs.View.{layOut}
@@ -32,6 +35,11 @@ use Rattle.entries.specs.Rules.{ruleCodes, choiceIn, choiceOf}
 use Rattle.log_lines.specs.Lines.{numbersLine, runBy}
 use Rattle.log.specs.Lines.{startLines}
 use Rattle.log.specs.Log.{openLog, toldOf, toldLog, endsLog, chosenLog, logOf}
+use Rattle.length_lines.specs.Lines.{taskCode, lengthCodes, lengthSaid, dropSaid, lineSaid}
+use Rattle.length_lines.specs.Lines as length-lines
+use Rattle.lengths.specs.Whole.{toldFrom, ticksFor, givenOf, chosenAsked, askedOf}
+use Rattle.timetable_lines.specs.Rows.{rowLines}
+use Rattle.timetable_text.specs.Table.{timesText, askedText, tableOf}
 use Rattle.promises.specs.Runs.{bookAfter}
 use Rattle.tables.specs.PlanA.{planA}
 use Rattle.tables.specs.Walk.{walk}
@@ -39,6 +47,7 @@ use Rattle.tables.specs.Dispatchers.{bookBy, startOn, planFour, startFre
 use Rattle.tables.specs.Weaker.{planTwo}
 use Rattle.tables.specs.Ready.{planB}
 use Rattle.tables.specs.Clash.{planC}
+use Rattle.tables.specs.Timetables.{planTurned, allTimed, allPrinted, keptEnds, endsByNumber}
 
 -- by crate: laws, text, plan, theory, book with those below it, log with those below it, promises, tables
 unfoldable pub computing : Bool
@@ -54,4 +63,7 @@ unfolding
     dropCodeOf dropAnswer droppedIn droppedOf figureOf
     endCodes dropCodes entryOf nextEntry ruleCodes choiceIn choiceOf numbersLine runBy startLines openLog toldOf toldLog endsLog chosenLog logOf
     bookAfter planA walk bookBy startOn planFour startFree planTwo planB planC
+    endsBy lowest lengthsAnswer timetableAnswer timetableOf planTurned allTimed keptEnds endsByNumber
+    taskCode lengthCodes length-lines.dropCodes lengthSaid dropSaid lineSaid toldFrom ticksFor givenOf chosenAsked askedOf rowLines timesText askedText tableOf
+    allPrinted
 computing = true

@@ -17,3 +17,4 @@ pub mod Clash
 pub mod Orders
 pub mod Limits
 pub mod FieldStops
+pub mod Timetables

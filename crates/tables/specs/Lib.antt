@@ -15,3 +15,4 @@ pub mod Orders
 pub mod Limits
 pub mod Dispatchers
 pub mod FieldStops
+pub mod Timetables

@@ -5,6 +5,7 @@ pub mod damage;
 pub mod events;
 pub mod every_book;
 pub mod faults;
+pub mod lengths;
 pub mod lent;
 pub mod lines;
 pub mod mixtures;

@@ -48,6 +48,30 @@ pub fn random_plan(rng: &mut Rng) -> Plan {
     in_either_edition(rng, &plan)
 }
 
+/// A plan of so few and so short tasks that every run of it can be tried.
+pub fn small_plan(rng: &mut Rng, tasks: u8) -> Plan {
+    let shape = Shape {
+        hold_percent: rng.pick(&[0, 2, 5]),
+        exclusive_percent: 50,
+        after_percent: rng.pick(&[0, 30]),
+        longest: 3,
+        widest_gap: 1,
+    };
+    let mut plan = Plan {
+        edition: EDITION_1,
+        boards: rng.within(1, 3) as u8,
+        tasks,
+        ..Plan::ZERO
+    };
+    let mut order: Vec<usize> = (0..plan.task_count()).collect();
+    rng.shuffle(&mut order);
+    for placed in 0..order.len() {
+        place_task(rng, &mut plan, &shape, &order[..placed], order[placed]);
+    }
+    fill_after_lists(rng, &mut plan, shape.after_percent);
+    in_either_edition(rng, &plan)
+}
+
 /// The plan as it is, or with ready ticks and exclusive holds.
 pub fn in_either_edition(rng: &mut Rng, plan: &Plan) -> Plan {
     if rng.chance(50) {

@@ -1,0 +1,2 @@
+pub mod Timetable
+pub mod private

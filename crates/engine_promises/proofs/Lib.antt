@@ -1,0 +1,6 @@
+pub mod Said
+pub mod Lines
+pub mod Orders
+pub mod Agreed
+pub mod Alike
+pub mod Promises

@@ -1,0 +1,4 @@
+pub mod SaidLaws
+pub mod NoteLaws
+pub mod WalkLaws
+pub mod WholeLaws

@@ -1,0 +1,3 @@
+pub mod LengthLine
+pub mod LengthText
+pub mod Promises

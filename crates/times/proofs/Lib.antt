@@ -1,0 +1,10 @@
+pub mod Fits
+pub mod Solved
+pub mod Bounds
+pub mod Finished
+pub mod Sooner
+pub mod Target
+pub mod Fed
+pub mod Lowest
+pub mod Alike
+pub mod Refused
