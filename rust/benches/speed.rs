@@ -13,9 +13,9 @@ use dispatcher::sample::reports::{accepted_report, Report};
 use dispatcher::sample::{announced_seed, Rng};
 use dispatcher::text::plan_text;
 use dispatcher::values::LONGEST_TEXT;
-use dispatcher::{accepted, convert, convert_text, drop_task, minimum_early, open_book, proved};
+use dispatcher::{accepted, convert, convert_text, drop_task, exact_early, minimum_early, open_book};
 use dispatcher::{
-    read_exclusive, read_plan, report, run_log, timetable, timetable_text, write_plan,
+    proved, read_exclusive, read_plan, report, run_log, timetable, timetable_text, write_plan,
 };
 use dispatcher::{Answer, Book, Lengths, Plan, Rule};
 use std::fs;
@@ -129,7 +129,7 @@ fn half_a_morning(rng: &mut Rng, plan: &Plan, rule: Rule) -> (Book, Report) {
     (book, next)
 }
 
-/// A report and M; answers the proved report's time.
+/// A report, M and the exact figure; answers the proved report's time.
 fn time_book(rounds: u32, rng: &mut Rng, plan: &Plan, rule: Rule) -> Option<f64> {
     let tasks = plan.tasks;
     let (book, (task, tick)) = half_a_morning(rng, plan, rule);
@@ -145,6 +145,12 @@ fn time_book(rounds: u32, rng: &mut Rng, plan: &Plan, rule: Rule) -> Option<f64>
         &format!("M, {tasks} tasks"),
         || proved::minimum_early(black_box(&book)),
         || minimum_early(black_box(&book)),
+    );
+    time_both(
+        rounds,
+        &format!("exact figure, {tasks} tasks"),
+        || proved::exact_early(black_box(&book)),
+        || exact_early(black_box(&book)),
     );
     time_of_report
 }

@@ -37,7 +37,7 @@ pub fn sound(book: &Book) -> bool {
 }
 
 /// Whom each task waits for by the book's rule, where the book is sound.
-fn waits_if_sound(book: &Book) -> Option<Waits> {
+pub(crate) fn waits_if_sound(book: &Book) -> Option<Waits> {
     let plan = book.plan();
     let rule = Rule::of_byte(book.rule)?;
     let waits = Waits::by(rule, &plan, &clashes_if_accepted(&plan)?);

@@ -3,6 +3,7 @@
 
 pub mod book;
 pub mod convert;
+pub mod exact;
 pub mod exports;
 pub mod fields;
 pub mod judge;
@@ -18,10 +19,11 @@ pub mod waits;
 
 pub use book::{drop_task, minimum_early, open_book, report, sound};
 pub use convert::{convert, convert_text, read_exclusive};
+pub use exact::exact_early;
 pub use judge::{accepted, first_faulty_pair};
 pub use lengths::timetable_text;
 pub use runlog::run_log;
 pub use text::{read_plan, write_plan};
 pub use timetable::timetable;
-pub use values::{Answer, Book, Figure, Handed, Plan, Reading, Rule, Written};
+pub use values::{Answer, Book, Exact, Figure, Handed, Plan, Reading, Rule, Written};
 pub use values::{Lengths, Timetable};

@@ -108,6 +108,15 @@ pub struct Figure {
     pub early: u32,
 }
 
+/// The exact figure: `known` is 1 beside it; 0, with 0, stands for "none".
+#[repr(C)]
+#[derive(Clone, Copy, PartialEq, Eq, Debug)]
+pub struct Exact {
+    pub answer: Answer,
+    pub known: u32,
+    pub early: u32,
+}
+
 #[repr(C)]
 #[derive(Clone, Copy, PartialEq, Eq, Debug)]
 pub struct Written {

@@ -1,6 +1,7 @@
 //! Where each field of the values lies, for callers in another language.
 
-use dispatcher::{Answer, Book, Figure, Handed, Lengths, Plan, Reading, Rule, Timetable, Written};
+use dispatcher::{Answer, Book, Exact, Figure, Handed, Lengths};
+use dispatcher::{Plan, Reading, Rule, Timetable, Written};
 use std::mem::{offset_of, size_of};
 
 #[test]
@@ -60,5 +61,7 @@ fn answers_stand_first() {
     assert_eq!(offset_of!(Reading, plan), 12);
     assert_eq!(offset_of!(Handed, book), 12);
     assert_eq!(offset_of!(Figure, early), 12);
+    assert_eq!(offset_of!(Exact, known), 12);
+    assert_eq!(offset_of!(Exact, early), 16);
     assert_eq!(offset_of!(Written, length), 12);
 }

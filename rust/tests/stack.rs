@@ -180,6 +180,7 @@ fn no_call_on_a_book_takes_more_than_32_kib() {
         }
     }
     check("a book not sound", measured::is_sound(&Book::ZERO), 0);
+    check("a refused figure", measured::exact_early(&Book::ZERO), 9);
 }
 
 /// Every call on a fresh book by that rule.
@@ -193,6 +194,7 @@ fn check_calls_on(book: &Book, rule: Rule) {
         10,
     );
     check(&by_rule("M"), measured::minimum_early(book), 0);
+    check(&by_rule("the exact figure"), measured::exact_early(book), 0);
     check(&by_rule("judging a book"), measured::is_sound(book), 1);
     let droppable = droppable_tasks(book);
     check(&by_rule("a drop"), measured::drop(book, droppable[0]), 0);

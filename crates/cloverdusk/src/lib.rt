@@ -14,6 +14,7 @@ ghost use Rattle.book.specs.declared.Rule.the-variants.{EarlyStart, Clash};
 ghost use Rattle.book.specs.Report.{reportedOf};
 ghost use Rattle.book.specs.Drop.{droppedOf};
 ghost use Rattle.book.specs.Early.{figureOf};
+ghost use Rattle.exact_figure.specs.Figure.{exactOf};
 ghost use Rattle.converter.specs.Renewed.{textMost, renewedIn};
 ghost use Rattle.log.specs.Log.{logMost, logIn};
 ghost use Rattle.engine.specs.Timetable.{timetableOf};
@@ -25,6 +26,7 @@ use book::Handed;
 use book::Rule;
 use engine::Lengths;
 use engine::Timetable;
+use exact_figure::Exact;
 use plan::Plan;
 use plan::Reading;
 use plan::Written;
@@ -132,6 +134,13 @@ pub extern "C" fn dispatch_timetable(plan: Plan, clash: bool, given: Lengths) ->
     ensures { λ r. ⌜ r ≡ timetableOf plan (cond clash Clash EarlyStart) given ⌝ }
 {
     engine::work_out(plan, rule_for(clash), given)
+}
+
+#[no_mangle]
+pub extern "C" fn dispatch_exact_early(book: Book) -> Exact
+    ensures { λ r. ⌜ r ≡ exactOf book ⌝ }
+{
+    exact_figure::exact_early(book)
 }
 
 #[no_mangle]

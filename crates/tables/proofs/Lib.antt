@@ -18,3 +18,4 @@ pub mod Orders
 pub mod Limits
 pub mod FieldStops
 pub mod Timetables
+pub mod Exact

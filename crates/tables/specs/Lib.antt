@@ -16,3 +16,4 @@ pub mod Limits
 pub mod Dispatchers
 pub mod FieldStops
 pub mod Timetables
+pub mod Exact

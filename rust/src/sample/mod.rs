@@ -4,6 +4,7 @@ pub mod columns;
 pub mod damage;
 pub mod events;
 pub mod every_book;
+pub mod every_later;
 pub mod faults;
 pub mod lengths;
 pub mod lent;

@@ -1,0 +1,4 @@
+pub mod Shown
+pub mod Engine
+pub mod Runs
+pub mod Promises
