@@ -8,14 +8,14 @@ use dispatcher::sample::events::{droppable_tasks, ends_text, must_take, passed_t
 use dispatcher::sample::lengths::{lengths_text, Case};
 use dispatcher::sample::mornings::random_morning;
 use dispatcher::sample::old_texts::with_all_shared;
-use dispatcher::sample::plans::{exclusively_held, full_plan, with_even_ready_ticks};
-use dispatcher::sample::reports::{accepted_report, Report};
+use dispatcher::sample::plans::{exclusively_held, full_plan, single_file, with_even_ready_ticks};
+use dispatcher::sample::reports::{accepted_report, last_moment_report, Report};
 use dispatcher::sample::{announced_seed, Rng};
 use dispatcher::text::plan_text;
 use dispatcher::values::LONGEST_TEXT;
 use dispatcher::{accepted, convert, convert_text, drop_task, exact_early, minimum_early, open_book};
 use dispatcher::{
-    proved, read_exclusive, read_plan, report, run_log, timetable, timetable_text, write_plan,
+    proved, read_exclusive, read_plan, report, run_log, timetable, timetable_text, why, write_plan,
 };
 use dispatcher::{Answer, Book, Lengths, Plan, Rule};
 use std::fs;
@@ -155,7 +155,25 @@ fn time_book(rounds: u32, rng: &mut Rng, plan: &Plan, rule: Rule) -> Option<f64>
     time_of_report
 }
 
-/// One plan by both rules: opening, report, M and drops, and what the clash rule costs.
+/// The longest chain of the plan's whole morning by the rule.
+fn time_chain(rounds: u32, plan: &Plan, rule: Rule) {
+    let mut book = open_book(plan, rule).book;
+    while let Some((task, tick)) = last_moment_report(&book) {
+        book = must_take(&book, Event::End(task, tick));
+    }
+    let links = |task: &u32| why(&book, *task).count;
+    let asked = (1..=u32::from(plan.tasks))
+        .max_by_key(links)
+        .expect("a plan has tasks");
+    time_both(
+        rounds,
+        &format!("why, chain of {}", links(&asked)),
+        || proved::why(black_box(&book), asked),
+        || why(black_box(&book), asked),
+    );
+}
+
+/// One plan by both rules: opening, report, M, drops and a chain, and what the clash rule costs.
 fn time_rules(rounds: u32, rng: &mut Rng, plan: &Plan) {
     let times = Rule::BOTH.map(|rule| {
         println!("by {rule:?}");
@@ -167,6 +185,7 @@ fn time_rules(rounds: u32, rng: &mut Rng, plan: &Plan) {
         );
         let time_of_report = time_book(rounds, rng, plan, rule);
         time_drops(rounds, rng, plan, rule);
+        time_chain(rounds, plan, rule);
         time_of_report
     });
     if let [Some(early_start), Some(clash)] = times {
@@ -307,6 +326,10 @@ fn main() {
     time_rules(rounds, &mut rng, &plan);
     time_timetables(rounds, &mut rng, &plan);
     time_conversions(rounds, &plan);
+    println!("64 tasks in single file");
+    for rule in Rule::BOTH {
+        time_chain(rounds, &single_file(), rule);
+    }
     println!("edition 2");
     let awaited = with_even_ready_ticks(&plan);
     time_random_morning(rounds, &mut rng, &awaited);

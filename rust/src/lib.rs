@@ -16,6 +16,7 @@ pub mod text;
 pub mod timetable;
 pub mod values;
 pub mod waits;
+pub mod why;
 
 pub use book::{drop_task, minimum_early, open_book, report, sound};
 pub use convert::{convert, convert_text, read_exclusive};
@@ -25,5 +26,6 @@ pub use lengths::timetable_text;
 pub use runlog::run_log;
 pub use text::{read_plan, write_plan};
 pub use timetable::timetable;
-pub use values::{Answer, Book, Exact, Figure, Handed, Plan, Reading, Rule, Written};
+pub use values::{Answer, Book, Chain, Exact, Figure, Handed, Plan, Reading, Rule, Written};
 pub use values::{Lengths, Timetable};
+pub use why::why;

@@ -117,6 +117,16 @@ pub struct Exact {
     pub early: u32,
 }
 
+/// Why a task started: its own number, then that of its cause, and so on; places
+/// past the last link hold 0.
+#[repr(C)]
+#[derive(Clone, Copy, PartialEq, Eq, Debug)]
+pub struct Chain {
+    pub answer: Answer,
+    pub count: u32,
+    pub links: [u8; 64],
+}
+
 #[repr(C)]
 #[derive(Clone, Copy, PartialEq, Eq, Debug)]
 pub struct Written {
@@ -158,6 +168,21 @@ pub const fn refusal(code: u32, first: u32, second: u32) -> Answer {
         code,
         first,
         second,
+    }
+}
+
+impl Chain {
+    pub const fn empty(answer: Answer) -> Chain {
+        Chain {
+            answer,
+            count: 0,
+            links: [0; 64],
+        }
+    }
+
+    /// The task numbers, the asked one first.
+    pub fn numbers(&self) -> &[u8] {
+        &self.links[..self.count as usize]
     }
 }
 

@@ -36,6 +36,8 @@ mod stack;
 mod timetable;
 mod timetable_feeds;
 mod timetable_impostors;
+mod why;
+mod why_impostors;
 
 use dispatcher::sample::program::{at_root, entries_below};
 

@@ -4,7 +4,7 @@ use dispatcher::fields::line_of;
 use dispatcher::proved::{measured, Function, Measured, Measuring, LONGEST_TIMETABLE};
 use dispatcher::sample::events::{droppable_tasks, must_take, Event};
 use dispatcher::sample::old_texts::with_all_shared;
-use dispatcher::sample::plans::{exclusively_held, full_plan, with_even_ready_ticks};
+use dispatcher::sample::plans::{exclusively_held, full_plan, single_file, with_even_ready_ticks};
 use dispatcher::sample::reports::last_moment_report;
 use dispatcher::sample::tally::say;
 use dispatcher::sample::Rng;
@@ -209,6 +209,26 @@ fn check_calls_on(book: &Book, rule: Rule) {
         measured::is_sound(&all_dropped),
         1,
     );
+}
+
+/// Asked of the last of 64 tasks in single file, the recursion from task to cause is 64 deep.
+#[test]
+fn a_chain_of_64_links_takes_no_more_than_32_kib() {
+    for rule in Rule::BOTH {
+        let mut book = open_book(&single_file(), rule).book;
+        while let Some((task, tick)) = last_moment_report(&book) {
+            book = must_take(&book, Event::End(task, tick));
+        }
+        let alone = measured::why(&book, 1).used;
+        for links in [1, 2, 32, 64] {
+            let what = format!("a chain of {links} links by {rule:?}");
+            check(&what, measured::why(&book, links), 0);
+            // The call comes last, so the compiler makes a jump of it: a step takes no stack.
+            assert_eq!(measured::why(&book, links).used, alone, "{what}");
+        }
+        check("a refused chain", measured::why(&book, 65), 10);
+    }
+    check("a chain not sound", measured::why(&Book::ZERO, 1), 9);
 }
 
 #[test]

@@ -15,6 +15,7 @@ ghost use Rattle.book.specs.Report.{reportedOf};
 ghost use Rattle.book.specs.Drop.{droppedOf};
 ghost use Rattle.book.specs.Early.{figureOf};
 ghost use Rattle.exact_figure.specs.Figure.{exactOf};
+ghost use Rattle.why.specs.Why.{whyOf};
 ghost use Rattle.converter.specs.Renewed.{textMost, renewedIn};
 ghost use Rattle.log.specs.Log.{logMost, logIn};
 ghost use Rattle.engine.specs.Timetable.{timetableOf};
@@ -24,6 +25,7 @@ use book::Book;
 use book::Figure;
 use book::Handed;
 use book::Rule;
+use causes::Chain;
 use engine::Lengths;
 use engine::Timetable;
 use exact_figure::Exact;
@@ -141,6 +143,13 @@ pub extern "C" fn dispatch_exact_early(book: Book) -> Exact
     ensures { λ r. ⌜ r ≡ exactOf book ⌝ }
 {
     exact_figure::exact_early(book)
+}
+
+#[no_mangle]
+pub extern "C" fn dispatch_why(book: Book, task: u32) -> Chain
+    ensures { λ r. ⌜ r ≡ whyOf book task ⌝ }
+{
+    why::why(book, task)
 }
 
 #[no_mangle]

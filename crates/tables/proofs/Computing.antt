@@ -23,6 +23,10 @@ use Rattle.theory.specs.Figure.{minimumEarly}
 use Rattle.times.specs.Times.{endsBy, lowest}
 use Rattle.length_codes.specs.Codes.{lengthsAnswer}
 use Rattle.engine.specs.Timetable.{timetableAnswer, timetableOf}
+use Rattle.chains.specs.Chain.{cause, stopsAt, chainTo}
+use Rattle.chains.specs.words.Times.{ranFor}
+use Rattle.causes.specs.Chained.{whyCode, chainFor}
+use Rattle.why.specs.Why.{whyOf}
 use Rattle.view.specs.View.{laid}
 use Rattle.sound.specs.Sound.{soundOn}
 use Rattle.book.specs.View.{layOut}
@@ -48,6 +52,7 @@ use Rattle.tables.specs.Weaker.{planTwo}
 use Rattle.tables.specs.Ready.{planB}
 use Rattle.tables.specs.Clash.{planC}
 use Rattle.tables.specs.Timetables.{planTurned, allTimed, allPrinted, keptEnds, endsByNumber}
+use Rattle.tables.specs.Chains.{planD, wrongTo, undropped}
 
 -- by crate: laws, text, plan, theory, book with those below it, log with those below it, promises, tables
 unfoldable pub computing : Bool
@@ -61,6 +66,7 @@ unfolding
     allEnded taskTest soundTest nonePast reportCode dropCode goes skipTimes next opened minimumEarly
     laid soundOn layOut openedOn openingOf codeOf reportAnswer nextBook reportedOf
     dropCodeOf dropAnswer droppedIn droppedOf figureOf
+    cause stopsAt chainTo ranFor whyCode chainFor whyOf planD wrongTo undropped
     endCodes dropCodes entryOf nextEntry ruleCodes choiceIn choiceOf numbersLine runBy startLines openLog toldOf toldLog endsLog chosenLog logOf
     bookAfter planA walk bookBy startOn planFour startFree planTwo planB planC
     endsBy lowest lengthsAnswer timetableAnswer timetableOf planTurned allTimed keptEnds endsByNumber

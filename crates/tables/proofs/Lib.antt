@@ -19,3 +19,4 @@ pub mod Limits
 pub mod FieldStops
 pub mod Timetables
 pub mod Exact
+pub mod Chains

@@ -9,6 +9,7 @@ use Rattle.tables.specs.Dispatchers.{textFour, planFour}
 use Rattle.tables.specs.Weaker.{textTwo, planTwo}
 use Rattle.tables.specs.Ready.{textB, planB}
 use Rattle.tables.specs.Clash.{textC, planC}
+use Rattle.tables.specs.Chains.{textD, planD}
 use Rattle.tables.specs.Orders.{textAhead, planAhead}
 use Rattle.tables.proofs.Computing.{computing}
 
@@ -23,6 +24,10 @@ sized-b = reading-sized false textB
 pub sized-c : SizedPlan planC
 unfolding planC
 sized-c = reading-sized false textC
+
+pub sized-d : SizedPlan planD
+unfolding planD
+sized-d = reading-sized false textD
 
 pub sized-ahead : SizedPlan planAhead
 unfolding planAhead
@@ -59,3 +64,7 @@ accepted-two = refl
 pub accepted-four : isAccepted planFour ≡ true
 unfolding computing
 accepted-four = refl
+
+pub accepted-d : isAccepted planD ≡ true
+unfolding computing
+accepted-d = refl

@@ -17,3 +17,4 @@ pub mod Dispatchers
 pub mod FieldStops
 pub mod Timetables
 pub mod Exact
+pub mod Chains

@@ -283,3 +283,19 @@ fn reach_the_last_tick(plan: &mut Plan) {
         plan.finish[i] += LAST_TICK - latest;
     }
 }
+
+/// 64 tasks on one board, each planned right after the one before.
+pub fn single_file() -> Plan {
+    let mut plan = Plan {
+        edition: EDITION_1,
+        boards: 1,
+        tasks: 64,
+        board: [1; 64],
+        ..Plan::ZERO
+    };
+    for i in 0..64 {
+        plan.begin[i] = 10 * i as u32;
+        plan.finish[i] = plan.begin[i] + 10;
+    }
+    plan
+}

@@ -1,0 +1,4 @@
+pub mod Cause
+pub mod Chain
+pub mod Alike
+pub mod Exact
