@@ -13,7 +13,12 @@ use dispatcher::sample::reports::{accepted_report, last_moment_report, Report};
 use dispatcher::sample::{announced_seed, Rng};
 use dispatcher::text::plan_text;
 use dispatcher::values::LONGEST_TEXT;
-use dispatcher::{accepted, convert, convert_text, drop_task, exact_early, minimum_early, open_book};
+use dispatcher::{
+    accepted, convert, convert_text, drop_task, exact_early, minimum_early, open_book,
+};
+use dispatcher::{
+    drop_sheet, fresh_sheet, make_sheet, on_drive, renew_sheet, report_sheet, standing,
+};
 use dispatcher::{
     proved, read_exclusive, read_plan, report, run_log, timetable, timetable_text, why, write_plan,
 };
@@ -173,7 +178,64 @@ fn time_chain(rounds: u32, plan: &Plan, rule: Rule) {
     );
 }
 
-/// One plan by both rules: opening, report, M, drops and a chain, and what the clash rule costs.
+/// A report with its sheet against a report and a sheet made anew; and, not judging the book, a sheet afresh against the update.
+fn time_sheets(rounds: u32, rng: &mut Rng, plan: &Plan, rule: Rule) {
+    let (book, (task, tick)) = half_a_morning(rng, plan, rule);
+    let (sheet, before) = (fresh_sheet(&book), standing(&book));
+    let after = report(&book, task, tick).book;
+    let waiting = droppable_tasks(&book)[0];
+    time_both(
+        rounds,
+        "make a sheet, 64 tasks",
+        || proved::make_sheet(black_box(&book)),
+        || make_sheet(black_box(&book)),
+    );
+    time_both(
+        rounds,
+        "report with its sheet",
+        || proved::report_sheet(black_box(&book), black_box(&sheet), task, tick),
+        || report_sheet(black_box(&book), black_box(&sheet), task, tick),
+    );
+    time_both(
+        rounds,
+        "report, then make a sheet",
+        || proved::make_sheet(&proved::report(black_box(&book), task, tick).book),
+        || make_sheet(&report(black_box(&book), task, tick).book),
+    );
+    time_both(
+        rounds,
+        "drop with its sheet",
+        || proved::drop_sheet(black_box(&book), black_box(&sheet), waiting),
+        || drop_sheet(black_box(&book), black_box(&sheet), waiting),
+    );
+    time_both(
+        rounds,
+        "ask for drive 7",
+        || proved::on_drive(black_box(&book), black_box(&sheet), 7),
+        || on_drive(black_box(&book), black_box(&sheet), 7),
+    );
+    time_both(
+        rounds,
+        "a sheet afresh, not judged",
+        || proved::fresh_sheet(black_box(&after)),
+        || fresh_sheet(black_box(&after)),
+    );
+    time_both(
+        rounds,
+        "the update, not judged",
+        || {
+            proved::renew_sheet(
+                black_box(&sheet),
+                before.runs,
+                before.waits,
+                black_box(&after),
+            )
+        },
+        || renew_sheet(black_box(&sheet), black_box(&before), black_box(&after)),
+    );
+}
+
+/// One plan by both rules: opening, report, M, drops, a chain and sheets, and what the clash rule costs.
 fn time_rules(rounds: u32, rng: &mut Rng, plan: &Plan) {
     let times = Rule::BOTH.map(|rule| {
         println!("by {rule:?}");
@@ -186,6 +248,7 @@ fn time_rules(rounds: u32, rng: &mut Rng, plan: &Plan) {
         let time_of_report = time_book(rounds, rng, plan, rule);
         time_drops(rounds, rng, plan, rule);
         time_chain(rounds, plan, rule);
+        time_sheets(rounds, rng, plan, rule);
         time_of_report
     });
     if let [Some(early_start), Some(clash)] = times {

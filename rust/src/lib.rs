@@ -11,6 +11,7 @@ pub mod lengths;
 pub mod proved;
 pub mod runlog;
 pub mod sample;
+pub mod sheet;
 pub mod task_line;
 pub mod text;
 pub mod timetable;
@@ -24,8 +25,12 @@ pub use exact::exact_early;
 pub use judge::{accepted, first_faulty_pair};
 pub use lengths::timetable_text;
 pub use runlog::run_log;
+pub use sheet::{
+    drop_sheet, fresh_sheet, make_sheet, on_drive, renew_sheet, report_sheet, standing,
+};
 pub use text::{read_plan, write_plan};
 pub use timetable::timetable;
 pub use values::{Answer, Book, Chain, Exact, Figure, Handed, Plan, Reading, Rule, Written};
+pub use values::{Kept, Made, OnDrive, Sheet, Standing};
 pub use values::{Lengths, Timetable};
 pub use why::why;

@@ -152,6 +152,60 @@ pub struct Timetable {
     pub end: [u32; 64],
 }
 
+/// Of drive d the eight places from 8 (d - 1): its running holders by rising number, 0 past the last; and
+/// the next holder, or 0, at index d - 1.
+#[repr(C)]
+#[derive(Clone, Copy, PartialEq, Eq, Debug)]
+pub struct Sheet {
+    pub running: [u8; 256],
+    pub next: [u8; 32],
+}
+
+/// Bit i stands for task index i.
+#[repr(C)]
+#[derive(Clone, Copy, PartialEq, Eq, Debug)]
+pub struct Standing {
+    pub runs: u64,
+    pub waits: u64,
+}
+
+#[repr(C)]
+#[derive(Clone, Copy, PartialEq, Eq, Debug)]
+pub struct Made {
+    pub answer: Answer,
+    pub sheet: Sheet,
+}
+
+#[repr(C)]
+#[derive(Clone, Copy, PartialEq, Eq, Debug)]
+pub struct Kept {
+    pub handed: Handed,
+    pub sheet: Sheet,
+}
+
+#[repr(C)]
+#[derive(Clone, Copy, PartialEq, Eq, Debug)]
+pub struct OnDrive {
+    pub answer: Answer,
+    pub running: [u8; 8],
+    pub next: u8,
+}
+
+impl Sheet {
+    pub const ZERO: Sheet = Sheet {
+        running: [0; 256],
+        next: [0; 32],
+    };
+
+    /// The eight places of a drive.
+    pub fn running_on(&self, drive: u32) -> [u8; 8] {
+        let place = 8 * (drive as usize - 1);
+        self.running[place..place + 8]
+            .try_into()
+            .expect("eight places")
+    }
+}
+
 impl Answer {
     pub const ACCEPTED: Answer = refusal(0, 0, 0);
     /// A plan handed in is not accepted, or a book is not sound.

@@ -12,6 +12,7 @@ mod compare_columns;
 mod compare_convert;
 mod compare_exact;
 mod compare_log;
+mod compare_sheets;
 mod compare_text;
 mod compare_timetable;
 mod conversion;

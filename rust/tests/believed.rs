@@ -231,7 +231,10 @@ fn the_promises_of_a_request_stand_in_a_crate_of_their_own() {
     made.put("crates/own_promises/proofs/Promises.antt", claim);
     let (status, printed) = made.counted(&[]);
     assert_eq!(status, 0, "{printed}");
-    assert!(tables(&printed).last().unwrap().contains(&"| `own_promises` | Said | 1 | 2 |"));
+    assert!(tables(&printed)
+        .last()
+        .unwrap()
+        .contains(&"| `own_promises` | Said | 1 | 2 |"));
 }
 
 /// The committed tables are counted by `./test`; here only that what is said of them is so.

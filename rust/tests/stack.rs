@@ -10,7 +10,7 @@ use dispatcher::sample::tally::say;
 use dispatcher::sample::Rng;
 use dispatcher::text::plan_text;
 use dispatcher::values::{DROPPED, LONGEST_TEXT};
-use dispatcher::{open_book, Book, Lengths, Plan, Rule};
+use dispatcher::{fresh_sheet, open_book, standing, Book, Lengths, Plan, Rule, Sheet};
 
 const MOST_STACK: u32 = 32_768;
 
@@ -229,6 +229,54 @@ fn a_chain_of_64_links_takes_no_more_than_32_kib() {
         check("a refused chain", measured::why(&book, 65), 10);
     }
     check("a chain not sound", measured::why(&Book::ZERO, 1), 9);
+}
+
+/// Book and sheet together, half way through a morning and with drops.
+#[test]
+fn no_call_on_a_sheet_takes_more_than_32_kib() {
+    for plan in full_plans() {
+        for rule in Rule::BOTH {
+            let fresh = open_book(&plan, rule).book;
+            check_sheet_calls(&fresh, rule);
+            let dropped = droppable_tasks(&fresh)
+                .iter()
+                .take(16)
+                .fold(fresh, |book, &task| must_take(&book, Event::Drop(task)));
+            check_sheet_calls(&dropped, rule);
+        }
+    }
+    check("a refused sheet", measured::make_sheet(&Book::ZERO), 9);
+}
+
+fn check_sheet_calls(book: &Book, rule: Rule) {
+    let by_rule = |what: &str| format!("{what} by {rule:?}");
+    let sheet = fresh_sheet(book);
+    let (task, tick) = last_moment_report(book).expect("a fresh book has running tasks");
+    check(&by_rule("making a sheet"), measured::make_sheet(book), 0);
+    let reported = measured::report_sheet(book, &sheet, task, tick);
+    check(&by_rule("a report with its sheet"), reported, 0);
+    let refused = measured::report_sheet(book, &sheet, 65, tick);
+    check(&by_rule("a refused report with its sheet"), refused, 10);
+    let other = measured::report_sheet(book, &Sheet::ZERO, task, tick);
+    check(&by_rule("a report with another sheet"), other, 9);
+    let waiting = droppable_tasks(book)[0];
+    let dropped = measured::drop_sheet(book, &sheet, waiting);
+    check(&by_rule("a drop with its sheet"), dropped, 0);
+    check(
+        &by_rule("asking for a drive"),
+        measured::on_drive(book, &sheet, 7),
+        0,
+    );
+    check(
+        &by_rule("asking for drive 33"),
+        measured::on_drive(book, &sheet, 33),
+        21,
+    );
+    let before = standing(book);
+    let used = measured::renew_sheet(&sheet, before.runs, before.waits, book).used;
+    say(&format!("stack of an update: {used} bytes"));
+    assert!(used <= MOST_STACK);
+    assert!(measured::fresh_sheet(book).used <= MOST_STACK);
 }
 
 #[test]

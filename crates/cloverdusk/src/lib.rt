@@ -16,6 +16,7 @@ ghost use Rattle.book.specs.Drop.{droppedOf};
 ghost use Rattle.book.specs.Early.{figureOf};
 ghost use Rattle.exact_figure.specs.Figure.{exactOf};
 ghost use Rattle.why.specs.Why.{whyOf};
+ghost use Rattle.sheets.specs.Sheets.{sheetIn, madeOf, reportedWith, droppedWith, onDriveOf, standingIn, updatedIn};
 ghost use Rattle.converter.specs.Renewed.{textMost, renewedIn};
 ghost use Rattle.log.specs.Log.{logMost, logIn};
 ghost use Rattle.engine.specs.Timetable.{timetableOf};
@@ -26,12 +27,17 @@ use book::Figure;
 use book::Handed;
 use book::Rule;
 use causes::Chain;
+use drive_sheet::Sheet;
+use drive_sheet::Standing;
 use engine::Lengths;
 use engine::Timetable;
 use exact_figure::Exact;
 use plan::Plan;
 use plan::Reading;
 use plan::Written;
+use sheets::Kept;
+use sheets::Made;
+use sheets::OnDrive;
 
 #[no_mangle]
 pub extern "C" fn dispatch_read_plan(text: &[u8]) -> Reading
@@ -150,6 +156,56 @@ pub extern "C" fn dispatch_why(book: Book, task: u32) -> Chain
     ensures { λ r. ⌜ r ≡ whyOf book task ⌝ }
 {
     why::why(book, task)
+}
+
+#[no_mangle]
+pub extern "C" fn dispatch_make_sheet(book: Book) -> Made
+    ensures { λ r. ⌜ r ≡ madeOf book ⌝ }
+{
+    sheets::make_sheet(book)
+}
+
+#[no_mangle]
+pub extern "C" fn dispatch_report_sheet(book: Book, sheet: Sheet, task: u32, tick: u32) -> Kept
+    ensures { λ r. ⌜ r ≡ reportedWith book sheet task tick ⌝ }
+{
+    sheets::report_sheet(book, sheet, task, tick)
+}
+
+#[no_mangle]
+pub extern "C" fn dispatch_drop_sheet(book: Book, sheet: Sheet, task: u32) -> Kept
+    ensures { λ r. ⌜ r ≡ droppedWith book sheet task ⌝ }
+{
+    sheet_drops::drop_sheet(book, sheet, task)
+}
+
+#[no_mangle]
+pub extern "C" fn dispatch_on_drive(book: Book, sheet: Sheet, drive: u32) -> OnDrive
+    ensures { λ r. ⌜ r ≡ onDriveOf book sheet drive ⌝ }
+{
+    sheets::on_drive(book, sheet, drive)
+}
+
+// For who holds a sound book: the sheet worked out, and the update, without judging the book again.
+#[no_mangle]
+pub extern "C" fn dispatch_fresh_sheet(book: Book) -> Sheet
+    ensures { λ r. ⌜ r ≡ sheetIn book ⌝ }
+{
+    sheets::fresh(book)
+}
+
+#[no_mangle]
+pub extern "C" fn dispatch_standing(book: Book) -> Standing
+    ensures { λ r. ⌜ r ≡ standingIn book ⌝ }
+{
+    sheets::standing(book)
+}
+
+#[no_mangle]
+pub extern "C" fn dispatch_renew_sheet(sheet: Sheet, runs: u64, waits: u64, book: Book) -> Sheet
+    ensures { λ r. ⌜ r ≡ updatedIn sheet (record { runs = runs; waits = waits }) book ⌝ }
+{
+    sheets::renewed(sheet, Standing { runs, waits }, book)
 }
 
 #[no_mangle]

@@ -20,3 +20,4 @@ pub mod FieldStops
 pub mod Timetables
 pub mod Exact
 pub mod Chains
+pub mod Sheets

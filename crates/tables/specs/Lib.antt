@@ -18,3 +18,4 @@ pub mod FieldStops
 pub mod Timetables
 pub mod Exact
 pub mod Chains
+pub mod Sheets

@@ -1,0 +1,5 @@
+pub mod Lists
+pub mod Few
+pub mod Drives
+pub mod Checks
+pub mod Promises
