@@ -6,6 +6,7 @@
 
 use dispatcher::sample::events::{droppable_tasks, ends_text, must_take, passed_tasks, Event};
 use dispatcher::sample::lengths::{lengths_text, Case};
+use dispatcher::sample::logs::{own_log, school_log, school_times};
 use dispatcher::sample::mornings::random_morning;
 use dispatcher::sample::old_texts::with_all_shared;
 use dispatcher::sample::plans::{exclusively_held, full_plan, single_file, with_even_ready_ticks};
@@ -20,7 +21,8 @@ use dispatcher::{
     drop_sheet, fresh_sheet, make_sheet, on_drive, renew_sheet, report_sheet, standing,
 };
 use dispatcher::{
-    proved, read_exclusive, read_plan, report, run_log, timetable, timetable_text, why, write_plan,
+    judge_log, judged_text, proved, read_exclusive, read_plan, report, run_log, timetable,
+    timetable_text, why, write_plan,
 };
 use dispatcher::{Answer, Book, Lengths, Plan, Rule};
 use std::fs;
@@ -367,6 +369,32 @@ fn time_timetables(rounds: u32, rng: &mut Rng, plan: &Plan) {
     }
 }
 
+/// Our own log of a plan, a school's whose lines stand in any order, and the program's work.
+fn time_judged_logs(rounds: u32, rng: &mut Rng, plan: &Plan) {
+    let text = plan_text(plan);
+    let own = own_log(rng, plan, Rule::EarlyStart);
+    let times = school_times(rng, plan);
+    let school = school_log(rng, plan, &times);
+    for (whose, log) in [("our own", own), ("a school's", school)] {
+        assert_eq!(judge_log(plan, &log).answer, Answer::ACCEPTED);
+        time_both(
+            rounds,
+            &format!("judge {whose} log"),
+            || proved::judge_log(black_box(plan), black_box(&log)),
+            || judge_log(black_box(plan), black_box(&log)),
+        );
+        let mut out = [0; proved::LONGEST_JUDGED];
+        let length = proved::write_judged(&text, &log, &mut out);
+        assert!(out[..length] == judged_text(&text, &log));
+        time_both(
+            rounds,
+            &format!("its program, {} bytes", log.len()),
+            || proved::write_judged(black_box(&text), black_box(&log), black_box(&mut out)),
+            || judged_text(black_box(&text), black_box(&log)).len(),
+        );
+    }
+}
+
 fn main() {
     // Cargo says --bench to a benchmark only when times are wanted.
     let times_wanted = std::env::args().any(|arg| arg == "--bench");
@@ -388,6 +416,7 @@ fn main() {
     let plan = full_plan(&mut rng, 64);
     time_rules(rounds, &mut rng, &plan);
     time_timetables(rounds, &mut rng, &plan);
+    time_judged_logs(rounds, &mut rng, &plan);
     time_conversions(rounds, &plan);
     println!("64 tasks in single file");
     for rule in Rule::BOTH {
@@ -399,4 +428,5 @@ fn main() {
     time_texts(rounds, &awaited);
     time_rules(rounds, &mut rng, &awaited);
     time_timetables(rounds, &mut rng, &awaited);
+    time_judged_logs(rounds, &mut rng, &awaited);
 }

@@ -8,6 +8,7 @@ pub mod exports;
 pub mod fields;
 pub mod judge;
 pub mod lengths;
+pub mod log_judge;
 pub mod proved;
 pub mod runlog;
 pub mod sample;
@@ -24,6 +25,7 @@ pub use convert::{convert, convert_text, read_exclusive};
 pub use exact::exact_early;
 pub use judge::{accepted, first_faulty_pair};
 pub use lengths::timetable_text;
+pub use log_judge::{judge_log, judged_text};
 pub use runlog::run_log;
 pub use sheet::{
     drop_sheet, fresh_sheet, make_sheet, on_drive, renew_sheet, report_sheet, standing,
@@ -31,6 +33,6 @@ pub use sheet::{
 pub use text::{read_plan, write_plan};
 pub use timetable::timetable;
 pub use values::{Answer, Book, Chain, Exact, Figure, Handed, Plan, Reading, Rule, Written};
+pub use values::{Judged, Lengths, Timetable};
 pub use values::{Kept, Made, OnDrive, Sheet, Standing};
-pub use values::{Lengths, Timetable};
 pub use why::why;

@@ -25,6 +25,9 @@ pub const ENDED: u8 = 2;
 /// What `dropped` holds for a dropped task; for any other task it holds 0.
 pub const DROPPED: u8 = 1;
 
+/// What `known` holds for a task whose ticks a log tells; for any other task it holds 0.
+pub const KNOWN: u8 = 1;
+
 /// Whom a task waits for, chosen when a book is opened.
 #[repr(u8)]
 #[derive(Clone, Copy, PartialEq, Eq, Debug)]
@@ -148,6 +151,17 @@ pub struct Lengths {
 #[derive(Clone, Copy, PartialEq, Eq, Debug)]
 pub struct Timetable {
     pub answer: Answer,
+    pub start: [u32; 64],
+    pub end: [u32; 64],
+}
+
+/// What a log says: an answer, and `known` 1 for each task with exactly one start and one end
+/// in it, whatever boards they name, beside their ticks. For any other task all three hold 0.
+#[repr(C)]
+#[derive(Clone, Copy, PartialEq, Eq, Debug)]
+pub struct Judged {
+    pub answer: Answer,
+    pub known: [u8; 64],
     pub start: [u32; 64],
     pub end: [u32; 64],
 }
@@ -345,6 +359,22 @@ impl Timetable {
         start: [0; 64],
         end: [0; 64],
     };
+}
+
+impl Judged {
+    /// Nothing is known of any task.
+    pub const fn nothing(answer: Answer) -> Judged {
+        Judged {
+            answer,
+            known: [0; 64],
+            start: [0; 64],
+            end: [0; 64],
+        }
+    }
+
+    pub fn is_known(&self, i: usize) -> bool {
+        self.known[i] == KNOWN
+    }
 }
 
 /// The items of a list: its places up to the first empty one.

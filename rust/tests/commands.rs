@@ -9,10 +9,11 @@ use std::process::{Command, Output};
 use std::time::{Duration, Instant};
 use std::{env, fs, thread};
 
-const COMMANDS: [&str; 8] = [
+const COMMANDS: [&str; 9] = [
     "runlog",
     "convert",
     "timetable",
+    "judgelog",
     "explain",
     "test",
     "tools/bench",
@@ -123,7 +124,7 @@ fn expect_failed(output: &Output, why: &str) {
 fn a_folder_is_found_from_where_the_command_is_called() {
     let elsewhere = folder("cdpath");
     fs::create_dir_all(elsewhere.join("examples/plan-a")).unwrap();
-    for command in ["runlog", "convert", "timetable", "explain"] {
+    for command in ["runlog", "convert", "timetable", "judgelog", "explain"] {
         let called = |path: &Path| {
             let mut command = Command::new(at_root(command).canonicalize().unwrap());
             let command = command.arg("examples/plan-a").current_dir(at_root(""));
@@ -213,7 +214,7 @@ fn project(command: &str, name: &str, rt: &str) -> PathBuf {
     fs::create_dir_all(root.join("crates")).unwrap();
     fs::create_dir_all(root.join("examples/plan-a")).unwrap();
     let crates =
-        "# NAME: DEP DEP\nlow:\nhigh: low io\nbeside: low high\nconvert: low\nrunlog: high os\ntimetable: low\n";
+        "# NAME: DEP DEP\nlow:\nhigh: low io\nbeside: low high\nconvert: low\nrunlog: high os\ntimetable: low\njudgelog: low\n";
     fs::write(root.join("crates.txt"), crates).unwrap();
     put_script(&root.join("tools/program"), "echo \"$* ran\"");
     for script in [command, "tools/run.bash", "tools/use.bash"] {

@@ -131,6 +131,13 @@ fn compare_on_plan(plan: &Plan) {
         let by_peer = with_buffer(length, |out| peer::write_timetable(&text, lengths, out));
         assert!(by_peer == with_buffer(length, |out| proved::write_timetable(&text, lengths, out)));
     }
+    let log = format!("run\t1\t{}\t{}\n", plan.boards, plan.tasks);
+    for log in [&b""[..], log.as_bytes(), b"run\n"] {
+        assert!(peer::judge_log(plan, log) == proved::judge_log(plan, log));
+        let length = proved::LONGEST_JUDGED;
+        let by_peer = with_buffer(length, |out| peer::write_judged(&text, log, out));
+        assert!(by_peer == with_buffer(length, |out| proved::write_judged(&text, log, out)));
+    }
     for ends in [&b""[..], b"end\t1\t1\n", b"rule\tclash\n"] {
         let length = proved::LONGEST_LOG;
         let by_peer = with_buffer(length, |out| peer::run_log(&text, ends, out));

@@ -1,6 +1,6 @@
 //! Where each field of the values lies, for callers in another language.
 
-use dispatcher::{Answer, Book, Exact, Figure, Handed, Lengths};
+use dispatcher::{Answer, Book, Exact, Figure, Handed, Judged, Lengths};
 use dispatcher::{Plan, Reading, Rule, Timetable, Written};
 use std::mem::{offset_of, size_of};
 
@@ -47,6 +47,15 @@ fn lengths_and_timetable_lie_as_stated() {
     assert_eq!(offset_of!(Timetable, start), 12);
     assert_eq!(offset_of!(Timetable, end), 268);
     assert_eq!(size_of::<Timetable>(), 524);
+}
+
+#[test]
+fn what_is_found_of_a_log_lies_as_stated() {
+    assert_eq!(offset_of!(Judged, answer), 0);
+    assert_eq!(offset_of!(Judged, known), 12);
+    assert_eq!(offset_of!(Judged, start), 76);
+    assert_eq!(offset_of!(Judged, end), 332);
+    assert_eq!(size_of::<Judged>(), 588);
 }
 
 #[test]

@@ -19,7 +19,13 @@ const DRAWN: [&str; 6] = [
 ];
 
 /// Shown in the README of their own example.
-const DRAWN_BELOW: [(&str, &str); 2] = [("two-rules", "early-start"), ("two-rules", "clash")];
+const DRAWN_BELOW: [(&str, &str); 5] = [
+    ("two-rules", "early-start"),
+    ("two-rules", "clash"),
+    ("other-schools", "accepted"),
+    ("other-schools", "clash"),
+    ("other-schools", "late"),
+];
 
 /// One morning drawn from its timetable and from its log, both shown in the README of the example.
 const DRAWN_TWICE: [(&str, &str); 2] = [
@@ -354,6 +360,63 @@ fn a_timetable_of_another_plan_is_not_drawn() {
     }
     let (_, said) = drawn_of("refused\t22\t3\t0\n".to_string());
     assert!(said.contains("refused by 22 (3, 0)"), "{said}");
+}
+
+/// What is drawn of plan A and a log of another school, or why it is not.
+fn drawn_of_log(name: &str, log: &str) -> Result<String, String> {
+    let folder = empty_folder(env!("CARGO_TARGET_TMPDIR"), name);
+    let files = ["plan.txt", "log.txt"].map(|file| folder.join(file));
+    fs::write(&files[0], PLAN_A).unwrap();
+    fs::write(&files[1], log).unwrap();
+    let output = picture(&[], &files);
+    if output.status.code() == Some(0) {
+        return Ok(String::from_utf8(output.stdout).unwrap());
+    }
+    assert_eq!(output.status.code(), Some(1));
+    Err(String::from_utf8(output.stderr).unwrap())
+}
+
+/// Late tasks, no M where there is no `early` line, and lines in any order.
+#[test]
+fn another_schools_log_is_drawn() {
+    let late = "run\t1\t2\t5\nstart\t1\t1\t0\t0\nstart\t2\t2\t1\t-1\nend\t2\t2\t5\t-1\nend\t1\t1\t6\t0\nstart\t3\t2\t5\t-1\nend\t3\t2\t10\t-1\nstart\t4\t1\t10\t-1\nend\t4\t1\t13\t-1\nstart\t5\t2\t17\t-7\nend\t5\t2\t21\t-7\n";
+    let svg = drawn_of_log("school-late", late).unwrap();
+    let says = "<title>task 5, board 2, holds e1: planned 10 to 14, ran 17 to 21</title>";
+    assert!(svg.contains(says));
+    assert!(svg.contains("5 tasks on 2 boards: the plan and how it went"));
+    assert!(!svg.contains("M, how early"));
+    // A late start is not one that was known before.
+    assert!(!svg.contains("known at"));
+    assert!(bars(&svg)
+        .iter()
+        .all(|(bar, _)| number(bar, "x") + number(bar, "width") <= 1_080.0));
+
+    let (first, rest) = late.split_once('\n').unwrap();
+    let backwards: Vec<&str> = rest.lines().rev().collect();
+    let backwards = format!("{first}\n{}\n", backwards.join("\n"));
+    assert!(drawn_of_log("school-backwards", &backwards).unwrap() == svg);
+
+    for (name, of, instead, why) in [
+        ("minus-0", "\t5\t-1\n", "\t5\t-0\n", "no number"),
+        ("plus", "\t5\t-1\n", "\t5\t+1\n", "no number"),
+        ("tick", "\t5\t-1\n", "\t-5\t-1\n", "no number"),
+        ("board", "end\t2\t2", "end\t2\t1", "not of this plan"),
+        (
+            "twice",
+            "end\t1\t1\t6\t0\n",
+            "end\t1\t1\t6\t0\nend\t1\t1\t6\t0\n",
+            "not of this plan",
+        ),
+        (
+            "before",
+            "end\t1\t1\t6\t0\n",
+            "end\t1\t1\t0\t6\n",
+            "ends before it has started",
+        ),
+    ] {
+        let said = drawn_of_log(&format!("school-{name}"), &late.replacen(of, instead, 1));
+        assert!(said.unwrap_err().contains(why), "{name}");
+    }
 }
 
 #[test]

@@ -1,8 +1,10 @@
 //! How much stack one call of the proved implementation takes (`proved::Measured` says what counts).
 
 use dispatcher::fields::line_of;
-use dispatcher::proved::{measured, Function, Measured, Measuring, LONGEST_TIMETABLE};
+use dispatcher::proved::{measured, Function, Measured, Measuring};
+use dispatcher::proved::{LONGEST_JUDGED, LONGEST_TIMETABLE};
 use dispatcher::sample::events::{droppable_tasks, must_take, Event};
+use dispatcher::sample::logs::{school_log, school_times};
 use dispatcher::sample::old_texts::with_all_shared;
 use dispatcher::sample::plans::{exclusively_held, full_plan, single_file, with_even_ready_ticks};
 use dispatcher::sample::reports::last_moment_report;
@@ -167,6 +169,61 @@ fn the_text_of_a_timetable_takes_no_more_than_64_kib() {
         for lengths in [&b""[..], b"rule\tclash\n", &lengths, b"length\n"] {
             let used = measured::write_timetable(&text, lengths, &[0; LONGEST_TIMETABLE]).used;
             say(&format!("stack of the text of a timetable: {used} bytes"));
+            assert!(used <= MOST_FOR_A_TEXT, "{used}");
+        }
+    }
+}
+
+/// A school's log of the plan, and that log with a fault for each code.
+fn logs_of(plan: &Plan) -> [(Vec<u8>, u32); 6] {
+    let mut rng = Rng::new(11);
+    let times = school_times(&mut rng, plan);
+    let log = school_log(&mut rng, plan, &times);
+    let [mut short, mut clashing, mut late] = [times; 3];
+    short.end[63] = short.start[63];
+    // The last task of a board begins with the first one, or runs after all others and late.
+    let before = (0..63).find(|&i| plan.board[i] == plan.board[63]);
+    clashing.start[63] = times.start[before.expect("a board has several tasks")];
+    clashing.end[63] = clashing.start[63] + 1;
+    late.start[63] = 999_999;
+    late.end[63] = 1_000_000;
+    let [short, clashing, late] =
+        [short, clashing, late].map(|times| school_log(&mut rng, plan, &times));
+    let doubled = [
+        &log[..],
+        &line_of("end", &[64, plan.board[63].into(), 1, 0]),
+    ]
+    .concat();
+    let unread = [&log[..], b"end\n"].concat();
+    [
+        (log, 0),
+        (unread, 23),
+        (doubled, 24),
+        (short, 25),
+        (clashing, 26),
+        (late, 27),
+    ]
+}
+
+#[test]
+fn no_log_judged_takes_more_than_32_kib() {
+    for plan in full_plans() {
+        for (log, code) in logs_of(&plan) {
+            check("judging a log", measured::judge_log(&plan, &log), code);
+        }
+        let long = [b'7'; LONGEST_TEXT + 1];
+        check("judging a long log", measured::judge_log(&plan, &long), 1);
+    }
+    check("a log of no plan", measured::judge_log(&Plan::ZERO, b""), 9);
+}
+
+#[test]
+fn the_text_of_a_log_judged_takes_no_more_than_64_kib() {
+    for plan in full_plans() {
+        let text = plan_text(&plan);
+        for (log, _) in logs_of(&plan) {
+            let used = measured::write_judged(&text, &log, &[0; LONGEST_JUDGED]).used;
+            say(&format!("stack of the text of a log judged: {used} bytes"));
             assert!(used <= MOST_FOR_A_TEXT, "{used}");
         }
     }

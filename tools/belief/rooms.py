@@ -2,13 +2,18 @@
 
 `specs/` has what public contracts rest on, `specs/words/` what only the statements of the promises add, `specs/private/` what
 only private functions say and ask. What proofs alone use stands in `proofs/`. Some crates have no function: the specs/ of
-`promises`, and of a request's own `NAME_promises`, are words as a whole, and those of `tables` are the rows of its own theorems.
+`promises`, and of a request's own `NAME_promises`, are words as a whole, and those of `tables` and of a `NAME_tables` are the rows
+of its own theorems.
 """
 WORDS, ROWS = "promises", "tables"
 
 
+def is_named(crate, kind):
+    return crate == kind or crate.endswith("_" + kind)
+
+
 def is_promises(crate):
-    return crate == WORDS or crate.endswith("_" + WORDS)
+    return is_named(crate, WORDS)
 
 
 def room_of(place):
@@ -16,7 +21,7 @@ def room_of(place):
     _, crate, folder, *rest = place.split("/")
     if folder != "specs":
         return None
-    whole = "words" if is_promises(crate) else "rows" if crate == ROWS else ""
+    whole = "words" if is_promises(crate) else "rows" if is_named(crate, ROWS) else ""
     return rest[0] if rest[0] in ("words", "private") else whole
 
 

@@ -96,7 +96,8 @@ def draw_task(picture, row, task, y, clock):
     if task.start is not None:
         place = below + LANE * row.actual[task.number]
         picture.bar(task, task.start, end_of(task, clock), place, solid, "#fff", task.end is None)
-        if task.known < task.start:
+        # Ahead of the clock a start is known only where the task's class is awaited.
+        if task.known < task.start == task.ready:
             picture.known(task, place + BAR / 2, solid)
     if task.ready > 0:
         picture.ready(task, y + 1 + BAR + LANE * row.planned[task.number])
@@ -165,8 +166,9 @@ def legends_of(tasks, by_drive):
 
 
 def title_of(boards, tasks, log, by_drive):
-    went = f"the plan, {log.refused}" if log.refused else "the plan and how it went" if log.steps else "the plan"
-    went += " and its timetable" if log.is_timetable() else ""
+    has_log = log.clock is not None and not log.is_timetable
+    went = f"the plan, {log.refused}" if log.refused else "the plan and how it went" if has_log else "the plan"
+    went += " and its timetable" if log.is_timetable else ""
     rule = " by the clash rule" if log.by_clash else ""
     many = f"{len(tasks)} task{'' if len(tasks) == 1 else 's'} on {boards} board{'' if boards == 1 else 's'}"
     return f"{many}{', by drive' if by_drive else ''}: {went}{rule}"
@@ -176,7 +178,7 @@ def draw(plan_path, log_path, by_drive):
     boards, tasks = read_plan(plan_path)
     log = read_log(log_path, boards, tasks) if log_path else Log()
     rows = rows_of(boards, tasks, by_drive, log.clock)
-    last = max([log.clock or 0] + [task.finish for task in tasks])
+    last = max([log.clock or 0] + [max(task.finish, task.start or 0) for task in tasks])
     picture = Picture(sum(row.height for row in rows), last, bool(log.steps))
     draw_legend(picture, title_of(boards, tasks, log, by_drive), by_drive, log)
     draw_axis(picture)
@@ -186,7 +188,7 @@ def draw(plan_path, log_path, by_drive):
     legends = "; ".join(legends_of(tasks, by_drive))
     if legends:
         picture.text(LEFT, picture.bottom + 42, legends, 11, INK, "start")
-    source = "a plan and its timetable" if log.is_timetable() else "a plan and its log" if log_path else "a plan"
+    source = "a plan and its timetable" if log.is_timetable else "a plan and its log" if log_path else "a plan"
     words = f"Drawn by tools/picture from {source}. The drawing is no part of what is proved."
     picture.text(LEFT, picture.height - 14, words, 11, QUIET, "start")
     return picture.whole()

@@ -1,8 +1,10 @@
-"""Reads a plan and its log or timetable for drawing, and refuses what cannot be drawn."""
+"""Reads a plan and its log or timetable for drawing, and refuses what cannot be drawn. A log may be another school's."""
 import re
 
 # How many numbers follow each word of a log, below its first line.
 LOG_WORDS = {"start": 4, "skip": 4, "end": 4, "drop": 2, "early": 2, "refused": 3}
+# The ticks early of these lines, their last field, may be negative.
+SIGNED = ("start", "end")
 MOST = 1_000_000
 # Refusals of a plan whose lines are right, so that it can be drawn; those of a pair name two tasks.
 OF_PAIR, OF_PLAN = (6, 7, 8), (6, 7, 8, 17)
@@ -44,18 +46,22 @@ class Log:
     The clock is the tick up to which is told what went on, in a timetable its last end; none where only the plan is drawn.
     """
 
-    def __init__(self, by_clash=False, steps=(), refused=None, clock=None):
-        self.by_clash, self.steps, self.refused = by_clash, list(steps), refused
-        self.clock = self.steps[-1][0] if self.steps else clock
-
-    def is_timetable(self):
-        return self.clock is not None and not self.steps
+    def __init__(self, by_clash=False, steps=(), refused=None, clock=None, is_timetable=False):
+        self.by_clash, self.steps, self.refused, self.clock = by_clash, list(steps), refused, clock
+        self.is_timetable = is_timetable
 
 
 def number(text, what):
     if not (text.isascii() and text.isdigit()) or len(text) > 7 or int(text) > MOST:
         raise Unfit(f"{what}: {text[:20]!r} is no number from 0 to {MOST}")
     return int(text)
+
+
+def ticks_early(text, what):
+    """Only checked, and not drawn."""
+    late = text.startswith("-")
+    if number(text[late:], what) == 0 and late:
+        raise Unfit(f"{what}: {text!r} is no number")
 
 
 def rows_of(path):
@@ -104,8 +110,8 @@ def read_log(path, boards, tasks):
     by_clash = read_first_line(rows[0], boards, len(tasks))
     steps, clock = [], 0
     for where, word, numbers in map(read_line, rows[1:]):
-        if word == "end":
-            clock = numbers[2]
+        if word in ("end", "early"):
+            clock = max(clock, numbers[2] if word == "end" else numbers[0])
         if word in ("start", "skip", "end"):
             note(where, tasks, word, numbers)
         if word == "start":
@@ -114,9 +120,15 @@ def read_log(path, boards, tasks):
             task_on(where, tasks, numbers[0], numbers[1]).dropped = True
         if word == "early":
             steps.append((numbers[0], numbers[1]))
-    if not steps:
-        raise Unfit(f"{path}: it has no early line, so it is not a whole log")
-    return Log(by_clash, steps)
+    check_times(path, tasks)
+    return Log(by_clash, steps, clock=clock)
+
+
+def check_times(path, tasks):
+    """The lines of another school's log may stand in any order."""
+    for task in tasks:
+        if task.end is not None and (task.start is None or task.end <= task.start):
+            raise Unfit(f"{path}: task {task.number} ends before it has started")
 
 
 def read_timetable(path, rows, tasks):
@@ -134,7 +146,7 @@ def read_timetable(path, rows, tasks):
             task.dropped, task.skip = True, start
         else:
             task.start, task.known, task.end = start, start, end
-    return Log(clock=max(task.skip if task.dropped else task.end for task in tasks))
+    return Log(clock=max(task.skip if task.dropped else task.end for task in tasks), is_timetable=True)
 
 
 def read_refusal(row, tasks):
@@ -168,6 +180,8 @@ def read_line(row):
         raise Unfit(f"{where}: a second log begins here")
     if LOG_WORDS.get(fields[0]) != len(fields) - 1:
         raise Unfit(f"{where}: not a line of a log")
+    if fields[0] in SIGNED:
+        ticks_early(fields.pop(), where)
     return where, fields[0], [number(field, where) for field in fields[1:]]
 
 
@@ -179,11 +193,9 @@ def task_on(where, tasks, k, board):
 
 
 def note(where, tasks, word, numbers):
-    """A task starts once, and ends once and later, on its own board; a dropped one is skipped instead."""
-    k, board, tick, _ = numbers
+    """A task starts and ends once, on its own board; a dropped one is skipped instead."""
+    k, board, tick = numbers[:3]
     task = task_on(where, tasks, k, board)
     if getattr(task, word) is not None or task.dropped != (word == "skip"):
         raise Unfit(f"{where}: the log is not of this plan")
-    if word == "end" and (task.start is None or tick <= task.start):
-        raise Unfit(f"{where}: task {k} ends before it has started")
     setattr(task, word, tick)

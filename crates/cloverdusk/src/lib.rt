@@ -22,6 +22,8 @@ ghost use Rattle.log.specs.Log.{logMost, logIn};
 ghost use Rattle.engine.specs.Timetable.{timetableOf};
 ghost use Rattle.timetable_lines.specs.Rows.{tableMost};
 ghost use Rattle.timetable_text.specs.Table.{tableIn};
+ghost use Rattle.log_rules.specs.Tests.{judgedOf};
+ghost use Rattle.log_rules.specs.Text.{judgedMost, judgedIn};
 use book::Book;
 use book::Figure;
 use book::Handed;
@@ -32,6 +34,7 @@ use drive_sheet::Standing;
 use engine::Lengths;
 use engine::Timetable;
 use exact_figure::Exact;
+use log_rules::Judged;
 use plan::Plan;
 use plan::Reading;
 use plan::Written;
@@ -227,4 +230,18 @@ pub extern "C" fn dispatch_write_timetable(plan: &[u8], lengths: &[u8], out: &mu
     ensures { λ r. ⌜ (r ≡ length (tableIn (length (now (out .entry))) (now (plan .entry)) (now (lengths .entry)))) × (now (out .exit) ≡ sets (now (out .entry)) 0 (tableIn (length (now (out .entry))) (now (plan .entry)) (now (lengths .entry)))) × (r ≤ tableMost) ⌝ }
 {
     timetable_text::write_timetable(plan, lengths, out)
+}
+
+#[no_mangle]
+pub extern "C" fn dispatch_judge_log(plan: Plan, log: &[u8]) -> Judged
+    ensures { λ r. ⌜ r ≡ judgedOf plan (now (log .entry)) ⌝ }
+{
+    log_judge::judge_log(plan, log)
+}
+
+#[no_mangle]
+pub extern "C" fn dispatch_write_judged(plan: &[u8], log: &[u8], out: &mut [u8]) -> usize
+    ensures { λ r. ⌜ (r ≡ length (judgedIn (length (now (out .entry))) (now (plan .entry)) (now (log .entry)))) × (now (out .exit) ≡ sets (now (out .entry)) 0 (judgedIn (length (now (out .entry))) (now (plan .entry)) (now (log .entry)))) × (r ≤ judgedMost) ⌝ }
+{
+    judged_text::write_judged(plan, log, out)
 }

@@ -80,7 +80,7 @@ module _ {P : List ℕ → List ℕ → Type 0} where
 abbrev pub Clean : List (List ℕ) → Type 0
 Clean parts = (allOf (free TAB) parts ≡ true) × (allOf (free LF) parts ≡ true)
 
-free-join : (parts : List (List ℕ)) → allOf (free LF) parts ≡ true → free LF (joinOn TAB parts) ≡ true
+pub free-join : (parts : List (List ℕ)) → allOf (free LF) parts ≡ true → free LF (joinOn TAB parts) ≡ true
 unfolding joinOn allOf
 free-join [] h = refl
 free-join (f ∷ []) h = and-l (free LF f) true h
@@ -96,7 +96,7 @@ line-one f fs c p =
     AllLines.more (joinOn TAB (f ∷ fs)) [] (free-join (f ∷ fs) (c .1)) (p (joinOn TAB (f ∷ fs)) (split-join TAB f fs (c .0)) refl) AllLines.none
 
 -- a word and numbers
-digits-clean : (c : ℕ) → c < 48 → (numbers : List ℕ) → allOf (free c) (map digitsOf numbers) ≡ true
+pub digits-clean : (c : ℕ) → c < 48 → (numbers : List ℕ) → allOf (free c) (map digitsOf numbers) ≡ true
 unfolding allOf
 digits-clean c l [] = refl
 digits-clean c l (n ∷ numbers) = and-of (digits-free c n l) (digits-clean c l numbers)

@@ -1,4 +1,4 @@
-//! Inputs for tests: seeded random plans, texts, damaged values, reports and drops.
+//! Inputs for tests: seeded random plans, texts, damaged values, reports, drops and logs.
 
 pub mod columns;
 pub mod damage;
@@ -9,6 +9,8 @@ pub mod faults;
 pub mod lengths;
 pub mod lent;
 pub mod lines;
+pub mod log_damage;
+pub mod logs;
 pub mod mixtures;
 pub mod mornings;
 pub mod old_texts;

@@ -41,10 +41,14 @@ pub fn entries_below(folder: &Path) -> Vec<PathBuf> {
     entries.map(|entry| entry.unwrap().path()).collect()
 }
 
-/// The folders below that one, at any depth, in which a log is kept.
+/// The folders below that one, at any depth, in which a log of our own is kept: one that is kept to be
+/// judged stands beside what is printed of it.
 pub fn cases_below(folder: &Path) -> Vec<PathBuf> {
     let mut cases = Vec::new();
     for below in entries_below(folder) {
+        if below.join("judged.txt").exists() {
+            continue;
+        }
         if below.join("log.txt").exists() {
             cases.push(below);
         } else if below.is_dir() {

@@ -1,0 +1,14 @@
+pub mod Counts
+pub mod Forms
+pub mod Places
+pub mod Kind
+pub mod Moments
+pub mod Tested
+pub mod Pairs
+pub mod Answered
+pub mod Checked
+pub mod Arrays
+pub mod Sooner
+pub mod Orders
+pub mod Printed
+pub mod Promises

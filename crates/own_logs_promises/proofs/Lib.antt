@@ -1,0 +1,11 @@
+pub mod WholeLines
+pub mod Moments
+pub mod LineSays
+pub mod Adds
+pub mod Printed
+pub mod Turns
+pub mod EndsRun
+pub mod OwnRun
+pub mod Passes
+pub mod OwnJudged
+pub mod Promises
