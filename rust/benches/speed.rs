@@ -11,6 +11,7 @@ use dispatcher::sample::mornings::random_morning;
 use dispatcher::sample::old_texts::with_all_shared;
 use dispatcher::sample::plans::{exclusively_held, full_plan, single_file, with_even_ready_ticks};
 use dispatcher::sample::reports::{accepted_report, last_moment_report, Report};
+use dispatcher::sample::years::any_totals;
 use dispatcher::sample::{announced_seed, Rng};
 use dispatcher::text::plan_text;
 use dispatcher::values::LONGEST_TEXT;
@@ -18,13 +19,13 @@ use dispatcher::{
     accepted, convert, convert_text, drop_task, exact_early, minimum_early, open_book,
 };
 use dispatcher::{
-    drop_sheet, fresh_sheet, make_sheet, on_drive, renew_sheet, report_sheet, standing,
+    add_log, judge_log, judged_text, proved, read_exclusive, read_plan, report, report_text,
+    run_log, timetable, timetable_text, why, write_plan,
 };
 use dispatcher::{
-    judge_log, judged_text, proved, read_exclusive, read_plan, report, run_log, timetable,
-    timetable_text, why, write_plan,
+    drop_sheet, fresh_sheet, make_sheet, on_drive, renew_sheet, report_sheet, standing,
 };
-use dispatcher::{Answer, Book, Lengths, Plan, Rule};
+use dispatcher::{Answer, Book, Lengths, Plan, Rule, Totals};
 use std::fs;
 use std::hint::black_box;
 use std::time::{Duration, Instant};
@@ -395,6 +396,61 @@ fn time_judged_logs(rounds: u32, rng: &mut Rng, plan: &Plan) {
     }
 }
 
+/// A log added to totals, their report, and a year's work in memory: texts of plans read, and their logs added.
+fn time_year(rounds: u32, rng: &mut Rng) {
+    let (text, log) = (text_of_morning("plan.txt"), text_of_morning("log.txt"));
+    let (plan, totals) = (read_plan(&text).plan, Totals::ZERO);
+    time_both(
+        rounds,
+        "add a full morning's log",
+        || proved::add_log(black_box(&totals), black_box(&plan), black_box(&log)),
+        || add_log(black_box(&totals), black_box(&plan), black_box(&log)),
+    );
+    let some = any_totals(rng);
+    let mut out = [0; proved::LONGEST_REPORT];
+    time_both(
+        rounds,
+        "a year's report",
+        || proved::write_report(black_box(&some), false, black_box(&mut out)),
+        || report_text(black_box(&some), false).len(),
+    );
+    let logs = if rounds == 0 { 10 } else { 10_000 };
+    let by_proved = || {
+        (0..logs).fold(totals, |totals, _| {
+            let plan = proved::read_plan(black_box(&text)).plan;
+            proved::add_log(&totals, &plan, black_box(&log)).totals
+        })
+    };
+    let by_rust = || {
+        (0..logs).fold(totals, |totals, _| {
+            let plan = read_plan(black_box(&text)).plan;
+            add_log(&totals, &plan, black_box(&log)).totals
+        })
+    };
+    assert!(by_proved() == by_rust());
+    if rounds == 0 {
+        return;
+    }
+    // Each takes long enough for a round of its own.
+    let (mut best_proved, mut best_rust) = (f64::MAX, f64::MAX);
+    for _ in 0..5 {
+        best_proved = best_proved.min(time_of(by_proved));
+        best_rust = best_rust.min(time_of(by_rust));
+    }
+    let ratio = best_proved / best_rust;
+    println!(
+        "{:<28}{best_proved:>12.0}{best_rust:>12.0}{ratio:>10.2}",
+        "a year, 10,000 mornings"
+    );
+}
+
+/// Nanoseconds of one call.
+fn time_of<T>(call: impl Fn() -> T) -> f64 {
+    let start = Instant::now();
+    black_box(call());
+    start.elapsed().as_nanos() as f64
+}
+
 fn main() {
     // Cargo says --bench to a benchmark only when times are wanted.
     let times_wanted = std::env::args().any(|arg| arg == "--bench");
@@ -418,6 +474,7 @@ fn main() {
     time_timetables(rounds, &mut rng, &plan);
     time_judged_logs(rounds, &mut rng, &plan);
     time_conversions(rounds, &plan);
+    time_year(rounds, &mut rng);
     println!("64 tasks in single file");
     for rule in Rule::BOTH {
         time_chain(rounds, &single_file(), rule);

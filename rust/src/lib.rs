@@ -19,6 +19,7 @@ pub mod timetable;
 pub mod values;
 pub mod waits;
 pub mod why;
+pub mod year;
 
 pub use book::{drop_task, minimum_early, open_book, report, sound};
 pub use convert::{convert, convert_text, read_exclusive};
@@ -32,7 +33,9 @@ pub use sheet::{
 };
 pub use text::{read_plan, write_plan};
 pub use timetable::timetable;
+pub use values::{Added, Totals};
 pub use values::{Answer, Book, Chain, Exact, Figure, Handed, Plan, Reading, Rule, Written};
 pub use values::{Judged, Lengths, Timetable};
 pub use values::{Kept, Made, OnDrive, Sheet, Standing};
 pub use why::why;
+pub use year::{add_log, report_text, year_text};

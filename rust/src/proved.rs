@@ -34,6 +34,9 @@ pub const LONGEST_TIMETABLE: usize = 3_328;
 /// So it is with what is printed of a judged log.
 pub const LONGEST_JUDGED: usize = 1_588;
 
+/// And with a year's report.
+pub const LONGEST_REPORT: usize = 1_024;
+
 /// The converter writes nothing into a shorter buffer; no text of a plan is longer.
 pub const CONVERTED_ROOM: usize = LONGEST_TEXT;
 

@@ -14,6 +14,9 @@ pub const MOST_DRIVES: u32 = 32;
 pub const LAST_TICK: u32 = 1_000_000;
 pub const LONGEST_TEXT: usize = 32_768;
 
+/// How many logs a year may have.
+pub const MOST_LOGS: u64 = 10_000;
+
 /// Places kept for one task's holds and for one task's after list.
 pub const HOLD_PLACES: usize = 32;
 pub const AFTER_PLACES: usize = 64;
@@ -164,6 +167,30 @@ pub struct Judged {
     pub known: [u8; 64],
     pub start: [u32; 64],
     pub end: [u32; 64],
+}
+
+/// What a year's logs come to: how many are accepted and refused; and of board b, at index b - 1,
+/// over the accepted ones, tasks ended, their ticks early summed, the greatest and the least. Where
+/// no task has ended there is no greatest and no least, whatever stands there.
+#[repr(C)]
+#[derive(Clone, Copy, PartialEq, Eq, Debug)]
+pub struct Totals {
+    pub accepted: u32,
+    pub refused: u32,
+    pub ended: [u32; 8],
+    pub sum: [u64; 8],
+    pub greatest: [u32; 8],
+    pub least: [u32; 8],
+}
+
+/// An answer of the totals, what is found of the log, and the totals after it. Where the totals
+/// are refused the log is not looked at, and nothing but zeros is found.
+#[repr(C)]
+#[derive(Clone, Copy, PartialEq, Eq, Debug)]
+pub struct Added {
+    pub answer: Answer,
+    pub judged: Judged,
+    pub totals: Totals,
 }
 
 /// Of drive d the eight places from 8 (d - 1): its running holders by rising number, 0 past the last; and
@@ -375,6 +402,17 @@ impl Judged {
     pub fn is_known(&self, i: usize) -> bool {
         self.known[i] == KNOWN
     }
+}
+
+impl Totals {
+    pub const ZERO: Totals = Totals {
+        accepted: 0,
+        refused: 0,
+        ended: [0; 8],
+        sum: [0; 8],
+        greatest: [0; 8],
+        least: [0; 8],
+    };
 }
 
 /// The items of a list: its places up to the first empty one.

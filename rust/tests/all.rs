@@ -16,6 +16,7 @@ mod compare_log;
 mod compare_sheets;
 mod compare_text;
 mod compare_timetable;
+mod compare_year;
 mod conversion;
 mod convert;
 mod drops;
@@ -42,6 +43,8 @@ mod timetable_feeds;
 mod timetable_impostors;
 mod why;
 mod why_impostors;
+mod year;
+mod year_impostors;
 
 use dispatcher::sample::program::{at_root, entries_below};
 

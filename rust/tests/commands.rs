@@ -9,16 +9,18 @@ use std::process::{Command, Output};
 use std::time::{Duration, Instant};
 use std::{env, fs, thread};
 
-const COMMANDS: [&str; 9] = [
+const COMMANDS: [&str; 11] = [
     "runlog",
     "convert",
     "timetable",
     "judgelog",
+    "year",
     "explain",
     "test",
     "tools/bench",
     "tools/program",
     "tools/picture",
+    "tools/year",
 ];
 
 fn folder(name: &str) -> PathBuf {

@@ -7,9 +7,10 @@ use dispatcher::sample::plan_a::PLAN_A;
 use dispatcher::sample::plans::{full_plan, with_even_ready_ticks};
 use dispatcher::sample::program::at_root;
 use dispatcher::sample::reports::last_moment_report;
+use dispatcher::sample::years::ALL_ONES;
 use dispatcher::sample::{announced_seed, Rng};
 use dispatcher::text::plan_text;
-use dispatcher::{Lengths, Plan, Rule};
+use dispatcher::{Lengths, Plan, Rule, Totals};
 use std::fs;
 
 /// The names that the archive's index lists: a count, so many offsets of 4 bytes, so many names.
@@ -137,6 +138,18 @@ fn compare_on_plan(plan: &Plan) {
         let length = proved::LONGEST_JUDGED;
         let by_peer = with_buffer(length, |out| peer::write_judged(&text, log, out));
         assert!(by_peer == with_buffer(length, |out| proved::write_judged(&text, log, out)));
+        for totals in [Totals::ZERO, ALL_ONES] {
+            let added = proved::add_log(&totals, plan, log);
+            assert!(peer::add_log(&totals, plan, log) == added);
+            let length = proved::LONGEST_REPORT;
+            for past in [false, true] {
+                let by_peer =
+                    with_buffer(length, |out| peer::write_report(&added.totals, past, out));
+                let report =
+                    with_buffer(length, |out| proved::write_report(&added.totals, past, out));
+                assert!(by_peer == report);
+            }
+        }
     }
     for ends in [&b""[..], b"end\t1\t1\n", b"rule\tclash\n"] {
         let length = proved::LONGEST_LOG;

@@ -1,5 +1,6 @@
 //! Where each field of the values lies, for callers in another language.
 
+use dispatcher::{Added, Totals};
 use dispatcher::{Answer, Book, Exact, Figure, Handed, Judged, Lengths};
 use dispatcher::{Plan, Reading, Rule, Timetable, Written};
 use std::mem::{offset_of, size_of};
@@ -56,6 +57,21 @@ fn what_is_found_of_a_log_lies_as_stated() {
     assert_eq!(offset_of!(Judged, start), 76);
     assert_eq!(offset_of!(Judged, end), 332);
     assert_eq!(size_of::<Judged>(), 588);
+}
+
+#[test]
+fn a_years_totals_lie_as_stated() {
+    assert_eq!(offset_of!(Totals, accepted), 0);
+    assert_eq!(offset_of!(Totals, refused), 4);
+    assert_eq!(offset_of!(Totals, ended), 8);
+    assert_eq!(offset_of!(Totals, sum), 40);
+    assert_eq!(offset_of!(Totals, greatest), 104);
+    assert_eq!(offset_of!(Totals, least), 136);
+    assert_eq!(size_of::<Totals>(), 168);
+    assert_eq!(offset_of!(Added, answer), 0);
+    assert_eq!(offset_of!(Added, judged), 12);
+    assert_eq!(offset_of!(Added, totals), 600);
+    assert_eq!(size_of::<Added>(), 768);
 }
 
 #[test]

@@ -2,17 +2,19 @@
 
 use dispatcher::fields::line_of;
 use dispatcher::proved::{measured, Function, Measured, Measuring};
-use dispatcher::proved::{LONGEST_JUDGED, LONGEST_TIMETABLE};
+use dispatcher::proved::{LONGEST_JUDGED, LONGEST_REPORT, LONGEST_TIMETABLE};
 use dispatcher::sample::events::{droppable_tasks, must_take, Event};
 use dispatcher::sample::logs::{school_log, school_times};
 use dispatcher::sample::old_texts::with_all_shared;
 use dispatcher::sample::plans::{exclusively_held, full_plan, single_file, with_even_ready_ticks};
 use dispatcher::sample::reports::last_moment_report;
 use dispatcher::sample::tally::say;
+use dispatcher::sample::years::ALL_ONES;
 use dispatcher::sample::Rng;
 use dispatcher::text::plan_text;
 use dispatcher::values::{DROPPED, LONGEST_TEXT};
-use dispatcher::{fresh_sheet, open_book, standing, Book, Lengths, Plan, Rule, Sheet};
+use dispatcher::{fresh_sheet, open_book, standing};
+use dispatcher::{Book, Lengths, Plan, Rule, Sheet, Totals};
 
 const MOST_STACK: u32 = 32_768;
 
@@ -215,6 +217,35 @@ fn no_log_judged_takes_more_than_32_kib() {
         check("judging a long log", measured::judge_log(&plan, &long), 1);
     }
     check("a log of no plan", measured::judge_log(&Plan::ZERO, b""), 9);
+}
+
+#[test]
+fn no_log_added_takes_more_than_32_kib() {
+    let full_year = Totals {
+        accepted: 10_000,
+        ..Totals::ZERO
+    };
+    for plan in full_plans() {
+        for (log, _) in logs_of(&plan) {
+            let added = measured::add_log(&Totals::ZERO, &plan, &log);
+            check("a log added to a year", added, 0);
+            check(
+                "a log too many",
+                measured::add_log(&full_year, &plan, &log),
+                28,
+            );
+            check(
+                "a log added to no totals",
+                measured::add_log(&ALL_ONES, &plan, &log),
+                9,
+            );
+        }
+    }
+    for totals in [Totals::ZERO, full_year, ALL_ONES] {
+        let used = measured::write_report(&totals, true, &[0; LONGEST_REPORT]).used;
+        say(&format!("stack of a year's report: {used} bytes"));
+        assert!(used <= MOST_STACK, "{used}");
+    }
 }
 
 #[test]

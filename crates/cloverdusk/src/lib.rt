@@ -24,6 +24,8 @@ ghost use Rattle.timetable_lines.specs.Rows.{tableMost};
 ghost use Rattle.timetable_text.specs.Table.{tableIn};
 ghost use Rattle.log_rules.specs.Tests.{judgedOf};
 ghost use Rattle.log_rules.specs.Text.{judgedMost, judgedIn};
+ghost use Rattle.year_rules.specs.Totals.{addedOf};
+ghost use Rattle.year_text.specs.Report.{reportMost, reportIn};
 use book::Book;
 use book::Figure;
 use book::Handed;
@@ -41,6 +43,8 @@ use plan::Written;
 use sheets::Kept;
 use sheets::Made;
 use sheets::OnDrive;
+use year_rules::Added;
+use year_rules::Totals;
 
 #[no_mangle]
 pub extern "C" fn dispatch_read_plan(text: &[u8]) -> Reading
@@ -244,4 +248,18 @@ pub extern "C" fn dispatch_write_judged(plan: &[u8], log: &[u8], out: &mut [u8])
     ensures { λ r. ⌜ (r ≡ length (judgedIn (length (now (out .entry))) (now (plan .entry)) (now (log .entry)))) × (now (out .exit) ≡ sets (now (out .entry)) 0 (judgedIn (length (now (out .entry))) (now (plan .entry)) (now (log .entry)))) × (r ≤ judgedMost) ⌝ }
 {
     judged_text::write_judged(plan, log, out)
+}
+
+#[no_mangle]
+pub extern "C" fn dispatch_add_log(totals: Totals, plan: Plan, log: &[u8]) -> Added
+    ensures { λ r. ⌜ r ≡ addedOf totals plan (now (log .entry)) ⌝ }
+{
+    year_totals::add_log(totals, plan, log)
+}
+
+#[no_mangle]
+pub extern "C" fn dispatch_write_report(totals: Totals, past: bool, out: &mut [u8]) -> usize
+    ensures { λ r. ⌜ (r ≡ length (reportIn (length (now (out .entry))) past totals)) × (now (out .exit) ≡ sets (now (out .entry)) 0 (reportIn (length (now (out .entry))) past totals)) × (r ≤ reportMost) ⌝ }
+{
+    year_text::write_report(totals, past, out)
 }

@@ -6,6 +6,7 @@ ghost use lib.ListN.{length};
 ghost use Rattle.io.specs.Counts.{Counts};
 use libc::EINTR;
 use libc::ENOENT;
+use libc::STDIN_FILENO;
 use libc::STDOUT_FILENO;
 
 // How many of a file's bytes stand in the buffer; after a failure none count.
@@ -59,6 +60,25 @@ fn read_all(fd: i32, text: &mut [u8]) -> Text
     }
 }
 
+// One read of standard input: as many bytes as it brings, and none at its end.
+pub fn read_piece(piece: &mut [u8]) -> Text
+    ensures { λ r. ⌜ Counts (r .length) (now (piece .exit)) ⌝ }
+    ensures { λ r. ⌜ (r .failed ≡ true → r .length ≡ 0) ⌝ }
+{
+    let got = read_some(STDIN_FILENO, piece);
+    if got < 0 {
+        os::fail(b"standard input");
+        return Text {
+            failed: true,
+            length: 0,
+        };
+    }
+    Text {
+        failed: false,
+        length: io::count(got, piece),
+    }
+}
+
 // A missing file counts as empty; one that is there and cannot be opened is named on standard error.
 fn unopened(path: &[u8]) -> Text
     ensures { λ r. ⌜ r .length ≡ 0 ⌝ }
@@ -73,6 +93,19 @@ fn unopened(path: &[u8]) -> Text
     }
 }
 
+// Reads as much of an open file as the buffer holds, and closes it.
+fn read_open(fd: i32, path: &[u8], text: &mut [u8]) -> Text
+    ensures { λ r. ⌜ Counts (r .length) (now (text .exit)) ⌝ }
+    ensures { λ r. ⌜ (r .failed ≡ true → r .length ≡ 0) ⌝ }
+{
+    let read = read_all(fd, text);
+    if read.failed {
+        os::fail(path);
+    }
+    libc::close(fd);
+    read
+}
+
 // Reads as much of a file as the buffer holds.
 pub fn read_text(path: &[u8], text: &mut [u8]) -> Text
     ensures { λ r. ⌜ Counts (r .length) (now (text .exit)) ⌝ }
@@ -82,12 +115,23 @@ pub fn read_text(path: &[u8], text: &mut [u8]) -> Text
     if fd < 0 {
         return unopened(path);
     }
-    let read = read_all(fd, text);
-    if read.failed {
+    read_open(fd, path, text)
+}
+
+// The same, but a missing file is a failure too.
+pub fn read_present(path: &[u8], text: &mut [u8]) -> Text
+    ensures { λ r. ⌜ Counts (r .length) (now (text .exit)) ⌝ }
+    ensures { λ r. ⌜ (r .failed ≡ true → r .length ≡ 0) ⌝ }
+{
+    let fd = os::open_read(path);
+    if fd < 0 {
         os::fail(path);
+        return Text {
+            failed: true,
+            length: 0,
+        };
     }
-    libc::close(fd);
-    read
+    read_open(fd, path, text)
 }
 
 // As `read_some`.

@@ -22,7 +22,11 @@ use Rattle.log_rules.specs.Lines.{isEarliness, isRun, isMoment, isRemark, later
 use Rattle.log_rules.specs.Tasks.{howMany, firstOf}
 use Rattle.log_rules.specs.Tests.{taskFault, rowFault, pairsFault, tasksFault, linesJudged, judgedOf}
 use Rattle.log_rules.specs.Text.{earlyText, figureLines, judgedText, judgedLog}
+use Rattle.year_rules.specs.Figures.{figuresOn, sumOf, bestOf, bestAfter}
+use Rattle.year_rules.specs.Totals.{totalsOk, boards, withFigures, withJudged, addedOf}
+use Rattle.year_text.specs.Report.{bestsBelow, allTally, boardLines, reportOf, yearText}
 use Rattle.log_tables.specs.Judged.{allJudged}
+use Rattle.log_tables.specs.Year.{planA, allAdded, allReported}
 
 unfoldable pub computing : Bool
 unfolding
@@ -31,5 +35,6 @@ unfolding
     isNumber numberStop numberOf hasShared isList listOf listText isHold holdOf holdsOk afterOk holdStop listStop holdsRead afterRead rangedRead wordCode endCode worst faultOf
     clashByDrive isListed pairCode pairs.rowFault firstFault tasksAnswer planOf blankFrom keptOk rangesOk judgedAnswer isAccepted
     sizesOk taskFrom lineTask holdsCode codesFrom readyCode taskCodes lineAnswer linesAnswer formAnswer textAnswer readIn
-    lowest laid numbersLine isEarliness isRun isMoment isRemark laterSaid lineSaid saidFrom howMany firstOf taskFault rowFault pairsFault tasksFault linesJudged judgedOf earlyText figureLines judgedText judgedLog allJudged
+    lowest laid numbersLine isEarliness isRun isMoment isRemark laterSaid lineSaid saidFrom howMany firstOf taskFault rowFault pairsFault tasksFault linesJudged judgedOf earlyText figureLines judgedText judgedLog allJudged figuresOn sumOf bestOf bestAfter totalsOk boards withFigures withJudged addedOf bestsBelow allTally boardLines reportOf yearText planA
+    allAdded allReported
 computing = true

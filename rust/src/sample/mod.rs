@@ -25,5 +25,6 @@ pub mod rng;
 pub mod tally;
 pub mod waiting;
 pub mod wild;
+pub mod years;
 
 pub use rng::{announced_seed, Rng};

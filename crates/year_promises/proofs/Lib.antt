@@ -1,0 +1,9 @@
+pub mod Perms
+pub mod Best
+pub mod Accepted
+pub mod Ends
+pub mod Fed
+pub mod Orders
+pub mod All
+pub mod Answers
+pub mod Promises

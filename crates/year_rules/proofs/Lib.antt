@@ -1,0 +1,4 @@
+pub mod FigureLaws
+pub mod BoardLaws
+pub mod BoundLaws
+pub mod AddedLaws
