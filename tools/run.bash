@@ -126,18 +126,23 @@ can_run() {
         die 'on this processor the Rattle toolchain (rt) runs the program, and it is not here'
 }
 
-# run_program NAME WORD..: runs the program in the folder that the words name, by default examples/plan-a, and ends.
-run_program() {
-    local name=$1 program=$root/target/bin/$1 folder said status
-    shift
-    take_words 1 "$@"
-    folder=${1-$root/examples/plan-a}
+# enter_built: the working directory is $folder, and the program $name is built and can be run.
+enter_built() {
     can_print
     [ -d "$folder" ] || die "'$folder' is no folder"
     # CDPATH would lead to a folder of that name elsewhere, and print it.
     CDPATH='' cd -- "$folder" 2>/dev/null || die "'$folder' may not be entered"
     is_built || build
     can_run
+}
+
+# run_program NAME WORD..: runs the program in the folder that the words name, by default examples/plan-a, and ends.
+run_program() {
+    local name=$1 program=$root/target/bin/$1 folder said status
+    shift
+    take_words 1 "$@"
+    folder=${1-$root/examples/plan-a}
+    enter_built
     # A Rattle program has no exit status of its own: a failure is what it says on standard error.
     exec 3>&1
     said=$("$root/tools/program" "$name" 2>&1 >&3)
@@ -147,4 +152,19 @@ run_program() {
     [ -z "$said" ] || die "$said"
     [ "$status" -eq 0 ] || die "the program ended with status $status, and did not say why"
     exit 0
+}
+
+# open_desk WORD..: in the place of this script runs what keeps the desk on the folder that the word names.
+open_desk() {
+    local name=desk program=$root/target/bin/desk folder
+    take_words 1 "$@"
+    [ $# -eq 1 ] || die 'no folder is named; --help tells the use'
+    folder=$1
+    # A descriptor that is closed would be given to the next file that is opened.
+    { true 3<&0; } 2>/dev/null || die 'standard input is closed'
+    { true 3>&2; } 2>/dev/null || exec 2>/dev/null
+    [ ! -d /dev/stdin ] || die 'standard input is a folder'
+    command -v python3 >/dev/null || die 'python3 is not here'
+    enter_built
+    exec python3 -B "$root/tools/desk/main.py" "$folder"
 }

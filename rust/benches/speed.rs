@@ -4,12 +4,16 @@
 //! `cargo bench` takes the times; `cargo test` only calls everything once, and
 //! so does `cargo bench` where the proved implementation runs under an emulator.
 
-use dispatcher::sample::events::{droppable_tasks, ends_text, must_take, passed_tasks, Event};
+use dispatcher::sample::events::{
+    droppable_tasks, ends_text, event_line, must_take, passed_tasks, Event,
+};
 use dispatcher::sample::lengths::{lengths_text, Case};
+use dispatcher::sample::live::{desk_program, folder_with, is_last, quick_place};
 use dispatcher::sample::logs::{own_log, school_log, school_times};
 use dispatcher::sample::mornings::random_morning;
 use dispatcher::sample::old_texts::with_all_shared;
 use dispatcher::sample::plans::{exclusively_held, full_plan, single_file, with_even_ready_ticks};
+use dispatcher::sample::program::empty_folder;
 use dispatcher::sample::reports::{accepted_report, last_moment_report, Report};
 use dispatcher::sample::years::any_totals;
 use dispatcher::sample::{announced_seed, Rng};
@@ -28,6 +32,8 @@ use dispatcher::{
 use dispatcher::{Answer, Book, Lengths, Plan, Rule, Totals};
 use std::fs;
 use std::hint::black_box;
+use std::io::{BufRead, BufReader, Write};
+use std::process::{Child, ChildStdin, ChildStdout, Stdio};
 use std::time::{Duration, Instant};
 
 /// Short rounds and many, since others may be at work on the same machine.
@@ -451,6 +457,94 @@ fn time_of<T>(call: impl Fn() -> T) -> f64 {
     start.elapsed().as_nanos() as f64
 }
 
+/// The desk's program, asked line by line.
+struct Asked {
+    child: Child,
+    into: ChildStdin,
+    out: BufReader<ChildStdout>,
+}
+
+impl Asked {
+    /// On a folder of that name with this plan and nothing kept; the opening is read.
+    fn on(below: &str, name: &str, plan: &[u8]) -> Asked {
+        let folder = folder_with(empty_folder(below, name), plan);
+        let mut program = desk_program(&folder);
+        let program = program.stdin(Stdio::piped()).stdout(Stdio::piped());
+        let mut child = program.spawn().expect("the desk is built");
+        let (into, out) = (child.stdin.take(), child.stdout.take());
+        let mut asked = Asked {
+            child,
+            into: into.expect("its input is a pipe"),
+            out: BufReader::new(out.expect("its output is a pipe")),
+        };
+        asked.answer();
+        asked
+    }
+
+    fn answer(&mut self) {
+        let mut line = Vec::new();
+        while !is_last(&line) {
+            line.clear();
+            let read = self.out.read_until(b'\n', &mut line);
+            assert!(read.expect("an answer is read") > 0, "the desk has ended");
+        }
+    }
+
+    /// Nanoseconds from the line in to its answer out.
+    fn time(&mut self, line: &[u8]) -> f64 {
+        let start = Instant::now();
+        self.into.write_all(line).expect("the desk reads on");
+        self.answer();
+        start.elapsed().as_nanos() as f64
+    }
+
+    fn end(mut self) {
+        drop(self.into);
+        assert!(self.child.wait().expect("the desk ends").success());
+    }
+}
+
+/// Prints the best and the middle time of lines that the desk answered.
+fn print_desk_times(timed: bool, what: &str, mut times: Vec<f64>) {
+    if !timed {
+        println!("desk: {what:<34}{} lines answered", times.len());
+        return;
+    }
+    times.sort_by(f64::total_cmp);
+    let (best, middle) = (times[0], times[times.len() / 2]);
+    println!("desk: {what:<34}{best:>12.0}{middle:>12.0}");
+}
+
+/// Lines that are kept, on the disk and on a file system in memory, where flushing costs nothing; and a question.
+fn time_desk(timed: bool, rng: &mut Rng, plan: &Plan) {
+    let (text, disk) = (plan_text(plan), env!("CARGO_TARGET_TMPDIR"));
+    let mornings = if timed { 10 } else { 1 };
+    if timed {
+        println!("from a line in to its answer out            best      middle");
+    }
+    let mut asked = Asked::on(disk, "desk-questions", &text);
+    let questions = (0..1_000 * mornings).map(|_| asked.time(b"early\n"));
+    print_desk_times(timed, "a question, early", questions.collect());
+    asked.end();
+    let memory = quick_place(disk);
+    for (what, below) in [
+        ("an end, kept in memory, no flush", &*memory),
+        ("an end, kept and flushed", disk),
+    ] {
+        let mut times = Vec::new();
+        for round in 0..mornings {
+            let ends = random_morning(rng, plan, Rule::EarlyStart).events;
+            let mut asked = Asked::on(below, &format!("desk-ends-{round}"), &text);
+            times.extend(ends.iter().map(|&event| asked.time(&event_line(event))));
+            asked.end();
+        }
+        print_desk_times(timed, what, times);
+    }
+    if memory != disk {
+        let _ = fs::remove_dir_all(memory);
+    }
+}
+
 fn main() {
     // Cargo says --bench to a benchmark only when times are wanted.
     let times_wanted = std::env::args().any(|arg| arg == "--bench");
@@ -486,4 +580,6 @@ fn main() {
     time_rules(rounds, &mut rng, &awaited);
     time_timetables(rounds, &mut rng, &awaited);
     time_judged_logs(rounds, &mut rng, &awaited);
+    // The program is for x86-64, whatever the library was compiled for.
+    time_desk(timed && cfg!(target_arch = "x86_64"), &mut rng, &plan);
 }

@@ -3,6 +3,7 @@
 
 pub mod book;
 pub mod convert;
+pub mod desk;
 pub mod exact;
 pub mod exports;
 pub mod fields;
@@ -23,6 +24,7 @@ pub mod year;
 
 pub use book::{drop_task, minimum_early, open_book, report, sound};
 pub use convert::{convert, convert_text, read_exclusive};
+pub use desk::Desk;
 pub use exact::exact_early;
 pub use judge::{accepted, first_faulty_pair};
 pub use lengths::timetable_text;

@@ -14,7 +14,7 @@ use crate::fields::{
     split_fields, split_line, Spelling,
 };
 use crate::text::read_plan;
-use crate::values::{refusal, Answer, Book, Rule, DROPPED, LAST_TICK, LONGEST_TEXT, WAITING};
+use crate::values::{refusal, Answer, Book, Plan, Rule, DROPPED, LAST_TICK, LONGEST_TEXT, WAITING};
 
 /// How each field of a line of `ends.txt` is spelt, by its kind.
 const END_LINE: [Spelling; 3] = [|word| word == b"end", is_number, is_number];
@@ -38,19 +38,38 @@ pub enum RuleLine<'a> {
 
 /// All that `runlog` prints. A missing file counts as empty.
 pub fn run_log(plan_text: &[u8], ends_text: &[u8]) -> Vec<u8> {
+    go_through(plan_text, ends_text).0
+}
+
+/// The log, and the book that it comes to, where nothing stops it.
+pub fn go_through(plan_text: &[u8], ends_text: &[u8]) -> (Vec<u8>, Option<Book>) {
     let reading = read_plan(plan_text);
     if !reading.answer.is_accepted() {
-        return refused_line(reading.answer);
+        return (refused_line(reading.answer), None);
     }
     if ends_text.len() > LONGEST_TEXT {
-        return refused_line(refusal(1, 0, 0));
+        return (refused_line(refusal(1, 0, 0)), None);
     }
     let rule_line = read_rule_line(ends_text);
     let rule = match rule_line {
         RuleLine::Clash(_) => Rule::Clash,
         RuleLine::Absent | RuleLine::Malformed(_) => Rule::EarlyStart,
     };
-    let book = open_book(&reading.plan, rule).book;
+    let (mut log, book) = log_opening(&reading.plan, rule);
+    let book = match rule_line {
+        RuleLine::Absent => log_ends(&mut log, book, ends_text, 1),
+        RuleLine::Clash(rest) => log_ends(&mut log, book, rest, 2),
+        RuleLine::Malformed(column) => {
+            log.extend(refused_line(refusal(3, 1, column)));
+            None
+        }
+    };
+    (log, book)
+}
+
+/// The book of an accepted plan as it is opened, and what is printed then.
+pub fn log_opening(plan: &Plan, rule: Rule) -> (Vec<u8>, Book) {
+    let book = open_book(plan, rule).book;
     let mut log = run_line(&book, rule);
     let nobody_yet = Book {
         mark: [WAITING; 64],
@@ -58,12 +77,7 @@ pub fn run_log(plan_text: &[u8], ends_text: &[u8]) -> Vec<u8> {
     };
     log_starts(&mut log, &nobody_yet, &book);
     log_early(&mut log, &book);
-    match rule_line {
-        RuleLine::Absent => log_ends(&mut log, book, ends_text, 1),
-        RuleLine::Clash(rest) => log_ends(&mut log, book, rest, 2),
-        RuleLine::Malformed(column) => log.extend(refused_line(refusal(3, 1, column))),
-    }
-    log
+    (log, book)
 }
 
 pub fn read_rule_line(ends_text: &[u8]) -> RuleLine<'_> {
@@ -86,20 +100,20 @@ fn run_line(book: &Book, rule: Rule) -> Vec<u8> {
     line.into_bytes()
 }
 
-/// Goes through the lines of the text, the first of which has that number.
-fn log_ends(log: &mut Vec<u8>, mut book: Book, text: &[u8], first_number: u32) {
+/// Goes through the lines of the text, the first of which has that number; None where one stops it.
+fn log_ends(log: &mut Vec<u8>, mut book: Book, text: &[u8], first_number: u32) -> Option<Book> {
     let mut rest = text;
     let mut line_number = first_number;
     while !rest.is_empty() {
         let Some((line, next)) = read_ends_line(rest) else {
             let column = malformed_ends_column(first_line(rest));
             log.extend(refused_line(refusal(3, line_number, column)));
-            return;
+            return None;
         };
         if let Some(field) = line.first_field_over() {
             let column = field_column(first_line(rest), field);
             log.extend(refused_line(refusal(4, line_number, column)));
-            return;
+            return None;
         }
         book = match line {
             EndsLine::End { task, tick } => log_report(log, &book, task, tick),
@@ -108,6 +122,7 @@ fn log_ends(log: &mut Vec<u8>, mut book: Book, text: &[u8], first_number: u32) {
         line_number += 1;
         rest = next;
     }
+    Some(book)
 }
 
 /// A well formed line and the rest of the text; None is refusal 3.
@@ -160,7 +175,7 @@ impl EndsLine {
     }
 }
 
-fn log_report(log: &mut Vec<u8>, book: &Book, task: u32, tick: u32) -> Book {
+pub fn log_report(log: &mut Vec<u8>, book: &Book, task: u32, tick: u32) -> Book {
     let reported = report(book, task, tick);
     if !reported.answer.is_accepted() {
         log.extend(refused_line(reported.answer));
@@ -174,7 +189,7 @@ fn log_report(log: &mut Vec<u8>, book: &Book, task: u32, tick: u32) -> Book {
     reported.book
 }
 
-fn log_drop(log: &mut Vec<u8>, book: &Book, task: u32) -> Book {
+pub fn log_drop(log: &mut Vec<u8>, book: &Book, task: u32) -> Book {
     let dropped = drop_task(book, task);
     if !dropped.answer.is_accepted() {
         log.extend(refused_line(dropped.answer));
@@ -205,7 +220,7 @@ fn log_starts(log: &mut Vec<u8>, before: &Book, now: &Book) {
     }
 }
 
-fn log_early(log: &mut Vec<u8>, book: &Book) {
+pub fn log_early(log: &mut Vec<u8>, book: &Book) {
     log.extend(line_of("early", &[book.clock, minimum_early(book).early]));
 }
 

@@ -2,15 +2,18 @@
 
 use dispatcher::run_log;
 use dispatcher::sample::plan_a::PLAN_A;
-use dispatcher::sample::program::{at_root, empty_folder, expect_said};
-use std::os::unix::fs::{symlink, MetadataExt, PermissionsExt};
+use dispatcher::sample::program::{
+    at_root, empty_folder, entries_below, expect_said, without_rights,
+};
+use std::os::unix::fs::{symlink, PermissionsExt};
 use std::path::{Path, PathBuf};
 use std::process::{Command, Output};
 use std::time::{Duration, Instant};
 use std::{env, fs, thread};
 
-const COMMANDS: [&str; 11] = [
+const COMMANDS: [&str; 12] = [
     "runlog",
+    "desk",
     "convert",
     "timetable",
     "judgelog",
@@ -87,6 +90,9 @@ fn links_to_the_commands_do_as_the_commands_do() {
     expect_printed(&call(&link, &[]), &log);
     expect_printed(&call(&link, &[example.to_str().unwrap()]), &log);
 
+    let link = link_to(&folder("link-desk"), "desk");
+    expect_printed(&call(&link, &[example.to_str().unwrap()]), &log);
+
     let mut program = Command::new(link_to(&folder("link-program"), "tools/program"));
     let ran = program.arg("runlog").current_dir(&example).output();
     expect_printed(&ran.unwrap(), &log);
@@ -126,7 +132,14 @@ fn expect_failed(output: &Output, why: &str) {
 fn a_folder_is_found_from_where_the_command_is_called() {
     let elsewhere = folder("cdpath");
     fs::create_dir_all(elsewhere.join("examples/plan-a")).unwrap();
-    for command in ["runlog", "convert", "timetable", "judgelog", "explain"] {
+    for command in [
+        "runlog",
+        "convert",
+        "timetable",
+        "judgelog",
+        "desk",
+        "explain",
+    ] {
         let called = |path: &Path| {
             let mut command = Command::new(at_root(command).canonicalize().unwrap());
             let command = command.arg("examples/plan-a").current_dir(at_root(""));
@@ -144,22 +157,6 @@ fn a_word_that_is_no_folder_is_said() {
     let file = at_root("README.md");
     let output = call(&at_root("runlog"), &[file.to_str().unwrap()]);
     expect_failed(&output, "is no folder");
-}
-
-/// The command as somebody who may do only what a file's mode allows: root's own rights are taken away.
-fn without_rights(command: &Path, words: &[&str]) -> Command {
-    // Whose process this is.
-    if fs::metadata("/proc/self").unwrap().uid() != 0 {
-        let mut plain = Command::new(command);
-        plain.args(words);
-        return plain;
-    }
-    let mut limited = Command::new("setpriv");
-    limited
-        .args(["--bounding-set=-all", "--inh-caps=-all"])
-        .arg(command)
-        .args(words);
-    limited
 }
 
 #[test]
@@ -216,11 +213,16 @@ fn project(command: &str, name: &str, rt: &str) -> PathBuf {
     fs::create_dir_all(root.join("crates")).unwrap();
     fs::create_dir_all(root.join("examples/plan-a")).unwrap();
     let crates =
-        "# NAME: DEP DEP\nlow:\nhigh: low io\nbeside: low high\nconvert: low\nrunlog: high os\ntimetable: low\njudgelog: low\n";
+        "# NAME: DEP DEP\nlow:\nhigh: low io\nbeside: low high\nconvert: low\nrunlog: high os\ntimetable: low\njudgelog: low\ndesk: low\n";
     fs::write(root.join("crates.txt"), crates).unwrap();
     put_script(&root.join("tools/program"), "echo \"$* ran\"");
     for script in [command, "tools/run.bash", "tools/use.bash"] {
         fs::copy(at_root(script), root.join(script)).unwrap();
+    }
+    fs::create_dir_all(root.join("tools/desk")).unwrap();
+    for script in entries_below(&at_root("tools/desk")) {
+        let name = script.file_name().unwrap();
+        fs::copy(&script, root.join("tools/desk").join(name)).unwrap();
     }
     put_script(&root.join("own/rt"), &format!("echo \"$*\" >>asked\n{rt}"));
     root
@@ -288,6 +290,27 @@ fn each_script_builds_and_runs_its_own_program() {
         "{said}"
     );
     assert_eq!(asked, "check low\ncheck convert\n");
+}
+
+/// The desk writes into its folder, so it takes no example where none is named.
+#[test]
+fn the_desk_builds_its_program_and_runs_it_in_the_folder_named() {
+    let root = project("desk", "own-desk", BUILDS);
+    let mut command = Command::new(root.join("desk"));
+    command.arg("examples/plan-a").current_dir(&root);
+    let output = call_in(&root, command);
+    assert_eq!(text(&output.stdout), "desk ran\n");
+    let said = text(&output.stderr);
+    assert!(said.contains("desk: proving 2 of 2: desk\n"), "{said}");
+    assert_eq!(asked_in(&root), "check low\ncheck desk\n");
+
+    let output = call(&root.join("desk"), &[]);
+    let said = text(&output.stderr);
+    assert_eq!(said, "desk: no folder is named; --help tells the use\n");
+    let mut command = Command::new(root.join("desk"));
+    let command = command.arg(&root).env("PATH", path_without_rt(&root));
+    let said = command.output().unwrap().stderr;
+    assert_eq!(text(&said), "desk: python3 is not here\n");
 }
 
 #[test]
@@ -378,12 +401,15 @@ fn a_program_that_ends_without_a_word_is_a_failure() {
     expect_failed(&output, "the program ended with status 137");
 }
 
-/// Runs the project's command on a terminal, and presses Ctrl-C once the pattern is shown there.
+/// Runs the project's command on a terminal, and presses Ctrl-C once the pattern is shown there; never where it is empty.
 fn on_terminal(root: &Path, pattern: &str) -> (String, Option<i32>) {
     let mut command = Command::new("python3");
+    command.arg(at_root("rust/tests/on_terminal.py"));
+    if !pattern.is_empty() {
+        command.args([pattern, "\x03"]);
+    }
     command
-        .arg(at_root("rust/tests/on_terminal.py"))
-        .arg(pattern)
+        .arg("--")
         .arg(root.join("runlog"))
         .env("TERM", "xterm");
     let output = call_in(root, command);

@@ -1,19 +1,28 @@
-//! How much stack the built programs take: the least with which they run.
+//! How much stack the built programs take: the least with which each runs.
 
+use dispatcher::desk::Start;
 use dispatcher::judged_text;
-use dispatcher::sample::program::{at_root, program_in};
+use dispatcher::sample::program::{at_root, empty_folder, program_in};
 use dispatcher::sample::tally::say;
-use std::fs;
+use dispatcher::Desk;
+use std::fs::{self, File};
 use std::path::PathBuf;
+
+const MOST_KIB_RUNLOG: u32 = 336;
+const MOST_KIB_JUDGELOG: u32 = 192;
+const MOST_KIB_DESK: u32 = 448;
 
 /// Where the system cannot be kept from putting a random distance before a stack, one of some tries has little of it.
 const TRIES: u32 = 12;
 
-/// A program, the folder that it is run in, and what it prints there.
+/// A program, the folder and the lines it is run with, what it then prints, and where it writes to `ends.txt` what that
+/// is to hold before.
 struct Run {
     program: &'static str,
     folder: PathBuf,
+    lines: PathBuf,
     printed: Vec<u8>,
+    ends: Option<Vec<u8>>,
 }
 
 impl Run {
@@ -21,8 +30,11 @@ impl Run {
         (0..TRIES).any(|_| self.runs_once_with(kib))
     }
 
-    /// Whether the program prints all with so much stack, which holds its environment too.
+    /// Whether the program prints all it should with so much stack, which holds its environment too.
     fn runs_once_with(&self, kib: u32) -> bool {
+        if let Some(ends) = &self.ends {
+            fs::write(self.folder.join("ends.txt"), ends).unwrap();
+        }
         let mut command = program_in(self.program, &self.folder);
         command.env_clear();
         for name in ["PATH", "RATTLE_HOME"] {
@@ -30,15 +42,15 @@ impl Run {
                 command.env(name, value);
             }
         }
+        let command = command.stdin(File::open(&self.lines).unwrap());
         let output = command.env("PROGRAM_STACK", kib.to_string()).output();
         let output = output.unwrap();
         output.status.success() && output.stdout == self.printed
     }
 
-    /// Its buffers alone are longer than `too_little`.
-    fn takes_at_most(&self, most: u32, mut too_little: u32) {
-        // The usual limit.
-        let mut enough = 8_192;
+    fn expect_at_most(&self, too_little: u32, most: u32) {
+        // The program's buffers alone are longer than the one, and the other is the usual limit.
+        let (mut too_little, mut enough) = (too_little, 8_192);
         assert!(!self.runs_with(too_little));
         assert!(self.runs_with(enough));
         while enough - too_little > 4 {
@@ -49,33 +61,75 @@ impl Run {
                 too_little = middle;
             }
         }
-        say(&format!("stack of {}: {enough} KiB", self.program));
-        assert!(enough <= most, "it takes {enough} KiB of stack");
+        let program = self.program;
+        say(&format!("stack of the program {program}: {enough} KiB"));
+        assert!(enough <= most, "{program} takes {enough} KiB of stack");
     }
 }
 
-fn full_morning(file: &str) -> Vec<u8> {
-    fs::read(at_root("examples/full-morning").join(file)).unwrap()
+fn full_morning(name: &str) -> PathBuf {
+    at_root("examples/full-morning").join(name)
 }
 
 #[test]
 fn runlog_takes_no_more_than_336_kib() {
     let run = Run {
         program: "runlog",
-        folder: at_root("examples/full-morning"),
-        printed: full_morning("log.txt"),
+        folder: full_morning(""),
+        lines: full_morning("ends.txt"),
+        printed: fs::read(full_morning("log.txt")).unwrap(),
+        ends: None,
     };
-    run.takes_at_most(336, 192);
+    run.expect_at_most(192, MOST_KIB_RUNLOG);
 }
 
 /// The log of that morning, judged: two texts in, and a short one out.
 #[test]
 fn judgelog_takes_no_more_than_192_kib() {
+    let texts = ["plan.txt", "log.txt"].map(|name| fs::read(full_morning(name)).unwrap());
     let run = Run {
         program: "judgelog",
-        folder: at_root("examples/full-morning"),
-        printed: judged_text(&full_morning("plan.txt"), &full_morning("log.txt")),
+        folder: full_morning(""),
+        lines: full_morning("ends.txt"),
+        printed: judged_text(&texts[0], &texts[1]),
+        ends: None,
     };
     assert!(run.printed.ends_with(b"accepted\n"));
-    run.takes_at_most(192, 64);
+    run.expect_at_most(64, MOST_KIB_JUDGELOG);
+}
+
+/// All that the second desk prints for these lines.
+fn printed_at_desk(plan: &[u8], ends: &[u8], lines: &[u8]) -> Vec<u8> {
+    let Start::Open(mut printed, mut desk) = Desk::start(plan, ends) else {
+        panic!("the desk does not open");
+    };
+    for line in lines.split_inclusive(|&byte| byte == b'\n') {
+        printed.extend(desk.take(&line[..line.len() - 1], true).answer);
+    }
+    printed
+}
+
+/// Half of the morning is in `ends.txt`. The other half is told line by line, and then everything is asked.
+#[test]
+fn the_desk_takes_no_more_than_448_kib() {
+    let folder = empty_folder(env!("CARGO_TARGET_TMPDIR"), "desk-stack");
+    let plan = fs::read(full_morning("plan.txt")).unwrap();
+    fs::write(folder.join("plan.txt"), &plan).unwrap();
+    let whole = fs::read(full_morning("ends.txt")).unwrap();
+    let told: Vec<&[u8]> = whole.split_inclusive(|&byte| byte == b'\n').collect();
+    let (before, after) = told.split_at(told.len() / 2);
+    let (ends, mut lines) = (before.concat(), after.concat());
+    lines.extend(b"early\nexact\nnow\nend\t1\t1\ndrop\t2\nrule\tclash\n");
+    for number in 1..=64 {
+        lines.extend(format!("why\t{number}\ndrive\t{number}\n").bytes());
+    }
+    fs::write(folder.join("lines"), &lines).unwrap();
+    let run = Run {
+        program: "desk",
+        lines: folder.join("lines"),
+        printed: printed_at_desk(&plan, &ends, &lines),
+        ends: Some(ends),
+        folder,
+    };
+    run.expect_at_most(192, MOST_KIB_DESK);
 }

@@ -491,11 +491,13 @@ fn a_note_is_no_failure() {
     );
 }
 
-fn on_terminal(root: &Path, pattern: &str) -> (String, Option<i32>) {
+/// Each pattern that is awaited, and the keys that are then pressed.
+fn on_terminal(root: &Path, steps: &[&str]) -> (String, Option<i32>) {
     let mut command = Command::new("python3");
     command
         .arg(at_root("rust/tests/on_terminal.py").canonicalize().unwrap())
-        .arg(pattern)
+        .args(steps)
+        .arg("--")
         .arg(root.join("year"))
         .arg("list")
         .current_dir(root)
@@ -511,7 +513,7 @@ fn on_terminal(root: &Path, pattern: &str) -> (String, Option<i32>) {
 #[test]
 fn on_a_terminal_it_shows_how_many_logs_are_done() {
     let root = project("year-terminal", &format!("{NOTES}; echo report"));
-    let (shown, status) = on_terminal(&root, "");
+    let (shown, status) = on_terminal(&root, &[]);
     assert_eq!(status, Some(0));
     let wanted = "\r\x1b[Kyear: 100 logs done\r\x1b[Kyear: 200 logs done\r\x1b[Kreport\r\n";
     assert_eq!(shown, wanted);
@@ -521,7 +523,7 @@ fn on_a_terminal_it_shows_how_many_logs_are_done() {
 fn ctrl_c_leaves_nothing_running() {
     let program = format!("echo $$ >child; {NOTES}; exec sleep 30");
     let root = project("year-ctrl-c", &program);
-    let (shown, status) = on_terminal(&root, "200 logs done");
+    let (shown, status) = on_terminal(&root, &["200 logs done", "\x03"]);
     assert_eq!(status, Some(130), "{shown:?}");
     let child = fs::read_to_string(root.join("child")).unwrap();
     let process = Path::new("/proc").join(child.trim_end());

@@ -11,7 +11,8 @@ use text::part::field;
 use text::part::find;
 use text::part::same;
 
-fn read_choice(line: &[u8], ended: bool) -> Choice
+// A line without its LF, and whether it had one.
+pub fn read_choice(line: &[u8], ended: bool) -> Choice
     ensures { λ r. ⌜ r ≡ choiceIn ended (now (line .entry)) ⌝ }
 {
     if !same(field(line, 0), b"rule") {

@@ -4,6 +4,7 @@ pub mod ComeLaws
 pub mod BookLaws
 pub mod ToldLaws
 pub mod ReportLaws
+pub mod AnswerLaws
 pub mod EndsLaws
 pub mod OpenLaws
 pub mod LogLaws

@@ -232,11 +232,11 @@ module _ (n : ℕ) (book : Book) (e : Entry) where
   pub told-names : {r : Shown} → r ≡ told → r .answer .code ≡ 0 → Named e (r .book .tasks)
   told-names q z = let z′ : told .answer .code ≡ 0 = rw q at z in rw q (told-named n book e z′)
 
-  told-text : toldLog book e told ≡ toldIn e (book .mark) told
+  pub told-text : toldLog book e told ≡ toldIn e (book .mark) told
   unfolding toldLog
   told-text = granted-same (told .answer .code) _ _ _ (λ z. ap (λ (x : List ℕ). x ++ earlyLine told) (told-lines n book e z))
 
-  told-most : toldMost e (book .mark) told + 0 ≤ 3432
+  pub told-most : toldMost e (book .mark) told + 0 ≤ 3432
   told-most =
       granted-most (told .answer .code) (linesMost e (started (book .mark) (told .book)) + 30) 41 0 3432
       (λ z. omega (arith, told-short n book e z))

@@ -1,4 +1,5 @@
 // The log of a morning, as bytes.
+pub mod answers;
 mod ends;
 mod starts;
 mod told;
@@ -31,6 +32,13 @@ pub struct Shown {
     pub answer: Answer,
     pub book: Book,
     pub early: u32,
+}
+
+// An answer, the book after it, and how many bytes were written.
+pub struct Logged {
+    pub answer: Answer,
+    pub book: Book,
+    pub length: usize,
 }
 
 // The rule that a book is opened by.

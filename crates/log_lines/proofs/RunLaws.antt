@@ -13,7 +13,7 @@ use Rattle.log_lines.specs.private.Wrote.{lineTo}
 use Rattle.log_lines.proofs.WriteLaws.{tabbed, to-tabbed, lined-looser}
 
 -- a word after the numbers is a line's end as well
-last-tabbed : (last word l : List ℕ) → joinOn 9 (word ∷ (map digitsOf l ++ (last ∷ []))) ++ (10 ∷ []) ≡ word ++ tabbed (9 ∷ (last ++ (10 ∷ []))) l
+pub last-tabbed : (last word l : List ℕ) → joinOn 9 (word ∷ (map digitsOf l ++ (last ∷ []))) ++ (10 ∷ []) ≡ word ++ tabbed (9 ∷ (last ++ (10 ∷ []))) l
 unfolding joinOn tabbed
 last-tabbed last word [] = append-assoc word (9 ∷ last) (10 ∷ [])
 last-tabbed last word (n ∷ l) =

@@ -7,6 +7,7 @@ ghost use lib.ListN.{length};
 ghost use Rattle.text.specs.Bytes.{bytes};
 ghost use Rattle.plan.specs.Answer.{refuse};
 ghost use Rattle.log_lines.specs.Lines.{numbersLine, runBy, taskLine, startWord, refusedLine, Lined};
+ghost use Rattle.log_lines.specs.Answers.{knownLine};
 ghost use Rattle.log_lines.specs.private.Wrote.{Wrote, lineTo};
 use text::part::TAB;
 use text::put::put_byte;
@@ -15,6 +16,9 @@ use text::put::put_text;
 
 // No line is longer.
 pub const LINE_MOST: usize = 52;
+
+// No answer to one line is longer: 64 lines, and some.
+pub const ANSWER_MOST: usize = 3432;
 
 fn wide(x: u8) -> u32
     ensures { λ r. ⌜ r ≡ x ⌝ }
@@ -139,4 +143,53 @@ pub fn put_start(
         return put_task(out, at, b"skip", task, board, planned, actual);
     }
     put_task(out, at, b"start", task, board, planned, actual)
+}
+
+// `now`, clock, how many run.
+pub fn put_now(out: &mut [u8], at: usize, clock: u32, count: u32) -> usize
+    ensures { λ r. ⌜ Lined (now (out .entry)) at (numbersLine (bytes "now") (clock ∷ count ∷ [])) 30 (now (out .exit)) r ⌝ }
+{
+    put_line(out, at, b"now", &[clock, count])
+}
+
+// `why`, task, how many links.
+pub fn put_why(out: &mut [u8], at: usize, task: u32, count: u32) -> usize
+    ensures { λ r. ⌜ Lined (now (out .entry)) at (numbersLine (bytes "why") (task ∷ count ∷ [])) 30 (now (out .exit)) r ⌝ }
+{
+    put_line(out, at, b"why", &[task, count])
+}
+
+// A task that runs, its start and its limit.
+pub fn put_runs(out: &mut [u8], at: usize, task: u32, board: u8, start: u32, limit: u32) -> usize
+    ensures { λ r. ⌜ Lined (now (out .entry)) at (numbersLine (bytes "runs") (task ∷ board ∷ start ∷ limit ∷ [])) 52 (now (out .exit)) r ⌝ }
+{
+    put_line(out, at, b"runs", &[task, wide(board), start, limit])
+}
+
+// A figure that is not known is a dash.
+pub fn put_exact(out: &mut [u8], at: usize, clock: u32, known: bool, early: u32) -> usize
+    ensures { λ r. ⌜ Lined (now (out .entry)) at (knownLine (bytes "exact") (clock ∷ []) known early) 52 (now (out .exit)) r ⌝ }
+{
+    if known {
+        return put_line(out, at, b"exact", &[clock, early]);
+    }
+    put_line_to(out, at, b"exact", &[clock], b"\t-\n")
+}
+
+// A link of a chain; an end that is not known is a dash.
+pub fn put_link(
+    out: &mut [u8],
+    at: usize,
+    task: u32,
+    board: u8,
+    start: u32,
+    known: bool,
+    end: u32,
+) -> usize
+    ensures { λ r. ⌜ Lined (now (out .entry)) at (knownLine (bytes "link") (task ∷ board ∷ start ∷ []) known end) 52 (now (out .exit)) r ⌝ }
+{
+    if known {
+        return put_line(out, at, b"link", &[task, wide(board), start, end]);
+    }
+    put_line_to(out, at, b"link", &[task, wide(board), start], b"\t-\n")
 }

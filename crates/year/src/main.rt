@@ -9,14 +9,13 @@ use files::print;
 use folders::NAME_MOST;
 use folders::Taken;
 use folders::next_line;
-use folders::read_in;
 use folders::took;
 use libc::STDERR_FILENO;
 use year_bounds::LOGS_MOST;
+use year_folders::add_folder;
 use year_rules::Totals;
 use year_text::REPORT_MOST;
 use year_text::write_report;
-use year_texts::add_texts;
 
 // One byte more than a text may have: enough to see that a file is too long.
 const READ_MOST: usize = 32769;
@@ -98,23 +97,6 @@ fn come_to(state: u8, totals: Totals) -> Named {
     Named { state, totals }
 }
 
-// Both files are read before the log is judged.
-fn add_folder(name: &[u8], plan: &mut [u8], log: &mut [u8], totals: Totals) -> Named {
-    let planned = read_in(name, b"/plan.txt", plan);
-    if planned.failed {
-        return come_to(FAILED, totals);
-    }
-    let logged = read_in(name, b"/log.txt", log);
-    if logged.failed {
-        return come_to(FAILED, totals);
-    }
-    let plan_length = planned.length;
-    let log_length = logged.length;
-    let next = add_texts(&plan[..plan_length], &log[..log_length], totals);
-    note(logs_in(next));
-    come_to(READING, next)
-}
-
 // From the 10,001st name on nothing is opened.
 fn add_name(name: &[u8], over: bool, plan: &mut [u8], log: &mut [u8], totals: Totals) -> Named {
     if name.len() == 0 {
@@ -128,7 +110,13 @@ fn add_name(name: &[u8], over: bool, plan: &mut [u8], log: &mut [u8], totals: To
         fail_over(name);
         return come_to(FAILED, totals);
     }
-    add_folder(name, plan, log, totals)
+    let added = add_folder(name, plan, log, totals);
+    let next = added.totals;
+    if added.failed {
+        return come_to(FAILED, next);
+    }
+    note(logs_in(next));
+    come_to(READING, next)
 }
 
 fn listed(state: u8, taken: Taken, totals: Totals) -> List {

@@ -92,6 +92,14 @@ const ODD_RULE_LINES: [&[u8]; 36] = [
     b"clash\n",
 ];
 
+pub fn odd_ends_line(rng: &mut Rng) -> Vec<u8> {
+    rng.pick(&ODD_ENDS_LINES).to_vec()
+}
+
+pub fn odd_rule_line(rng: &mut Rng) -> Vec<u8> {
+    rng.pick(&ODD_RULE_LINES).to_vec()
+}
+
 /// The text with an odd line of `ends.txt` put between two of its lines.
 pub fn with_odd_ends_line(rng: &mut Rng, text: &[u8]) -> Vec<u8> {
     let mut lines: Vec<&[u8]> = text.split_inclusive(|&byte| byte == b'\n').collect();

@@ -2,6 +2,7 @@
 
 pub mod columns;
 pub mod damage;
+pub mod desk_lines;
 pub mod events;
 pub mod every_book;
 pub mod every_later;
@@ -9,6 +10,7 @@ pub mod faults;
 pub mod lengths;
 pub mod lent;
 pub mod lines;
+pub mod live;
 pub mod log_damage;
 pub mod logs;
 pub mod mixtures;

@@ -2,6 +2,7 @@
 
 use std::collections::BTreeSet;
 use std::fs;
+use std::os::unix::fs::MetadataExt;
 use std::path::{Path, PathBuf};
 use std::process::Command;
 use std::sync::Mutex;
@@ -86,6 +87,22 @@ pub fn expect_said(said: &[u8], name: &str) {
     assert!(said.starts_with(&format!("{name}: ")), "said {said:?}");
     assert_eq!(said.matches('\n').count(), 1, "said {said:?}");
     assert!(said.ends_with('\n'));
+}
+
+/// The command as somebody who may do only what a file's mode allows: root's own rights are taken away.
+pub fn without_rights(command: &Path, words: &[&str]) -> Command {
+    // Whose process this is.
+    if fs::metadata("/proc/self").unwrap().uid() != 0 {
+        let mut plain = Command::new(command);
+        plain.args(words);
+        return plain;
+    }
+    let mut limited = Command::new("setpriv");
+    limited
+        .args(["--bounding-set=-all", "--inh-caps=-all"])
+        .arg(command)
+        .args(words);
+    limited
 }
 
 /// Puts a folder in the file's place: it is there, and cannot be read.

@@ -1,0 +1,46 @@
+-- The dialogue is answered as typed, and its lines are kept.
+use Prim.Native.Nat.{ℕ}
+use mathlib.Core.Path.{_≡_, refl}
+use mathlib.Core.Bool.{true, false}
+use mathlib.Core.List.{List}
+use Rattle.text.specs.Bytes.{bytes}
+use Rattle.exact.specs.Exact.{exactEarly}
+use Rattle.exact_figure.specs.Figure.{exactOf}
+use Rattle.times.specs.Times.{endsBy}
+use Rattle.drive_sheet.specs.Sheet.{numbers, soonest, sheetWith, sheetOf}
+use Rattle.sheets.specs.Sheets.{madeOf, onDriveOf}
+use Rattle.log_lines.specs.Answers.{knownLine}
+use Rattle.desk_lines.specs.Lines.{aloneCodes, oneCodes, wordAsked, askedOf}
+use Rattle.desk_answers.specs.Answers.{linesEach, earlyAnswer, exactAnswer, nowAnswer}
+use Rattle.desk_questions.specs.Questions.{driveLine, driveAnswer, whyAnswer}
+use Rattle.desk_turns.specs.Turns.{taking, turnBy, turnOf}
+use Rattle.desk_start.specs.Start.{lineEnd, textIn, walkFrom, walkedBy, walkedOf, begunOf}
+use Rattle.desk_promises.specs.Sessions.{sessionFrom, sessionOf}
+use Rattle.tables.proofs.Computing.{computing}
+use Rattle.desk_tables.specs.Desks.{morningA, typed, printed, kept, lastFits, lastFull, fullRefused}
+
+pub dialogue : sessionOf morningA typed .printed ≡ printed
+unfolding
+    computing exactEarly exactOf endsBy numbers soonest sheetWith sheetOf madeOf onDriveOf knownLine aloneCodes oneCodes wordAsked askedOf
+    linesEach earlyAnswer exactAnswer nowAnswer driveLine driveAnswer whyAnswer taking turnBy turnOf lineEnd textIn walkFrom walkedBy walkedOf
+    begunOf sessionFrom
+dialogue = refl
+
+pub dialogue-kept : sessionOf morningA typed .kept ≡ kept
+unfolding
+    computing exactEarly exactOf endsBy numbers soonest sheetWith sheetOf madeOf onDriveOf knownLine aloneCodes oneCodes wordAsked askedOf
+    linesEach earlyAnswer exactAnswer nowAnswer driveLine driveAnswer whyAnswer taking turnBy turnOf lineEnd textIn walkFrom walkedBy walkedOf
+    begunOf sessionFrom
+dialogue-kept = refl
+
+pub last-fits : lastFits .keeps ≡ true
+unfolding computing aloneCodes oneCodes wordAsked askedOf taking turnBy turnOf lineEnd textIn walkFrom walkedBy walkedOf begunOf
+last-fits = refl
+
+pub last-full : lastFull .says ≡ bytes "refused\t1\t0\t0\n"
+unfolding computing aloneCodes oneCodes wordAsked askedOf taking turnBy turnOf lineEnd textIn walkFrom walkedBy walkedOf begunOf
+last-full = refl
+
+pub full-refused : fullRefused .says ≡ bytes "refused\t10\t6\t0\n"
+unfolding computing aloneCodes oneCodes wordAsked askedOf taking turnBy turnOf lineEnd textIn walkFrom walkedBy walkedOf begunOf
+full-refused = refl

@@ -1,0 +1,1 @@
+// A dialogue at the desk, closed by computation. No function.

@@ -1,0 +1,24 @@
+"""The lock of a folder: the kernel's, so that a killed desk leaves none."""
+import fcntl
+import os
+import time
+
+# A desk that was killed a moment ago may still be going.
+PATIENCE = 0.5
+
+
+def take_lock():
+    """A descriptor of the working directory that holds its lock as long as it is open here or in a child; None where another desk has it.
+
+    The folder itself is locked, and only read, so that a folder that may not be written has a lock too.
+    """
+    folder = os.open(".", os.O_RDONLY | os.O_DIRECTORY)
+    until = time.monotonic() + PATIENCE
+    while True:
+        try:
+            fcntl.flock(folder, fcntl.LOCK_EX | fcntl.LOCK_NB)
+            return folder
+        except BlockingIOError:
+            if time.monotonic() > until:
+                return None
+        time.sleep(0.01)

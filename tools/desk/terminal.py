@@ -1,0 +1,92 @@
+"""The desk at a terminal: a prompt, lines that can be edited, and each answer shown as it comes."""
+import os
+import re
+import signal
+import sys
+
+PROMPT = "desk> "
+LAST_WORDS = (b"early", b"exact", b"now", b"drive", b"why", b"refused")
+# The numbers of a refused line that stop a log.
+STOPPING = (b"3", b"4")
+HELP = """\
+end TASK TICK   the task ended at that tick: kept, and who starts is shown
+drop TASK       the task's student is absent: kept
+rule clash      the morning goes by the clash rule, as long as nothing is kept: kept
+early           the clock and the figure M
+exact           the clock and the largest figure that is still true, - for none
+now             who runs or has a known start: task, board, start, limit
+drive NUMBER    who is on the drive, and who is next
+why TASK        the chain of its start: task, board, start, end
+help            this list
+Ctrl-C gives up a line that is being typed, Ctrl-D ends the desk. What was kept is in ends.txt.
+"""
+
+
+def edit_lines():
+    """Lines can be edited and called back, where Python has the means."""
+    try:
+        import readline
+    except ImportError:
+        return
+    # Of several lines pasted in at once each is a line of its own.
+    readline.parse_and_bind("set enable-bracketed-paste off")
+    readline.parse_and_bind('"\\t": self-insert')
+
+
+def answers_in_log():
+    """How many answers the log of the folder has, where it is not stopped: the opening, and one for each line of ends.txt but the rule's."""
+    try:
+        with open("ends.txt", "rb") as file:
+            text = file.read()
+    except OSError:
+        text = b""
+    return 1 + text.count(b"\n") - text.startswith(b"rule\tclash\n")
+
+
+def show_answer(program):
+    """The fields of the answer's last line; none where the program has ended."""
+    for line in program.process.stdout:
+        sys.stdout.buffer.write(line)
+        sys.stdout.buffer.flush()
+        fields = line.rstrip(b"\n").split(b"\t")
+        if fields[0] in LAST_WORDS:
+            return fields
+    return []
+
+
+def show_log(program):
+    """Whether lines are read behind the log: not where the plan is refused, which is all of the log then, or the log is stopped."""
+    for k in range(answers_in_log()):
+        last = show_answer(program)
+        if not last or (last[0] == b"refused" and (k == 0 or last[1] in STOPPING)):
+            return False
+    return True
+
+
+def typed_line():
+    """The next line with tabs for blanks; None at the end of input, nothing where the line was given up."""
+    try:
+        signal.signal(signal.SIGINT, signal.default_int_handler)
+        typed = input(PROMPT)
+    except EOFError:
+        print()
+        return None
+    except KeyboardInterrupt:
+        print()
+        return ""
+    finally:
+        # While an answer is awaited nothing is to be given up.
+        signal.signal(signal.SIGINT, signal.SIG_IGN)
+    return re.sub("[ \t]+", "\t", typed.strip(" \t"))
+
+
+def converse(program):
+    signal.signal(signal.SIGINT, signal.SIG_IGN)
+    edit_lines()
+    if not show_log(program):
+        return
+    while (line := typed_line()) is not None:
+        if line == "help":
+            print(HELP, end="", flush=True)
+        elif line and not (program.ask(os.fsencode(line)) and show_answer(program)):
+            return
