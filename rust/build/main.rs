@@ -7,15 +7,20 @@
 #[allow(dead_code)]
 #[path = "../src/exports.rs"]
 mod exports;
+#[allow(dead_code)]
+#[path = "../src/header.rs"]
+mod header;
 mod in_c;
 mod in_rust;
+#[allow(dead_code)]
+#[path = "../src/kit.rs"]
+mod kit;
 
 use exports::Table;
+use kit::Kit;
 use std::path::{Path, PathBuf};
 use std::process::Command;
 use std::{env, fs};
-
-const TARGET: &str = "x86_64-unknown-linux-gnu";
 
 /// A folder with the library compiled for this processor, as `tools/bench` makes it on Arm.
 const NATIVE: &str = "CLOVERDUSK_NATIVE";
@@ -31,10 +36,11 @@ fn main() {
     println!("cargo:rerun-if-changed={}", package.join("build").display());
     check_age(&library, &table.files);
     let native = env::var_os(NATIVE).map(PathBuf::from);
+    check_header(&table, &package.join("../include/cloverdusk.h"));
     write_bindings(&table, native.is_some());
     let is_direct = is_x86_64() && env::var(CALLS).as_deref() != Ok("peer");
     link(native.or(is_direct.then_some(folder)));
-    build_peer(&package.join("peer/peer.c"), &library);
+    build_peer(&package, &library);
 }
 
 /// Stops where the library is not of these sources: it would be called by a wrong declaration.
@@ -47,6 +53,14 @@ fn check_age(library: &Path, sources: &[PathBuf]) {
             panic!("the static library is missing or old: run `rt staticlib cloverdusk` first");
         }
     }
+}
+
+/// Stops where the C header is not of these exports, and says what to put there.
+fn check_header(table: &Table, header: &Path) {
+    println!("cargo:rerun-if-changed={}", header.display());
+    let text = fs::read_to_string(header).expect("the header can be read");
+    let drift = header::drift(table, &text);
+    assert!(drift.is_empty(), "{drift}");
 }
 
 fn variable(name: &str) -> String {
@@ -66,7 +80,7 @@ fn write_bindings(table: &Table, answers_in_place: bool) {
         ("functions.rs", in_rust::functions(table)),
         ("direct.rs", in_rust::direct(table, answers_in_place)),
         ("peer.rs", in_rust::by_peer(table)),
-        ("exports.h", in_c::header(table)),
+        ("ops.h", in_c::ops(table)),
     ];
     for (name, text) in texts {
         fs::write(out(name), text).expect("the build's own folder can be written");
@@ -85,37 +99,37 @@ fn link(folder: Option<PathBuf>) {
     }
 }
 
-/// Builds the peer, and tells the crate what runs it.
-fn build_peer(source: &Path, library: &Path) {
-    let own = kit().join("on").join(env::consts::ARCH);
-    let toolchain = own.join("toolchain");
-    let (object, peer) = (out("peer.o"), out("peer"));
-    run(Command::new(toolchain.join("bin/clang"))
-        .args(["-target", TARGET, "-O2", "-fPIE"])
-        .args(["-Wall", "-Wextra", "-Werror", "-I", &variable("OUT_DIR")])
-        .args([Path::new("-c"), source, Path::new("-o"), &object]));
-    run(Command::new(own.join("bin/rattle-link"))
-        .args(["--target", TARGET, "--toolchain"])
-        .args([&toolchain, Path::new("-o"), &peer, &object, library]));
-    println!("cargo:rerun-if-changed={}", source.display());
+/// Builds the peer, and tells the crate what builds and runs such a program.
+fn build_peer(package: &Path, library: &Path) {
+    let kit = Kit::of(kit_folder().join("on").join(env::consts::ARCH));
+    let (source, peer) = (package.join("peer/peer.c"), out("peer"));
+    let mut compiler = kit.compiler(&package.join(".."));
+    let object = out("peer.o");
+    run(compiler
+        .args([
+            "-O2",
+            "-Wall",
+            "-Wextra",
+            "-Werror",
+            "-I",
+            &variable("OUT_DIR"),
+        ])
+        .args([Path::new("-c"), &source, Path::new("-o"), &object]));
+    run(&mut kit.linker(&object, library, &peer));
+    for path in [&source, &package.join("c")] {
+        println!("cargo:rerun-if-changed={}", path.display());
+    }
     println!("cargo:rerun-if-env-changed=RATTLE_HOME");
     println!("cargo:rustc-env=PEER={}", peer.display());
-    let mut tools = vec![
-        ("PEER_LOADER", toolchain.join("lib/ld-linux-x86-64.so.2")),
-        ("PEER_LIBRARIES", toolchain.join("lib")),
-    ];
-    if !is_x86_64() {
-        tools.push(("PEER_EMULATOR", toolchain.join("bin/qemu-x86_64")));
-    }
-    for (name, file) in tools {
-        // A toolchain that has moved is looked for again.
+    println!("cargo:rustc-env=KIT={}", kit.folder.display());
+    // A toolchain that has moved is looked for again.
+    for file in kit.files() {
         println!("cargo:rerun-if-changed={}", file.display());
-        println!("cargo:rustc-env={name}={}", file.display());
     }
 }
 
 /// The toolchain's folder: it has the guide that `rt doc` names in `docs`.
-fn kit() -> PathBuf {
+fn kit_folder() -> PathBuf {
     let guide = run(Command::new("rt").arg("doc"));
     let folder = Path::new(guide.trim_end()).parent().and_then(Path::parent);
     folder.expect("the guide is in a folder").to_path_buf()

@@ -5,18 +5,14 @@
 // bytes, a slice as its length (4 bytes) and its bytes. An answer is the length of what follows, the
 // value that the function answered and the bytes of the buffer that was lent to it, if one was.
 //
-// exports.h is made by the build from the Rattle source. There are no C headers here to include.
+// It calls by the header that customers include, so every comparison tests that too. ops.h is made by the
+// build from the Rattle source. The toolchain has no C headers of its own: those that are needed are in rust/c.
+#include "cloverdusk.h"
 
-typedef __UINT8_TYPE__ u8;
-typedef __UINT16_TYPE__ u16;
-typedef __UINT32_TYPE__ u32;
-typedef __UINT64_TYPE__ u64;
-typedef __SIZE_TYPE__ usize;
-typedef __INT8_TYPE__ i8;
-typedef __INT16_TYPE__ i16;
-typedef __INT32_TYPE__ i32;
-typedef __INT64_TYPE__ i64;
-typedef __PTRDIFF_TYPE__ isize;
+typedef uint8_t u8;
+typedef uint32_t u32;
+typedef uint64_t u64;
+typedef size_t usize;
 
 long read(int file, void *to, usize length);
 long write(int file, const void *from, usize length);
@@ -86,7 +82,7 @@ static void answer(const void *value, u32 size, struct slice lent) {
 static const struct slice NONE;
 
 // ---- the library, an op for each of its functions, and OPS: what answers a request, and what is measured
-#include "exports.h"
+#include "ops.h"
 
 // ---- the stack that one call takes
 enum { REGISTERS = 6 }; // in which a C function gets its first arguments

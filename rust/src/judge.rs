@@ -14,6 +14,15 @@ pub fn accepted(plan: &Plan) -> bool {
     clashes_if_accepted(plan).is_some()
 }
 
+/// What the plan is judged: 9 where its ranges are broken, then 17, then the first faulty pair.
+pub fn judge_plan(plan: &Plan) -> Answer {
+    if !keeps_ranges(plan) {
+        return Answer::UNSOUND;
+    }
+    let fault = late_beginning(plan).or_else(|| first_faulty_pair(plan));
+    fault.unwrap_or(Answer::ACCEPTED)
+}
+
 /// The plan's clashes, which are looked at to judge it, where it is accepted.
 pub fn clashes_if_accepted(plan: &Plan) -> Option<Clashes<'_>> {
     if !keeps_ranges(plan) || late_beginning(plan).is_some() {

@@ -13,7 +13,7 @@ use crate::runlog::{read_rule_line, refused_line, RuleLine};
 use crate::text::plan_of;
 use crate::timetable::timetable;
 use crate::values::{
-    refusal, Answer, Lengths, Plan, Rule, Timetable, DROPPED, LAST_TICK, LONGEST_TEXT,
+    refusal, Answer, Asking, Lengths, Plan, Rule, Timetable, DROPPED, LAST_TICK, LONGEST_TEXT,
 };
 
 /// How each field of a line of `lengths.txt` is spelt, by its kind.
@@ -75,6 +75,20 @@ pub fn read_lengths(plan: &Plan, text: &[u8]) -> Result<(Rule, Lengths), Answer>
     Ok((rule, read_lines(plan, lines, first_number)?))
 }
 
+/// The same as a value: Early Start and zeros where the text is refused.
+pub fn asking(plan: &Plan, text: &[u8]) -> Asking {
+    let (answer, rule, given) = match read_lengths(plan, text) {
+        Ok((rule, given)) => (Answer::ACCEPTED, rule, given),
+        Err(answer) => (answer, Rule::EarlyStart, Lengths::ZERO),
+    };
+    let rule = rule as u8;
+    Asking {
+        answer,
+        rule,
+        given,
+    }
+}
+
 /// Goes through the lines of the text, the first of which has that number.
 fn read_lines(plan: &Plan, text: &[u8], first_number: u32) -> Result<Lengths, Answer> {
     let mut said = Said {
@@ -87,7 +101,7 @@ fn read_lines(plan: &Plan, text: &[u8], first_number: u32) -> Result<Lengths, An
         let line = first_line(rest);
         let (read, next) = read_lengths_line(rest)
             .ok_or_else(|| refusal(3, line_number, malformed_lengths_column(line)))?;
-        said.take(plan.tasks.into(), &read)
+        said.take(plan.task_count() as u32, &read)
             .map_err(|field| refusal(4, line_number, field_column(line, field)))?;
         line_number += 1;
         rest = next;

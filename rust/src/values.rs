@@ -149,6 +149,15 @@ pub struct Lengths {
     pub dropped: [u8; 64],
 }
 
+/// What a text of lengths asks of the engine, its rule as a book has it.
+#[repr(C)]
+#[derive(Clone, Copy, PartialEq, Eq, Debug)]
+pub struct Asking {
+    pub answer: Answer,
+    pub rule: u8,
+    pub given: Lengths,
+}
+
 /// An answer, and each task's start and end.
 #[repr(C)]
 #[derive(Clone, Copy, PartialEq, Eq, Debug)]
@@ -363,15 +372,21 @@ impl Book {
 }
 
 impl Lengths {
-    /// Every task takes its planned length, and none is dropped.
+    pub const ZERO: Lengths = Lengths {
+        length: [0; 64],
+        dropped: [0; 64],
+    };
+
+    /// Every task takes its planned length, and none is dropped. In a plan that is not accepted a task
+    /// whose finish is not above its start has the length 0.
     pub fn planned(plan: &Plan) -> Lengths {
         let mut length = [0; 64];
         for (i, length) in length[..plan.task_count()].iter_mut().enumerate() {
-            *length = plan.finish[i] - plan.begin[i];
+            *length = plan.finish[i].saturating_sub(plan.begin[i]);
         }
         Lengths {
             length,
-            dropped: [0; 64],
+            ..Lengths::ZERO
         }
     }
 

@@ -1,5 +1,6 @@
 //! All tests, one binary, which is built and linked once; a module for each file beside this one.
 
+mod archive;
 mod believed;
 mod both_sides;
 mod cases;
@@ -26,10 +27,12 @@ mod desk_impostors;
 mod desk_terminal;
 mod drops;
 mod editions;
+mod embed;
 mod every_book;
 mod exact;
 mod explain;
 mod exports;
+mod header;
 mod judgelog;
 mod judgelog_impostors;
 mod layout;

@@ -14,7 +14,7 @@ use dispatcher::sample::wild::{one_rule_broken, wild_plan};
 use dispatcher::sample::Rng;
 use dispatcher::text::plan_text;
 use dispatcher::values::LONGEST_TEXT;
-use dispatcher::{accepted, proved, read_plan, write_plan};
+use dispatcher::{accepted, judge_plan, proved, read_plan, write_plan};
 use dispatcher::{Plan, Written};
 
 /// Bytes that are right in some places of a text and wrong in others.
@@ -38,6 +38,9 @@ fn compare_reading(tally: &mut Tally, text: &[u8]) {
 fn compare_judging(tally: &mut Tally, plan: &Plan) {
     let wanted = accepted(plan);
     assert_eq!(proved::accepted(plan), wanted, "{plan:?}");
+    let answer = judge_plan(plan);
+    assert_eq!(proved::judge_plan(plan), answer, "{plan:?}");
+    assert_eq!(answer.is_accepted(), wanted, "{plan:?}");
     tally.count_judged(wanted);
 }
 

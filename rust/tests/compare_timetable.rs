@@ -1,6 +1,7 @@
 //! The engine without reports: the proved implementation must answer every plan, rule, length and
 //! drop as the second one does, and print every pair of texts alike, to the last byte.
 
+use dispatcher::lengths::asking;
 use dispatcher::proved::{self, write_timetable, LONGEST_TIMETABLE};
 use dispatcher::sample::damage::mutated_plan;
 use dispatcher::sample::faults::{damaged_text, faulty_pair_plan, late_plan, sharing_plan};
@@ -286,6 +287,33 @@ fn timetables_are_printed_alike() {
     printed
         .tally
         .finish(40_000, &[&of_plans[..], &[0, 19, 22]].concat());
+}
+
+fn compare_asking(tally: &mut Tally, plan: &Plan, text: &[u8]) {
+    let wanted = asking(plan, text);
+    let got = proved::read_lengths(plan, text);
+    assert_eq!(got, wanted, "{}, {plan:?}", shown(text));
+    tally.count(wanted.answer);
+}
+
+/// Of any plan that is handed in, also of one that no text says.
+#[test]
+fn lengths_are_read_alike() {
+    let (mut rng, mut tally) = Tally::seeded("compare_timetable, lengths");
+    let rng = &mut rng;
+    for _ in 0..3_000 {
+        let case = random_case(rng);
+        let text = lengths_text(rng, &case);
+        let too_long = stretched_text(rng, &text, LONGEST_TEXT + 1);
+        for plan in [case.plan, mutated_plan(rng, &case.plan), wild_plan(rng)] {
+            compare_asking(&mut tally, &plan, &text);
+            compare_asking(&mut tally, &plan, &damaged_text(rng, &text));
+            compare_asking(&mut tally, &plan, &with_odd_field(rng, &text));
+            compare_asking(&mut tally, &plan, &with_odd_rule_line(rng, &text));
+        }
+        compare_asking(&mut tally, &case.plan, &too_long);
+    }
+    tally.finish(30_000, &[0, 1, 3, 4]);
 }
 
 /// All bytes of a buffer of that length, and of those behind it, after the call.

@@ -121,6 +121,7 @@ fn compare_on_plan(plan: &Plan) {
     }
     assert!(peer::convert(plan) == proved::convert(plan));
     assert_eq!(peer::is_accepted(plan), proved::is_accepted(plan));
+    assert_eq!(peer::judge_plan(plan), proved::judge_plan(plan));
     for length in [0, 10, text.len(), 40_000] {
         let by_peer = with_buffer(length, |out| peer::write_plan(plan, out));
         assert!(by_peer == with_buffer(length, |out| proved::write_plan(plan, out)));
@@ -131,6 +132,7 @@ fn compare_on_plan(plan: &Plan) {
         let length = proved::LONGEST_TIMETABLE;
         let by_peer = with_buffer(length, |out| peer::write_timetable(&text, lengths, out));
         assert!(by_peer == with_buffer(length, |out| proved::write_timetable(&text, lengths, out)));
+        assert!(peer::read_lengths(plan, lengths) == proved::read_lengths(plan, lengths));
     }
     let log = format!("run\t1\t{}\t{}\n", plan.boards, plan.tasks);
     for log in [&b""[..], log.as_bytes(), b"run\n"] {

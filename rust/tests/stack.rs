@@ -2,11 +2,12 @@
 
 use dispatcher::fields::line_of;
 use dispatcher::proved::{measured, Function, Measured, Measuring};
-use dispatcher::proved::{LONGEST_JUDGED, LONGEST_REPORT, LONGEST_TIMETABLE};
+use dispatcher::proved::{LONGEST_JUDGED, LONGEST_LOG, LONGEST_REPORT, LONGEST_TIMETABLE};
 use dispatcher::sample::events::{droppable_tasks, must_take, Event};
 use dispatcher::sample::logs::{school_log, school_times};
 use dispatcher::sample::old_texts::with_all_shared;
 use dispatcher::sample::plans::{exclusively_held, full_plan, single_file, with_even_ready_ticks};
+use dispatcher::sample::program::{at_root, contents};
 use dispatcher::sample::reports::last_moment_report;
 use dispatcher::sample::tally::say;
 use dispatcher::sample::years::ALL_ONES;
@@ -23,6 +24,9 @@ const MOST_FOR_JUDGING: u32 = 14_352;
 
 /// A text is read, converted and written in one call: a program's whole work, under a limit of its own.
 const MOST_FOR_A_TEXT: u32 = 65_536;
+
+/// So are a plan and its ends made a log.
+const MOST_FOR_A_LOG: u32 = 98_304;
 
 /// The code is that of the answer; of a judgement it is 1 or 0.
 fn check(what: &str, measured: Measured, code: u32) {
@@ -67,8 +71,14 @@ fn no_call_on_a_plan_takes_more_than_32_kib() {
         check_writing("writing a plan", &plan, 0);
         check("judging a plan", measured::is_accepted(&plan), 1);
         assert!(measured::is_accepted(&plan).used <= MOST_FOR_JUDGING);
+        check(
+            "telling why a plan is refused",
+            measured::judge_plan(&plan),
+            0,
+        );
         let broken = with_broken_order(plan);
         check("a broken order", measured::is_accepted(&broken), 0);
+        check("telling a broken order", measured::judge_plan(&broken), 8);
         check_reading("reading a broken order", &plan_text(&broken), 8);
         for rule in Rule::BOTH {
             check_opening("opening a book", &plan, rule, 0);
@@ -85,7 +95,7 @@ fn no_call_on_a_plan_takes_more_than_32_kib() {
     }
 }
 
-/// `convert_text` is a whole program's work, as `run_log` is, and stands under no such limit.
+/// `convert_text` is a whole program's work, as `run_log` is, and stands under a limit of its own.
 #[test]
 fn no_conversion_takes_more_than_32_kib() {
     let [sharing, awaited] = full_plans();
@@ -168,11 +178,30 @@ fn the_text_of_a_timetable_takes_no_more_than_64_kib() {
         let lengths: Vec<u8> = (1..=64)
             .flat_map(|task| line_of("length", &[task, 1]))
             .collect();
-        for lengths in [&b""[..], b"rule\tclash\n", &lengths, b"length\n"] {
+        for (lengths, code) in [
+            (&b""[..], 0),
+            (b"rule\tclash\n", 0),
+            (&lengths, 0),
+            (b"length\n", 3),
+        ] {
+            let asked = measured::read_lengths(&plan, lengths);
+            check("reading lengths", asked, code);
             let used = measured::write_timetable(&text, lengths, &[0; LONGEST_TIMETABLE]).used;
             say(&format!("stack of the text of a timetable: {used} bytes"));
             assert!(used <= MOST_FOR_A_TEXT, "{used}");
         }
+    }
+}
+
+/// The texts of a morning of 64 tasks, whose log is the longest of the examples.
+#[test]
+fn a_whole_log_takes_no_more_than_96_kib() {
+    let [plan, ends] =
+        ["plan.txt", "ends.txt"].map(|name| contents(&at_root("examples/full-morning").join(name)));
+    for ends in [&ends[..], b"", &[b"rule\tclash\n", &ends[..]].concat()] {
+        let used = measured::run_log(&plan, ends, &[0; LONGEST_LOG]).used;
+        say(&format!("stack of a whole log: {used} bytes"));
+        assert!(used <= MOST_FOR_A_LOG, "{used}");
     }
 }
 

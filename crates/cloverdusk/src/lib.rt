@@ -7,9 +7,9 @@ ghost use lib.Seq.{sets};
 ghost use Rattle.plan.specs.Read.{readingOf, mendedOf};
 ghost use Rattle.plan.specs.Convert.{convertedOf};
 ghost use Rattle.plan.specs.Write.{writtenOf, bufferAfter};
-ghost use Rattle.plan.specs.Value.{isAccepted};
+ghost use Rattle.plan.specs.Value.{judgedAnswer, isAccepted};
 ghost use Rattle.book.specs.Sound.{isSound};
-ghost use Rattle.book.specs.Open.{openingOf};
+ghost use Rattle.book.specs.Open.{ruleNumber, openingOf};
 ghost use Rattle.book.specs.declared.Rule.the-variants.{EarlyStart, Clash};
 ghost use Rattle.book.specs.Report.{reportedOf};
 ghost use Rattle.book.specs.Drop.{droppedOf};
@@ -20,6 +20,7 @@ ghost use Rattle.sheets.specs.Sheets.{sheetIn, madeOf, reportedWith, droppedWit
 ghost use Rattle.converter.specs.Renewed.{textMost, renewedIn};
 ghost use Rattle.log.specs.Log.{logMost, logIn};
 ghost use Rattle.engine.specs.Timetable.{timetableOf};
+ghost use Rattle.lengths.specs.Whole.{askedOf};
 ghost use Rattle.timetable_lines.specs.Rows.{tableMost};
 ghost use Rattle.timetable_text.specs.Table.{tableIn};
 ghost use Rattle.log_rules.specs.Tests.{judgedOf};
@@ -36,7 +37,9 @@ use drive_sheet::Standing;
 use engine::Lengths;
 use engine::Timetable;
 use exact_figure::Exact;
+use lengths::Asked;
 use log_rules::Judged;
+use plan::Answer;
 use plan::Plan;
 use plan::Reading;
 use plan::Written;
@@ -81,6 +84,23 @@ fn number(yes: bool) -> u32
         return 1;
     }
     0
+}
+
+#[no_mangle]
+pub extern "C" fn dispatch_judge_plan(plan: Plan) -> Answer
+    ensures { λ r. ⌜ r ≡ judgedAnswer plan ⌝ }
+{
+    judge::value::judge_plan(
+        plan.edition,
+        plan.boards,
+        plan.tasks,
+        &plan.board,
+        &plan.ready,
+        &plan.begin,
+        &plan.finish,
+        &plan.holds,
+        &plan.after,
+    )
 }
 
 #[no_mangle]
@@ -149,6 +169,43 @@ pub extern "C" fn dispatch_timetable(plan: Plan, clash: bool, given: Lengths) ->
     ensures { λ r. ⌜ r ≡ timetableOf plan (cond clash Clash EarlyStart) given ⌝ }
 {
     engine::work_out(plan, rule_for(clash), given)
+}
+
+// What a text of lengths asks of the engine; the rule is the byte that a book by that rule has.
+#[repr(C)]
+pub struct Asking {
+    pub answer: Answer,
+    pub rule: u8,
+    pub given: Lengths,
+}
+
+fn number_of(rule: Rule) -> u8
+    ensures { λ r. ⌜ r ≡ ruleNumber rule ⌝ }
+{
+    match rule {
+        Rule::EarlyStart => 0,
+        Rule::Clash => 1,
+    }
+}
+
+fn handed_over(asked: Asked) -> Asking
+    ensures { λ r. ⌜ r ≡ record { answer = asked .answer; rule = ruleNumber (asked .rule); given = asked .given } ⌝ }
+{
+    let answer = asked.answer;
+    let rule = asked.rule;
+    let given = asked.given;
+    Asking {
+        answer,
+        rule: number_of(rule),
+        given,
+    }
+}
+
+#[no_mangle]
+pub extern "C" fn dispatch_read_lengths(plan: Plan, text: &[u8]) -> Asking
+    ensures { λ r. ⌜ r ≡ record { answer = askedOf (plan .tasks) (plan .begin) (plan .finish) (now (text .entry)) .answer; rule = ruleNumber (askedOf (plan .tasks) (plan .begin) (plan .finish) (now (text .entry)) .rule); given = askedOf (plan .tasks) (plan .begin) (plan .finish) (now (text .entry)) .given } ⌝ }
+{
+    handed_over(lengths::read_lengths(plan.tasks, &plan.begin, &plan.finish, text))
 }
 
 #[no_mangle]

@@ -3,11 +3,13 @@
 
 use super::Function;
 use crate::exports::MEASURE_OP;
+use crate::kit::Kit;
 use crate::values::*;
 use std::cell::RefCell;
 use std::io::{BufReader, Error, Read, Write};
 use std::mem::MaybeUninit;
-use std::process::{Child, ChildStdout, Command, Stdio};
+use std::path::Path;
+use std::process::{Child, ChildStdout, Stdio};
 use std::slice;
 
 #[cfg(not(all(target_endian = "little", target_pointer_width = "64")))]
@@ -143,16 +145,9 @@ thread_local! {
     static PEER: RefCell<Peer> = RefCell::new(Peer::start());
 }
 
-/// What starts the x86-64 program that it is handed.
-fn loader() -> Command {
-    let loader = env!("PEER_LOADER");
-    let Some(emulator) = option_env!("PEER_EMULATOR") else {
-        return Command::new(loader);
-    };
-    let mut emulated = Command::new(emulator);
-    // Fast string copies are slow when emulated, byte by byte: the C library takes others.
-    emulated.args(["-cpu", "max,-erms", loader]);
-    emulated
+/// The toolchain with which the peer was built.
+pub fn kit() -> Kit {
+    Kit::of(env!("KIT").into())
 }
 
 /// Its requests go to the child's standard input.
@@ -163,8 +158,8 @@ struct Peer {
 
 impl Peer {
     fn start() -> Peer {
-        let mut child = loader()
-            .args(["--library-path", env!("PEER_LIBRARIES"), env!("PEER")])
+        let mut child = kit()
+            .runner(Path::new(env!("PEER")))
             .env_clear()
             .stdin(Stdio::piped())
             .stdout(Stdio::piped())
