@@ -31,7 +31,7 @@ pub struct Line {
 }
 
 pub fn took(failed: bool, at: usize, filled: usize) -> Taken
-    ensures { λ r. ⌜ (r .at ≡ at) × (r .filled ≡ filled) ⌝ }
+    ensures { λ r. ⌜ (r .at ≡ at) × (r .filled ≡ filled) × (r .failed ≡ failed) ⌝ }
 {
     Taken { failed, at, filled }
 }
