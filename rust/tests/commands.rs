@@ -3,13 +3,12 @@
 use dispatcher::run_log;
 use dispatcher::sample::plan_a::PLAN_A;
 use dispatcher::sample::program::{
-    at_root, empty_folder, entries_below, expect_said, without_rights,
+    at_root, comes_true, empty_folder, entries_below, expect_said, is_gone, without_rights,
 };
 use std::os::unix::fs::{symlink, PermissionsExt};
 use std::path::{Path, PathBuf};
 use std::process::{Command, Output};
-use std::time::{Duration, Instant};
-use std::{env, fs, thread};
+use std::{env, fs};
 
 const COMMANDS: [&str; 12] = [
     "runlog",
@@ -401,15 +400,12 @@ fn a_program_that_ends_without_a_word_is_a_failure() {
     expect_failed(&output, "the program ended with status 137");
 }
 
-/// Runs the project's command on a terminal, and presses Ctrl-C once the pattern is shown there; never where it is empty.
-fn on_terminal(root: &Path, pattern: &str) -> (String, Option<i32>) {
+/// Runs the project's command on a terminal, and presses the keys once the pattern is shown there.
+fn on_terminal(root: &Path, pattern: &str, keys: &str) -> (String, Option<i32>) {
     let mut command = Command::new("python3");
-    command.arg(at_root("rust/tests/on_terminal.py"));
-    if !pattern.is_empty() {
-        command.args([pattern, "\x03"]);
-    }
     command
-        .arg("--")
+        .arg(at_root("rust/tests/on_terminal.py"))
+        .args([pattern, keys, "--"])
         .arg(root.join("runlog"))
         .env("TERM", "xterm");
     let output = call_in(root, command);
@@ -417,20 +413,17 @@ fn on_terminal(root: &Path, pattern: &str) -> (String, Option<i32>) {
     (text(&output.stdout).to_owned(), output.status.code())
 }
 
+/// The second crate is proved once the line was seen to count.
 #[test]
 fn on_a_terminal_the_line_tells_the_seconds_and_is_gone_in_the_end() {
-    let slow = format!("[ \"$2\" != high ] || sleep 1.5; {BUILDS}");
+    let slow = format!("[ \"$2\" != high ] || until [ -e seen ]; do sleep 0.1; done; {BUILDS}");
     let root = project("runlog", "terminal", &slow);
-    let (shown, status) = on_terminal(&root, "");
+    let seen = format!("touch:{}", root.join("seen").display());
+    let (shown, status) = on_terminal(&root, "proving 2 of 3: high, [1-9]", &seen);
     assert_eq!(status, Some(0));
     let is_shown = |part: &str| shown.contains(&format!("\r\x1b[Krunlog: proving {part}"));
     assert!(is_shown("1 of 3: low, 0 s"), "{shown:?}");
     assert!(is_shown("2 of 3: high, 0 s"), "{shown:?}");
-    // A second later the clock's second may have passed twice.
-    assert!(
-        is_shown("2 of 3: high, 1 s") || is_shown("2 of 3: high, 2 s"),
-        "{shown:?}"
-    );
     let (before, after) = shown.rsplit_once("\r\x1b[K").unwrap();
     assert_eq!(before.matches("\r\n").count(), 2, "{shown:?}");
     assert!(
@@ -442,24 +435,20 @@ fn on_a_terminal_the_line_tells_the_seconds_and_is_gone_in_the_end() {
 
 /// An `rt` as the real one: it keeps what it has proved, and proves beside itself, where Ctrl-C is not heard.
 const KEEPS: &str = "if [ -e proved-$2 ]; then echo \"rt: $2 proved (unchanged since it was last proved)\"; exit; fi
-[ \"$2\" != high ] || [ -e again ] || { touch again; sh -c 'echo $$ >prover; sleep 30; touch late' & wait; }
+[ \"$2\" != high ] || [ -e again ] || { touch again; sh -c 'echo $$ >prover; sleep 600; touch late' & wait; }
 touch proved-$2; mkdir -p target/bin; touch target/bin/$2; chmod +x target/bin/$2";
 
 #[test]
 fn ctrl_c_leaves_nothing_running_and_the_next_call_goes_on() {
     let root = project("runlog", "ctrl-c", KEEPS);
-    let began = Instant::now();
-    let (shown, status) = on_terminal(&root, "proving 2 of 3: high, [1-9]");
+    let (shown, status) = on_terminal(&root, "proving 2 of 3: high, [1-9]", "\x03");
     assert_eq!(status, Some(130), "{shown:?}");
     assert!(
         shown.ends_with("runlog: broken off; the next call goes on where this one stopped\r\n"),
         "{shown:?}"
     );
-    assert!(began.elapsed() < Duration::from_secs(20));
-    let prover = fs::read_to_string(root.join("prover")).unwrap();
-    let process = Path::new("/proc").join(prover.trim_end());
-    let is_gone = || !process.exists() || (thread::sleep(Duration::from_millis(100)), false).1;
-    assert!((0..50).any(|_| is_gone()), "the prover runs on");
+    let prover = root.join("prover");
+    assert!(comes_true(|| is_gone(&prover)), "the prover runs on");
 
     let output = call_in(&root, Command::new(root.join("runlog")));
     assert_eq!(text(&output.stdout), "runlog ran\n");

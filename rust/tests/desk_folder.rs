@@ -4,14 +4,12 @@ use dispatcher::run_log;
 use dispatcher::sample::live::{answers_in, desk_command, desk_program, folder_with, Left, Live};
 use dispatcher::sample::plan_a::{ENDS_A, PLAN_A};
 use dispatcher::sample::program::{
-    at_root, empty_folder, expect_said, make_unreadable, without_rights,
+    at_root, comes_true, empty_folder, expect_said, make_unreadable, without_rights,
 };
 use std::fs;
 use std::os::unix::fs::PermissionsExt;
 use std::path::{Path, PathBuf};
 use std::process::Command;
-use std::thread;
-use std::time::{Duration, Instant};
 
 const OPENING_A: &str = "run\t1\t2\t5\nstart\t1\t1\t0\t0\nstart\t2\t2\t0\t0\nearly\t0\t0\n";
 const CUT_OFF: &str =
@@ -329,18 +327,6 @@ fn processes_in(folder: &Path) -> Vec<PathBuf> {
     processes.filter(runs_there).collect()
 }
 
-/// Whether nobody runs there, within some seconds.
-fn is_deserted(folder: &Path) -> bool {
-    let until = Instant::now() + Duration::from_secs(10);
-    while Instant::now() < until {
-        if processes_in(folder).is_empty() {
-            return true;
-        }
-        thread::sleep(Duration::from_millis(2));
-    }
-    false
-}
-
 /// Who kills the command, by whatever signal, kills the desk, and leaves no lock.
 #[test]
 fn no_process_outlives_the_command() {
@@ -361,7 +347,8 @@ fn no_process_outlives_the_command() {
             "{}",
             again.said
         );
-        assert!(is_deserted(&folder), "{signal}");
+        let is_deserted = || processes_in(&folder).is_empty();
+        assert!(comes_true(is_deserted), "{signal}");
     }
 }
 

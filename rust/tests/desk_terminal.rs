@@ -97,6 +97,36 @@ fn ctrl_c_gives_up_a_line() {
     assert_eq!(output.status.code(), Some(0));
 }
 
+/// Whatever the moment: the keys are pressed as soon as the prompt shows, when the desk does not wait for keys yet.
+#[test]
+fn ctrl_c_is_seen_the_moment_the_prompt_shows() {
+    let folder = folder_of("desk-ctrl-c-often", PLAN_A);
+    let mut keys = vec!["\x03"; 100];
+    keys.extend(["early\r", "\x04"]);
+    let output = at_terminal(&folder, &keys);
+    let given_up = "desk> \n".repeat(100);
+    let dialogue = format!("{OPENING_A}{given_up}desk> early\nearly\t0\t0\ndesk> \n");
+    assert_eq!(shown(&output), dialogue);
+    assert_eq!(output.status.code(), Some(0));
+}
+
+/// The one moment that keys cannot be pressed at: the prompt is written, and nobody waits for keys yet.
+#[test]
+fn ctrl_c_between_prompt_and_keys_is_seen() {
+    let folder = folder_of("desk-ctrl-c-between", PLAN_A);
+    let mut command = Command::new("python3");
+    let command = command
+        .arg(at_root("rust/tests/interrupted.py"))
+        .arg("20")
+        .arg(at_root("desk"))
+        .arg(folder);
+    let output = command.env("TERM", "dumb").output().unwrap();
+    let given_up = "desk> \n".repeat(20);
+    let dialogue = format!("{OPENING_A}{given_up}desk> early\nearly\t0\t0\ndesk> \n");
+    assert_eq!(shown(&output), dialogue);
+    assert_eq!(output.status.code(), Some(0));
+}
+
 /// The log of a morning by the clash rule has one answer less than `ends.txt` has lines.
 #[test]
 fn the_prompt_follows_the_whole_log() {
@@ -134,13 +164,35 @@ fn a_desk_that_fails_shows_why_and_no_prompt() {
     let folder = folder_of("desk-terminal-stops", PLAN_A);
     fs::write(folder.join("ends.txt"), "foo\n").unwrap();
     let output = at_terminal(&folder, &[]);
-    let shown = shown(&output);
     let said = "desk: ends.txt: runlog stops in it; nothing was changed\n";
-    assert!(
-        shown.contains(&format!("{OPENING_A}refused\t3\t1\t1\n")),
-        "{shown}"
-    );
-    assert!(shown.contains(said) && !shown.contains("desk> "), "{shown}");
+    let stopped = format!("{OPENING_A}refused\t3\t1\t1\n{said}");
+    assert_eq!(shown(&output), stopped);
+    assert_eq!(output.status.code(), Some(2));
+}
+
+/// What the program says is shown behind the log or the line that it belongs to, and never beside a prompt.
+#[test]
+fn what_is_said_stands_on_lines_of_its_own() {
+    let folder = folder_of("desk-terminal-torn", PLAN_A);
+    fs::write(folder.join("ends.txt"), "end\t9\t9\nend\t2").unwrap();
+    let output = at_terminal(&folder, &["early\r", "\x04"]);
+    let note = "desk: note: what followed the last LF of ends.txt was never answered, and is cut off\n";
+    let log = format!("{OPENING_A}refused\t10\t9\t9\n{note}");
+    let dialogue = format!("{log}desk> early\nearly\t0\t0\ndesk> \n");
+    assert_eq!(shown(&output), dialogue);
+    assert_eq!(output.status.code(), Some(0));
+}
+
+/// A line that cannot be kept is not answered; why is said, and the desk ends.
+#[test]
+fn a_line_that_cannot_be_kept_ends_the_desk_at_a_terminal() {
+    let folder = folder_of("desk-terminal-unkept", PLAN_A);
+    let link = folder.join("ends.txt");
+    std::os::unix::fs::symlink("nowhere/ends.txt", &link).unwrap();
+    let output = at_terminal(&folder, &["early\r", "end 2 3\r"]);
+    let said = "desk: ends.txt: File exists\n";
+    let dialogue = format!("{OPENING_A}desk> early\nearly\t0\t0\ndesk> end 2 3\n{said}");
+    assert_eq!(shown(&output), dialogue);
     assert_eq!(output.status.code(), Some(2));
 }
 

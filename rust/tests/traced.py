@@ -1,6 +1,6 @@
 """traced.py COMMAND..: runs the command, and prints on standard error each of its system calls that writes, flushes or cuts a file.
 
-A line for each: the call's name, the descriptor, and for a write how many bytes it was to take.
+A line for each: the call's name, the descriptor, and for a write how many bytes it was to take. Other tests import `follow`.
 """
 import ctypes
 import os
@@ -40,20 +40,8 @@ def ptrace(request, child, address, data):
         raise OSError(ctypes.get_errno(), "ptrace")
 
 
-def tell(child):
-    info = Info()
-    ptrace(GET_SYSCALL_INFO, child, ctypes.sizeof(info), ctypes.addressof(info))
-    name = CALLS.get(info.number) if info.op == ENTRY else None
-    if name:
-        bytes_asked = f" {info.arguments[2]}" if name == "write" else ""
-        sys.stderr.write(f"{name} {info.arguments[0]}{bytes_asked}\n")
-
-
-def main():
-    child = os.fork()
-    if child == 0:
-        ptrace(TRACEME, 0, None, None)
-        os.execvp(sys.argv[1], sys.argv[1:])
+def follow(child, look):
+    """Runs a child that has asked to be traced, and hands `look` each of its calls that is entered or left; its exit status."""
     os.waitpid(child, 0)
     ptrace(SETOPTIONS, child, None, TRACESYSGOOD | EXITKILL)
     handed_on = 0
@@ -61,12 +49,31 @@ def main():
         ptrace(SYSCALL, child, None, handed_on)
         _, status = os.waitpid(child, 0)
         if not os.WIFSTOPPED(status):
-            sys.exit(os.waitstatus_to_exitcode(status))
+            return os.waitstatus_to_exitcode(status)
         stopped_by = os.WSTOPSIG(status)
         is_call = stopped_by == signal.SIGTRAP | 0x80
         handed_on = 0 if is_call or stopped_by == signal.SIGTRAP else stopped_by
         if is_call:
-            tell(child)
+            info = Info()
+            ptrace(GET_SYSCALL_INFO, child, ctypes.sizeof(info), ctypes.addressof(info))
+            look(info)
 
 
-main()
+def become(command):
+    """Of a child: asks to be traced, and becomes the command."""
+    ptrace(TRACEME, 0, None, None)
+    os.execvp(command[0], command)
+
+
+def tell(info):
+    name = CALLS.get(info.number) if info.op == ENTRY else None
+    if name:
+        bytes_asked = f" {info.arguments[2]}" if name == "write" else ""
+        sys.stderr.write(f"{name} {info.arguments[0]}{bytes_asked}\n")
+
+
+if __name__ == "__main__":
+    traced = os.fork()
+    if traced == 0:
+        become(sys.argv[1:])
+    sys.exit(follow(traced, tell))

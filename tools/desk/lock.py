@@ -3,8 +3,8 @@ import fcntl
 import os
 import time
 
-# A desk that was killed a moment ago may still be going.
-PATIENCE = 0.5
+# Seconds. A desk that was killed a moment ago may still be going, on a busy machine for longer than on a quiet one.
+PATIENCE = 3
 
 
 def take_lock():

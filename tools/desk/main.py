@@ -8,6 +8,7 @@ import sys
 
 from lock import take_lock
 from program import Program
+from prompt import Prompt
 from terminal import converse
 
 
@@ -25,8 +26,9 @@ def main():
     if lock is None:
         die(f"another desk is open on '{folder}'")
     if sys.stdin.isatty() and sys.stdout.isatty():
+        prompt = Prompt()
         program = Program(lock, is_asked_here=True)
-        converse(program)
+        converse(program, prompt)
     else:
         signal.signal(signal.SIGINT, signal.SIG_DFL)
         program = Program(lock, is_asked_here=False)

@@ -1,10 +1,9 @@
-"""The desk's program, the only child: who kills this process kills it."""
+"""The desk's program, the only child: if this process is killed, so is the program."""
 import ctypes
 import os
 import signal
 import subprocess
 import sys
-import threading
 
 ROOT = os.path.dirname(os.path.dirname(os.path.dirname(os.path.realpath(__file__))))
 PR_SET_PDEATHSIG = 1
@@ -29,12 +28,17 @@ def tied_to(parent, is_asked_here):
 
 
 class Program:
-    """Runs in the working directory, with the lock's descriptor. Its standard input and output are this process's own, or asked and answered here."""
+    """Runs in the working directory, with the lock's descriptor.
+
+    Its standard input and output are this process's own, or pipes to this process. Its standard error is always a pipe
+    to this process, and only `tell` and `ended` write what comes out of it: no sentence lands inside an answer.
+    """
 
     def __init__(self, lock, is_asked_here):
         pipe = subprocess.PIPE if is_asked_here else None
         self.has_failed = False
         self.is_reader_gone = False
+        self.unfinished = b""
         # This process ignores the signals of a pipe without reader and of a file grown too long, and so does the
         # child: it then says what could not be written.
         self.process = subprocess.Popen(
@@ -46,19 +50,33 @@ class Program:
             restore_signals=False,
             preexec_fn=tied_to(os.getpid(), is_asked_here),
         )
-        self.teller = threading.Thread(target=self.tell, daemon=True)
-        self.teller.start()
+        self.errors = self.process.stderr.fileno()
+
+    def say(self, sentence):
+        said = sentence.decode(errors="replace")
+        if said == READER_GONE:
+            self.is_reader_gone = True
+            return
+        self.has_failed |= not said.startswith(NOTE)
+        sys.stderr.write(f"desk: {said}\n")
+        sys.stderr.flush()
+
+    def hear(self):
+        """Passes on the sentences of the next piece of standard error; whether there was one."""
+        try:
+            piece = os.read(self.errors, 4096)
+        except BlockingIOError:
+            return False
+        *sentences, self.unfinished = (self.unfinished + piece).split(b"\n")
+        for sentence in sentences:
+            self.say(sentence)
+        return piece != b""
 
     def tell(self):
-        """Passes on what the program says, each sentence at once."""
-        for line in self.process.stderr:
-            said = line.decode(errors="replace").rstrip("\n")
-            if said == READER_GONE:
-                self.is_reader_gone = True
-                continue
-            self.has_failed |= not said.startswith(NOTE)
-            sys.stderr.write(f"desk: {said}\n")
-            sys.stderr.flush()
+        """Passes on what the program has said by now. What it says of an answer it says before the answer's last line."""
+        os.set_blocking(self.errors, False)
+        while self.hear():
+            pass
 
     def ask(self, line):
         """Whether the program could still be handed the line."""
@@ -70,13 +88,17 @@ class Program:
         return True
 
     def ended(self):
-        """Waits for the end; what is to be said of it, or None."""
+        """Waits for the end, and passes on what is still said; what is to be said of the end itself, or None."""
         if self.process.stdin:
             try:
                 self.process.stdin.close()
             except BrokenPipeError:
                 pass
-        self.teller.join()
+        os.set_blocking(self.errors, True)
+        while self.hear():
+            pass
+        if self.unfinished:
+            self.say(self.unfinished)
         status = self.process.wait()
         if status == 0 or self.has_failed or self.is_reader_gone or status == -signal.SIGPIPE:
             return None

@@ -1,10 +1,11 @@
-"""The desk at a terminal: a prompt, lines that can be edited, and each answer shown as it comes."""
+"""The desk at a terminal: a prompt, lines that can be edited, and each answer shown as it comes.
+
+One writer: what the program says on standard error is shown behind the answer or log that it belongs to.
+"""
 import os
 import re
-import signal
 import sys
 
-PROMPT = "desk> "
 LAST_WORDS = (b"early", b"exact", b"now", b"drive", b"why", b"refused")
 # The numbers of a refused line that stop a log.
 STOPPING = (b"3", b"4")
@@ -20,17 +21,6 @@ why TASK        the chain of its start: task, board, start, end
 help            this list
 Ctrl-C gives up a line that is being typed, Ctrl-D ends the desk. What was kept is in ends.txt.
 """
-
-
-def edit_lines():
-    """Lines can be edited and called back, where Python has the means."""
-    try:
-        import readline
-    except ImportError:
-        return
-    # Of several lines pasted in at once each is a line of its own.
-    readline.parse_and_bind("set enable-bracketed-paste off")
-    readline.parse_and_bind('"\\t": self-insert')
 
 
 def answers_in_log():
@@ -63,30 +53,20 @@ def show_log(program):
     return True
 
 
-def typed_line():
-    """The next line with tabs for blanks; None at the end of input, nothing where the line was given up."""
-    try:
-        signal.signal(signal.SIGINT, signal.default_int_handler)
-        typed = input(PROMPT)
-    except EOFError:
-        print()
-        return None
-    except KeyboardInterrupt:
-        print()
-        return ""
-    finally:
-        # While an answer is awaited nothing is to be given up.
-        signal.signal(signal.SIGINT, signal.SIG_IGN)
+def with_tabs(typed):
+    """The line with tabs for blanks."""
     return re.sub("[ \t]+", "\t", typed.strip(" \t"))
 
 
-def converse(program):
-    signal.signal(signal.SIGINT, signal.SIG_IGN)
-    edit_lines()
+def converse(program, prompt):
     if not show_log(program):
         return
-    while (line := typed_line()) is not None:
+    program.tell()
+    while (typed := prompt.line()) is not None:
+        line = with_tabs(typed)
         if line == "help":
             print(HELP, end="", flush=True)
-        elif line and not (program.ask(os.fsencode(line)) and show_answer(program)):
-            return
+        elif line:
+            if not (program.ask(os.fsencode(line)) and show_answer(program)):
+                return
+            program.tell()

@@ -165,19 +165,18 @@ fn last_line(served: Served) {
     }
 }
 
-// What follows the last LF of ends.txt is cut off first.
-fn go_on(morning: Morning, length: usize)
+// What follows the last LF of ends.txt is cut off, where the desk goes on; whether that could be done.
+fn cut_tail(way: Way, kept: usize, length: usize) -> bool
     requires { ⌜ length ≤ 32769 ⌝ }
 {
-    if morning.kept < length {
-        if !cut(morning.kept) {
-            return;
-        }
+    match way {
+        Way::Refused => true,
+        Way::Stops => true,
+        Way::Goes => kept >= length || cut(kept),
     }
-    last_line(listen(morning))
 }
 
-// Nothing is printed before both files are read.
+// Nothing is printed before both files are read and ends.txt has its whole lines alone.
 fn main() {
     let mut plan = [0u8; READ_MOST];
     let plan_read = read_text(b"plan.txt", &mut plan);
@@ -194,14 +193,17 @@ fn main() {
     let mut out = [0u8; LOG_MOST];
     let begun = put_start(&plan[..plan_length], &ends[..ends_length], &mut out);
     let length = begun.length;
+    let morning = begun.morning;
+    let way = begun.way;
+    if !cut_tail(way, morning.kept, ends_length) {
+        return;
+    }
     if !print(&out[..length]) {
         return;
     }
-    let morning = begun.morning;
-    let way = begun.way;
     match way {
         Way::Refused => {}
         Way::Stops => say(b"ends.txt: runlog stops in it; nothing was changed\n"),
-        Way::Goes => go_on(morning, ends_length),
+        Way::Goes => last_line(listen(morning)),
     }
 }

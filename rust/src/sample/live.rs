@@ -1,6 +1,6 @@
 //! The desk driven through pipes: lines in, each answer as it comes.
 
-use super::program::{at_root, program_in};
+use super::program::{at_root, program_in, LONGEST_WAIT};
 use crate::desk::LAST_WORDS;
 use crate::fields::first_field;
 use std::fs;
@@ -9,10 +9,6 @@ use std::path::{Path, PathBuf};
 use std::process::{Child, ChildStdin, Command, ExitStatus, Stdio};
 use std::sync::mpsc::{channel, Receiver};
 use std::thread;
-use std::time::Duration;
-
-/// An answer that has not come by then never comes.
-const LONGEST_WAIT: Duration = Duration::from_secs(60);
 
 pub struct Live {
     pub child: Child,

@@ -6,6 +6,11 @@ use std::os::unix::fs::MetadataExt;
 use std::path::{Path, PathBuf};
 use std::process::Command;
 use std::sync::Mutex;
+use std::thread;
+use std::time::{Duration, Instant};
+
+/// What has not happened by then never happens. The one limit of all tests that wait for something.
+pub const LONGEST_WAIT: Duration = Duration::from_secs(60);
 
 /// A path below the repository's root.
 pub fn at_root(path: &str) -> PathBuf {
@@ -103,6 +108,24 @@ pub fn without_rights(command: &Path, words: &[&str]) -> Command {
         .arg(command)
         .args(words);
     limited
+}
+
+/// Whether it comes true before the longest wait is over.
+pub fn comes_true(mut is_true: impl FnMut() -> bool) -> bool {
+    let until = Instant::now() + LONGEST_WAIT;
+    while !is_true() {
+        if until < Instant::now() {
+            return false;
+        }
+        thread::sleep(Duration::from_millis(2));
+    }
+    true
+}
+
+/// Whether the process whose number is in that file has gone.
+pub fn is_gone(file: &Path) -> bool {
+    let process = fs::read_to_string(file).unwrap();
+    !Path::new("/proc").join(process.trim_end()).exists()
 }
 
 /// Puts a folder in the file's place: it is there, and cannot be read.
