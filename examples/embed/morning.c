@@ -16,35 +16,35 @@ static FILE *opened(const char *name) {
 }
 
 // A text that is too long is read one byte too far, so that the library sees it and refuses it.
-static DispatchReading read_plan(const char *name) {
-    static uint8_t text[DISPATCH_LONGEST_TEXT + 1];
+static CloverReading read_plan(const char *name) {
+    static uint8_t text[CLOVER_LONGEST_TEXT + 1];
     FILE *file = opened(name);
     size_t length = fread(text, 1, sizeof text, file);
     fclose(file);
-    return dispatch_read_plan(text, length);
+    return clover_read_plan(text, length);
 }
 
-static bool is_accepted(DispatchAnswer answer) {
-    if (answer.code == DISPATCH_ACCEPTED) return true;
+static bool is_accepted(CloverAnswer answer) {
+    if (answer.code == CLOVER_ACCEPTED) return true;
     printf("refused\t%u\t%u\t%u\n", answer.code, answer.first, answer.second);
     return false;
 }
 
 // Who starts: each task whose start became known by the step from the one book to the other.
-static void print_starts(const DispatchBook *before, const DispatchBook *book) {
+static void print_starts(const CloverBook *before, const CloverBook *book) {
     for (unsigned i = 0; i < book->tasks; i++) {
-        if (before->mark[i] != DISPATCH_WAITING || book->mark[i] == DISPATCH_WAITING) continue;
-        const char *word = book->dropped[i] == DISPATCH_DROPPED ? "skip" : "start";
+        if (before->mark[i] != CLOVER_WAITING || book->mark[i] == CLOVER_WAITING) continue;
+        const char *word = book->dropped[i] == CLOVER_DROPPED ? "skip" : "start";
         printf("%s\t%u\t%u\t%u\t%u\n", word, i + 1, book->board[i], book->start[i], book->begin[i] - book->start[i]);
     }
 }
 
 // Who is on the drive, and who is next.
-static void print_drive(const DispatchBook *book, const DispatchSheet *sheet, uint32_t drive) {
-    DispatchOnDrive on = dispatch_on_drive(*book, *sheet, drive);
+static void print_drive(const CloverBook *book, const CloverSheet *sheet, uint32_t drive) {
+    CloverOnDrive on = clover_on_drive(*book, *sheet, drive);
     if (!is_accepted(on.answer)) return;
     printf("drive\t%u\t%s", drive, on.running[0] == 0 ? "-" : "");
-    for (unsigned i = 0; i < DISPATCH_RUNNING_PLACES && on.running[i] != 0; i++)
+    for (unsigned i = 0; i < CLOVER_RUNNING_PLACES && on.running[i] != 0; i++)
         printf("%s%u", i == 0 ? "" : ",", on.running[i]);
     if (on.next == 0)
         printf("\t-\n");
@@ -53,13 +53,13 @@ static void print_drive(const DispatchBook *book, const DispatchSheet *sheet, ui
 }
 
 // Why the task started: itself, then whose end let it start, and so on.
-static void print_why(const DispatchBook *book, uint32_t task) {
-    DispatchChain chain = dispatch_why(*book, task);
+static void print_why(const CloverBook *book, uint32_t task) {
+    CloverChain chain = clover_why(*book, task);
     if (!is_accepted(chain.answer)) return;
     for (uint32_t link = 0; link < chain.count; link++) {
         unsigned i = chain.links[link] - 1u;
         printf("link\t%u\t%u\t%u\t", i + 1, book->board[i], book->start[i]);
-        if (book->mark[i] == DISPATCH_ENDED)
+        if (book->mark[i] == CLOVER_ENDED)
             printf("%u\n", book->end[i]);
         else
             printf("-\n");
@@ -67,24 +67,24 @@ static void print_why(const DispatchBook *book, uint32_t task) {
     printf("why\t%u\t%u\n", task, chain.count);
 }
 
-static void print_state(const DispatchBook *before, const DispatchBook *book, const DispatchSheet *sheet, uint32_t drive) {
+static void print_state(const CloverBook *before, const CloverBook *book, const CloverSheet *sheet, uint32_t drive) {
     print_starts(before, book);
-    printf("early\t%u\t%u\n", book->clock, dispatch_minimum_early(*book).early);
+    printf("early\t%u\t%u\n", book->clock, clover_minimum_early(*book).early);
     print_drive(book, sheet, drive);
 }
 
 // Takes a line of the ends, and prints what it changes.
-static void take_line(const char *line, DispatchBook *book, DispatchSheet *sheet, uint32_t drive) {
+static void take_line(const char *line, CloverBook *book, CloverSheet *sheet, uint32_t drive) {
     uint32_t task, tick;
     bool is_end = sscanf(line, "end\t%u\t%u", &task, &tick) == 2;
     if (!is_end && sscanf(line, "drop\t%u", &task) != 1) {
         fprintf(stderr, "neither an end nor a drop: %s", line);
         exit(2);
     }
-    DispatchKept kept = is_end ? dispatch_report_sheet(*book, *sheet, task, tick) : dispatch_drop_sheet(*book, *sheet, task);
-    if (!is_accepted(kept.handed.answer)) return;
-    DispatchBook before = *book;
-    *book = kept.handed.book, *sheet = kept.sheet;
+    CloverBookAndSheet kept = is_end ? clover_report_sheet(*book, *sheet, task, tick) : clover_drop_sheet(*book, *sheet, task);
+    if (!is_accepted(kept.result.answer)) return;
+    CloverBook before = *book;
+    *book = kept.result.book, *sheet = kept.sheet;
     unsigned board = book->board[task - 1];
     if (is_end)
         printf("end\t%u\t%u\t%u\t%u\n", task, board, tick, book->finish[task - 1] - tick);
@@ -99,14 +99,14 @@ int main(int count, char **words) {
         return 2;
     }
     uint32_t drive = (uint32_t)strtoul(words[3], NULL, 10), task = (uint32_t)strtoul(words[4], NULL, 10);
-    DispatchReading reading = read_plan(words[1]);
+    CloverReading reading = read_plan(words[1]);
     if (!is_accepted(reading.answer)) return 0;
     FILE *ends = opened(words[2]);
     char line[66];
     bool has_line = fgets(line, sizeof line, ends) != NULL, clash = has_line && strcmp(line, "rule\tclash\n") == 0;
-    DispatchBook book = dispatch_open_book(reading.plan, clash).book;
-    DispatchSheet sheet = dispatch_make_sheet(book).sheet;
-    static const DispatchBook nothing_known;
+    CloverBook book = clover_open_book(reading.plan, clash).book;
+    CloverSheet sheet = clover_make_sheet(book).sheet;
+    static const CloverBook nothing_known;
     printf(clash ? "run\t2\t%u\t%u\tclash\n" : "run\t1\t%u\t%u\n", book.boards, book.tasks);
     print_state(&nothing_known, &book, &sheet, drive);
     if (clash) has_line = fgets(line, sizeof line, ends) != NULL;

@@ -16,9 +16,9 @@ use dispatcher::sample::plans::{exclusively_held, full_plan, single_file, with_e
 use dispatcher::sample::program::empty_folder;
 use dispatcher::sample::reports::{accepted_report, last_moment_report, Report};
 use dispatcher::sample::years::any_totals;
-use dispatcher::sample::{announced_seed, Rng};
-use dispatcher::text::plan_text;
-use dispatcher::values::LONGEST_TEXT;
+use dispatcher::sample::Rng;
+use dispatcher::second::text::plan_text;
+use dispatcher::second::values::LONGEST_TEXT;
 use dispatcher::{
     accepted, convert, convert_text, drop_task, exact_early, minimum_early, open_book,
 };
@@ -26,9 +26,7 @@ use dispatcher::{
     add_log, judge_log, judged_text, proved, read_exclusive, read_plan, report, report_text,
     run_log, timetable, timetable_text, why, write_plan,
 };
-use dispatcher::{
-    drop_sheet, fresh_sheet, make_sheet, on_drive, renew_sheet, report_sheet, standing,
-};
+use dispatcher::{drop_sheet, fresh_sheet, make_sheet, on_drive, report_sheet};
 use dispatcher::{Answer, Book, Lengths, Plan, Rule, Totals};
 use std::fs;
 use std::hint::black_box;
@@ -187,11 +185,10 @@ fn time_chain(rounds: u32, plan: &Plan, rule: Rule) {
     );
 }
 
-/// A report with its sheet against a report and a sheet made anew; and, not judging the book, a sheet afresh against the update.
+/// A report with its sheet against a report and a sheet made anew.
 fn time_sheets(rounds: u32, rng: &mut Rng, plan: &Plan, rule: Rule) {
     let (book, (task, tick)) = half_a_morning(rng, plan, rule);
-    let (sheet, before) = (fresh_sheet(&book), standing(&book));
-    let after = report(&book, task, tick).book;
+    let sheet = fresh_sheet(&book);
     let waiting = droppable_tasks(&book)[0];
     time_both(
         rounds,
@@ -222,25 +219,6 @@ fn time_sheets(rounds: u32, rng: &mut Rng, plan: &Plan, rule: Rule) {
         "ask for drive 7",
         || proved::on_drive(black_box(&book), black_box(&sheet), 7),
         || on_drive(black_box(&book), black_box(&sheet), 7),
-    );
-    time_both(
-        rounds,
-        "a sheet afresh, not judged",
-        || proved::fresh_sheet(black_box(&after)),
-        || fresh_sheet(black_box(&after)),
-    );
-    time_both(
-        rounds,
-        "the update, not judged",
-        || {
-            proved::renew_sheet(
-                black_box(&sheet),
-                before.runs,
-                before.waits,
-                black_box(&after),
-            )
-        },
-        || renew_sheet(black_box(&sheet), black_box(&before), black_box(&after)),
     );
 }
 
@@ -550,7 +528,7 @@ fn main() {
     let times_wanted = std::env::args().any(|arg| arg == "--bench");
     let timed = times_wanted && !proved::EMULATED;
     let rounds = if timed { ROUNDS } else { 0 };
-    let mut rng = Rng::new(announced_seed("speed"));
+    let mut rng = Rng::announced("speed");
     if timed {
         println!("nanoseconds a call              proved        Rust     ratio");
     } else if times_wanted {

@@ -8,7 +8,7 @@ pub fn ops(table: &Table) -> String {
     let functions: String = table
         .exports
         .iter()
-        .map(|export| format!("\n{}\n{}", declaration(export), op(export)))
+        .map(|export| format!("\n{}\n{}", in_brackets(export), op(export)))
         .collect();
     let rows = table.exports.iter().enumerate().map(|(number, export)| {
         format!(
@@ -24,6 +24,12 @@ pub fn ops(table: &Table) -> String {
         rows.collect::<String>(),
         count + 1
     )
+}
+
+/// The declaration with its name in brackets, so that it is the function and not the header's macro of that name.
+fn in_brackets(export: &Export) -> String {
+    let name = &export.name;
+    declaration(export).replacen(&format!("{name}("), &format!("({name})("), 1)
 }
 
 /// Takes the arguments from a request, and answers with the value and the lent buffer.

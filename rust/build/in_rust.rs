@@ -26,7 +26,7 @@ pub fn functions(table: &Table) -> String {
          /// The stack that a call takes. What it writes to a lent buffer does not come back.\n\
          pub mod measured {{\n    \
              use super::{{Function, Measured, Measuring}};\n    \
-             use crate::values::*;\n\
+             use crate::second::values::*;\n\
          {measured}}}\n{layouts}"
     )
 }
@@ -39,20 +39,24 @@ pub fn direct(table: &Table, answers_in_place: bool) -> String {
     format!("extern \"C\" {{\n{declarations}}}\n{bindings}")
 }
 
-/// A function for each export that asks the peer, and which values cross: any bytes are one of them.
+/// A function for each export that asks the peer, and which values cross.
 pub fn by_peer(table: &Table) -> String {
     for export in &table.exports {
         let name = &export.name;
         assert!(
             is_raw(&export.answer),
-            "{name} answers no number and no struct"
+            "{name} answers no number, truth value or struct"
         );
     }
     for known in &table.structs {
         let is_plain = known.fields.iter().all(|field| is_raw(&field.kind));
-        assert!(is_plain, "{} is not made of numbers alone", known.name);
+        assert!(
+            is_plain,
+            "{} is not made of numbers and truth values alone",
+            known.name
+        );
     }
-    let names = NUMBERS.iter().map(|(number, _)| *number);
+    let names = NUMBERS.iter().map(|(number, _)| *number).chain(["bool"]);
     let names = names.chain(table.structs.iter().map(|known| known.name.as_str()));
     let values: String = names
         .map(|name| format!("unsafe impl Raw for {name} {{}}\n"))
@@ -80,9 +84,9 @@ fn camel_case(name: &str) -> String {
 
 fn is_raw(kind: &Kind) -> bool {
     match kind {
-        Kind::Number(_) | Kind::Struct(_) => true,
+        Kind::Number(_) | Kind::Struct(_) | Kind::Truth => true,
         Kind::Array(of, _) => is_raw(of),
-        Kind::Truth | Kind::Slice | Kind::Lent => false,
+        Kind::Slice | Kind::Lent => false,
     }
 }
 
@@ -152,6 +156,7 @@ fn asked(export: &Export) -> String {
         .filter(|of| of.kind == Kind::Lent)
         .collect();
     let answered = match lent[..] {
+        [] if export.answer == Kind::Truth => ".truth()".to_string(),
         [] => ".answer()".to_string(),
         [buffer] => format!(".answer_and_lent({})", buffer.name),
         _ => panic!("{}: an answer carries one lent buffer", export.name),
@@ -207,7 +212,7 @@ fn layout(table: &Table, known: &Struct) -> String {
     });
     format!(
         "\nconst _: () = {{\n    \
-             use crate::values::*;\n    \
+             use crate::second::values::*;\n    \
              const fn _fields(value: &{name}) {{\n        \
                  let {name} {{ {names}}} = value;\n{types}    }}\n    \
              assert!(size_of::<{name}>() == {size} && align_of::<{name}>() == {alignment});\n{places}}};\n"

@@ -5,15 +5,15 @@
 //! toolchain's emulator runs where the processor is another.
 
 #[allow(dead_code)]
-#[path = "../src/exports.rs"]
+#[path = "../src/library/exports.rs"]
 mod exports;
 #[allow(dead_code)]
-#[path = "../src/header.rs"]
+#[path = "../src/library/header.rs"]
 mod header;
 mod in_c;
 mod in_rust;
 #[allow(dead_code)]
-#[path = "../src/kit.rs"]
+#[path = "../src/library/kit.rs"]
 mod kit;
 
 use exports::Table;

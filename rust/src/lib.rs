@@ -1,45 +1,28 @@
-//! A dispatcher for planned tasks on boards: it reads, judges and writes plans,
-//! keeps a book of the morning, and says how early everything left will be.
+//! Two dispatchers for planned tasks on boards, and inputs to try both.
+//!
+//! A function named here is the second dispatcher's; the proved one of the same name is in `proved`.
 
-pub mod book;
-pub mod convert;
-pub mod desk;
-pub mod exact;
-pub mod exports;
-pub mod fields;
-pub mod header;
-pub mod judge;
-pub mod kit;
-pub mod lengths;
-pub mod log_judge;
-pub mod proved;
-pub mod runlog;
+pub mod library;
 pub mod sample;
-pub mod sheet;
-pub mod task_line;
-pub mod text;
-pub mod timetable;
-pub mod values;
-pub mod waits;
-pub mod why;
-pub mod year;
+pub mod second;
 
-pub use book::{drop_task, minimum_early, open_book, report, sound};
-pub use convert::{convert, convert_text, read_exclusive};
-pub use desk::Desk;
-pub use exact::exact_early;
-pub use judge::{accepted, first_faulty_pair, judge_plan};
-pub use lengths::timetable_text;
-pub use log_judge::{judge_log, judged_text};
-pub use runlog::run_log;
-pub use sheet::{
-    drop_sheet, fresh_sheet, make_sheet, on_drive, renew_sheet, report_sheet, standing,
+pub use library::proved;
+pub use second::book::{drop_task, minimum_early, open_book, report, sound};
+pub use second::convert::{convert, convert_text, read_exclusive};
+pub use second::desk::Desk;
+pub use second::exact::exact_early;
+pub use second::judge::{accepted, first_faulty_pair, judge_plan};
+pub use second::lengths::timetable_text;
+pub use second::log_judge::{judge_log, judged_text};
+pub use second::runlog::run_log;
+pub use second::sheet::{drop_sheet, fresh_sheet, make_sheet, on_drive, report_sheet};
+pub use second::text::{read_plan, write_plan};
+pub use second::timetable::timetable;
+pub use second::values::{AddResult, Totals};
+pub use second::values::{
+    Answer, Book, BookResult, Chain, Exact, Figure, Plan, Reading, Rule, WriteResult,
 };
-pub use text::{read_plan, write_plan};
-pub use timetable::timetable;
-pub use values::{Added, Totals};
-pub use values::{Answer, Book, Chain, Exact, Figure, Handed, Plan, Reading, Rule, Written};
-pub use values::{Asking, Judged, Lengths, Timetable};
-pub use values::{Kept, Made, OnDrive, Sheet, Standing};
-pub use why::why;
-pub use year::{add_log, report_text, year_text};
+pub use second::values::{BookAndSheet, OnDrive, Sheet, SheetResult};
+pub use second::values::{JudgedLog, Lengths, LengthsResult, Timetable};
+pub use second::why::why;
+pub use second::year::{add_log, report_text, year_text};

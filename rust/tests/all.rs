@@ -32,13 +32,15 @@ mod every_book;
 mod exact;
 mod explain;
 mod exports;
+mod families;
+mod folders;
 mod header;
 mod judgelog;
 mod judgelog_impostors;
-mod layout;
 mod listing;
 mod pictures;
 mod program_stack;
+mod programs;
 mod properties;
 mod ready;
 mod refusals;
@@ -55,6 +57,8 @@ mod year;
 mod year_impostors;
 
 use dispatcher::sample::program::{at_root, entries_below};
+use std::fs;
+use std::path::PathBuf;
 
 /// A file that is no module here would not be tested.
 #[test]
@@ -69,18 +73,38 @@ fn every_file_is_a_module() {
     }
 }
 
+/// The files below that folder, at any depth, and their texts.
+fn sources_below(folder: &str) -> Vec<(PathBuf, String)> {
+    let (mut folders, mut sources) = (vec![at_root(folder)], Vec::new());
+    while let Some(folder) = folders.pop() {
+        for path in entries_below(&folder) {
+            if path.is_dir() {
+                folders.push(path);
+            } else {
+                let text = fs::read_to_string(&path).unwrap();
+                sources.push((path, text));
+            }
+        }
+    }
+    sources
+}
+
 /// The library is not built for tests of its own, so one that stands there would not be run.
 #[test]
 fn no_test_stands_in_the_library() {
-    let mut folders = vec![at_root("rust/src")];
-    while let Some(folder) = folders.pop() {
-        let (below, files): (Vec<_>, Vec<_>) = entries_below(&folder)
-            .into_iter()
-            .partition(|path| path.is_dir());
-        folders.extend(below);
-        for file in files {
-            let text = std::fs::read_to_string(&file).unwrap();
-            assert!(!text.contains("#[test]"), "{}", file.display());
+    for (file, text) in sources_below("rust/src") {
+        assert!(!text.contains("#[test]"), "{}", file.display());
+    }
+}
+
+/// It is written from the rules alone, so it uses nothing of the proved one and no sample.
+#[test]
+fn the_second_dispatcher_uses_itself_alone() {
+    let sources = sources_below("rust/src/second");
+    assert!(sources.len() > 15);
+    for (file, text) in sources {
+        for way_out in ["crate::", "super::super", "include!", "extern"] {
+            assert!(!text.contains(way_out), "{}: {way_out}", file.display());
         }
     }
 }

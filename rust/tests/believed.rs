@@ -80,7 +80,7 @@ impl MadeUp {
         self.put("crates/low/src/lib.rt", &inner);
         let shown = function("fn put_shown", "high.specs.Shown", "shownOf");
         self.put("crates/show/src/main.rt", &shown);
-        let exported = "pub extern \"C\" fn dispatch_it";
+        let exported = "pub extern \"C\" fn clover_it";
         let exported = function(exported, "high.specs.Exported", "exportedOf");
         self.put("crates/cloverdusk/src/lib.rt", &exported);
     }
@@ -147,9 +147,14 @@ fn what_callers_believe_stands_apart_from_inner_functions_and_statements() {
     ];
     let inner = ["| `low` | Trick | 1 | 2 |", "| | in all | 1 | 2 |"];
     let words = ["| `high` | words/Word | 1 | 2 |", "| | in all | 1 | 2 |"];
+    let trusted = [
+        "| all calls of the library | 1 | 2 |",
+        "| what `show` prints | 1 | 2 |",
+    ];
     let found = tables(&printed);
-    assert_eq!(found[0], called);
-    assert_eq!(found[1], inner);
+    assert_eq!(found[0], trusted);
+    assert_eq!(found[1], called);
+    assert_eq!(found[2], inner);
     assert_eq!(found.last().unwrap()[..], words);
 }
 
@@ -157,6 +162,15 @@ fn what_callers_believe_stands_apart_from_inner_functions_and_statements() {
 fn no_more_than_the_limit_is_believed() {
     let made = MadeUp::new("believed-most");
     made.expect_refused(&["--most", "11"], &["12 lines, and at most 11 are allowed"]);
+    let options = ["--most-for", "show=2", "--most-for", "library=1"];
+    made.expect_refused(
+        &options,
+        &["library rests on 2 lines, and at most 1 are allowed"],
+    );
+    made.expect_refused(
+        &["--most-for", "lost=9"],
+        &["lost has no row: there are library, show"],
+    );
 }
 
 #[test]
@@ -220,21 +234,21 @@ fn a_public_contract_that_cites_a_word_or_a_private_name_is_refused() {
 #[test]
 fn the_promises_of_a_request_stand_in_a_crate_of_their_own() {
     let made = MadeUp::new("believed-own");
-    made.put("crates.txt", &format!("{CRATES}own_promises: high\n"));
-    let place = "crates/own_promises/specs/Said.antt";
+    made.put("crates.txt", &format!("{CRATES}promises_own: high\n"));
+    let place = "crates/promises_own/specs/Said.antt";
     made.put(place, &definition("saidOf", ""));
     made.expect_refused(&[], &[
-        "there is no crates/own_promises/proofs/Promises.antt",
-        "no statement of the promises uses saidOf of crates/own_promises/specs/Said.antt: it belongs to specs/private/ or proofs/",
+        "there is no crates/promises_own/proofs/Promises*.antt",
+        "no statement of the promises uses saidOf of crates/promises_own/specs/Said.antt: it belongs to specs/private/ or proofs/",
     ]);
-    let claim = "use Rattle.own_promises.specs.Said.{saidOf}\n\npub claim : saidOf 0 ≡ 0\nclaim = refl\n";
-    made.put("crates/own_promises/proofs/Promises.antt", claim);
+    let claim = "use Rattle.promises_own.specs.Said.{saidOf}\n\npub claim : saidOf 0 ≡ 0\nclaim = refl\n";
+    made.put("crates/promises_own/proofs/PromisesSaid.antt", claim);
     let (status, printed) = made.counted(&[]);
     assert_eq!(status, 0, "{printed}");
     assert!(tables(&printed)
         .last()
         .unwrap()
-        .contains(&"| `own_promises` | Said | 1 | 2 |"));
+        .contains(&"| `promises_own` | Said | 1 | 2 |"));
 }
 
 /// The committed tables are counted by `./test`; here only that what is said of them is so.
@@ -244,6 +258,6 @@ fn nobody_who_calls_believes_a_set_of_bits() {
     let printed = String::from_utf8(output.stdout).unwrap();
     let found = tables(&printed);
     let has_row = |table: usize, start: &str| found[table].iter().any(|row| row.starts_with(start));
-    assert!(has_row(0, "| `theory` |") && !has_row(1, "| `theory` |"));
-    assert!(has_row(1, "| `waits` |") && !has_row(0, "| `waits` |"));
+    assert!(has_row(1, "| `theory` |"));
+    assert!(has_row(2, "| `book_waits` |") && !has_row(1, "| `book_waits` |"));
 }

@@ -1,8 +1,9 @@
 //! "Both sides of each line": the starred items and the run-only ones. In plan A the two
 //! rules let the same tasks go on the same ticks, so each item holds by both.
 
+use dispatcher::sample::lines::with_line;
 use dispatcher::sample::plan_a::{PLAN_A, REPORTS_A};
-use dispatcher::values::refusal;
+use dispatcher::second::values::refusal;
 use dispatcher::{minimum_early, open_book, read_plan, report, Answer, Book, Rule};
 
 fn fresh_book(rule: Rule) -> Book {
@@ -33,14 +34,6 @@ fn check_report(book: &Book, task: u32, tick: u32, code: u32) {
         "end {task} at {tick}"
     );
     assert_eq!(reported.book, *book);
-}
-
-/// Plan A with one line replaced.
-fn plan_a_with(line: usize, new_line: &str) -> Vec<u8> {
-    let text = String::from_utf8(PLAN_A.to_vec()).unwrap();
-    let mut lines: Vec<&str> = text.lines().collect();
-    lines[line - 1] = new_line;
-    (lines.join("\n") + "\n").into_bytes()
 }
 
 /// A plan of that many unit tasks in a row on one board.
@@ -105,7 +98,7 @@ fn the_figures_of_the_run() {
 #[test]
 fn a_board_with_no_work_does_not_pin_the_figure() {
     for rule in Rule::BOTH {
-        let eight_boards = plan_a_with(1, "plan\t1\t8\t5");
+        let eight_boards = with_line(PLAN_A, 1, "plan\t1\t8\t5");
         assert_eq!(
             figures_along(rule, &eight_boards, &REPORTS_A),
             [0, 0, 1, 3, 3, 0]
@@ -160,12 +153,12 @@ fn no_task_at_tick_0() {
 
 #[test]
 fn task_3_of_plan_a_moved_to_start_3() {
-    let text = plan_a_with(4, "task\t3\t2\t3\t9\ts2\t-");
+    let text = with_line(PLAN_A, 4, "task\t3\t2\t3\t9\ts2\t-");
     assert_eq!(read_plan(&text).answer, refusal(6, 2, 3));
 }
 
 #[test]
 fn task_2_of_plan_a_listing_itself() {
-    let text = plan_a_with(3, "task\t2\t2\t0\t4\t-\t2");
+    let text = with_line(PLAN_A, 3, "task\t2\t2\t0\t4\t-\t2");
     assert_eq!(read_plan(&text).answer, refusal(8, 2, 2));
 }

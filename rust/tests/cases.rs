@@ -1,33 +1,15 @@
-//! The built program on folders of cases: what it prints, and what it says where it cannot.
+//! The built program `runlog` on folders of cases, and the examples for a class: what is typed there
+//! is what the program and the second dispatcher print.
 
+use crate::folders::plan_folder;
 use dispatcher::run_log;
-use dispatcher::sample::plan_a::{ENDS_A, PLAN_A};
 use dispatcher::sample::plans::full_plan;
-use dispatcher::sample::program::{
-    at_root, cases_below, contents, empty_folder, expect_printed, expect_said, make_unreadable,
-    program_in,
-};
-use dispatcher::sample::{announced_seed, Rng};
-use dispatcher::text::plan_text;
+use dispatcher::sample::program::{at_root, cases_below, contents, expect_printed, program_in};
+use dispatcher::sample::Rng;
+use dispatcher::second::text::plan_text;
 use std::collections::BTreeMap;
-use std::fs::{self, File};
-use std::io::Write;
-use std::path::{Path, PathBuf};
-use std::process::{Command, Output};
-
-const TOO_LONG: &[u8] = b"refused\t1\t0\t0\n";
-const OPENING_A: &str = "run\t1\t2\t5\nstart\t1\t1\t0\t0\nstart\t2\t2\t0\t0\nearly\t0\t0\n";
-
-fn folder_of(name: &str, plan: &[u8], ends: &[u8]) -> PathBuf {
-    let folder = empty_folder(env!("CARGO_TARGET_TMPDIR"), name);
-    fs::write(folder.join("plan.txt"), plan).unwrap();
-    fs::write(folder.join("ends.txt"), ends).unwrap();
-    folder
-}
-
-fn run_in(folder: &Path) -> Output {
-    program_in("runlog", folder).output().unwrap()
-}
+use std::fs;
+use std::path::Path;
 
 fn expect_log(folder: &Path, log: &[u8]) {
     expect_printed(program_in("runlog", folder), log);
@@ -101,159 +83,14 @@ fn the_example_of_two_rules_has_one_plan_and_the_same_lengths() {
 
 #[test]
 fn sixty_four_tasks_are_read_and_sixty_five_are_not() {
-    let plan = plan_text(&full_plan(&mut Rng::new(announced_seed("cases")), 64));
-    let folder = folder_of("tasks-64", &plan, b"");
+    let plan = plan_text(&full_plan(&mut Rng::announced("cases"), 64));
+    let folder = plan_folder("tasks-64", &plan);
     expect_log(&folder, &run_log(&plan, b""));
 
     let mut longer = String::from("plan\t1\t1\t65\n");
     for k in 1..=65 {
         longer += &format!("task\t{k}\t1\t{}\t{k}\t-\t-\n", k - 1);
     }
-    let folder = folder_of("tasks-65", longer.as_bytes(), b"");
+    let folder = plan_folder("tasks-65", longer.as_bytes());
     expect_log(&folder, b"refused\t2\t1\t0\n");
-}
-
-#[test]
-fn ends_of_the_greatest_length_and_one_byte_more() {
-    let mut ends = b"end\t0\t0\n".repeat(4_096);
-    assert_eq!(ends.len(), 32_768);
-    let log = OPENING_A.to_owned() + &"refused\t10\t0\t0\n".repeat(4_096);
-    expect_log(&folder_of("ends-32768", PLAN_A, &ends), log.as_bytes());
-    ends.push(b'\n');
-    expect_log(&folder_of("ends-32769", PLAN_A, &ends), TOO_LONG);
-}
-
-#[test]
-fn plans_of_the_greatest_length_and_one_byte_more() {
-    let plan = [b'x'; 32_769];
-    let folder = folder_of("plan-32768", &plan[..32_768], ENDS_A);
-    expect_log(&folder, b"refused\t2\t1\t0\n");
-    expect_log(&folder_of("plan-32769", &plan, ENDS_A), TOO_LONG);
-}
-
-#[test]
-fn very_large_files_are_too_long() {
-    for (name, plan, ends) in [
-        ("plan.txt", b"".as_slice(), ENDS_A),
-        ("ends.txt", PLAN_A, b"".as_slice()),
-    ] {
-        let folder = folder_of(&format!("large-{name}"), plan, ends);
-        let file = File::create(folder.join(name)).unwrap();
-        file.set_len(50_000_000).unwrap();
-        expect_log(&folder, TOO_LONG);
-    }
-}
-
-#[test]
-fn a_refused_plan_comes_before_too_long_ends() {
-    let folder = folder_of("both-faulty", b"plan\n", &[b'x'; 32_769]);
-    expect_log(&folder, b"refused\t2\t1\t0\n");
-}
-
-/// A pipe hands out what is written to it piece by piece.
-#[test]
-fn a_file_that_comes_in_pieces_is_read_whole() {
-    let folder = folder_of("pieces", b"", ENDS_A);
-    let path = folder.join("plan.txt");
-    fs::remove_file(&path).unwrap();
-    assert!(Command::new("mkfifo")
-        .arg(&path)
-        .status()
-        .unwrap()
-        .success());
-    let writer = std::thread::spawn(move || {
-        let mut pipe = File::options().write(true).open(path).unwrap();
-        for piece in PLAN_A.chunks(7) {
-            pipe.write_all(piece).unwrap();
-            std::thread::sleep(std::time::Duration::from_millis(2));
-        }
-    });
-    expect_log(&folder, &run_log(PLAN_A, ENDS_A));
-    writer.join().unwrap();
-}
-
-/// The program printed nothing, and one line names the file; the script ends with 2.
-fn expect_unread(folder: &Path, name: &str) {
-    let output = run_in(folder);
-    assert_eq!(output.stdout, b"");
-    expect_said(&output.stderr, name);
-
-    let output = script(folder);
-    assert_eq!(output.stdout, b"");
-    expect_said(&output.stderr, &format!("runlog: {name}"));
-    assert_eq!(output.status.code(), Some(2));
-}
-
-#[test]
-fn a_file_that_cannot_be_read_is_named_and_nothing_printed() {
-    for name in ["plan.txt", "ends.txt"] {
-        let folder = folder_of(&format!("unreadable-{name}"), PLAN_A, ENDS_A);
-        make_unreadable(&folder, name);
-        expect_unread(&folder, name);
-
-        // A link to itself is there too, and opens for nobody.
-        fs::remove_dir(folder.join(name)).unwrap();
-        std::os::unix::fs::symlink(name, folder.join(name)).unwrap();
-        expect_unread(&folder, name);
-    }
-}
-
-/// Both files are read before anything is printed, whatever the plan says.
-#[test]
-fn ends_that_cannot_be_read_hide_the_refusal_of_a_plan() {
-    for (name, plan) in [("no-plan", b"".as_slice()), ("bad-plan", b"plan\n")] {
-        let folder = folder_of(&format!("unreadable-ends-{name}"), plan, ENDS_A);
-        expect_log(&folder, b"refused\t2\t1\t0\n");
-        make_unreadable(&folder, "ends.txt");
-        expect_unread(&folder, "ends.txt");
-        // Of two such files the plan is named.
-        make_unreadable(&folder, "plan.txt");
-        expect_unread(&folder, "plan.txt");
-    }
-}
-
-#[test]
-fn a_log_that_cannot_be_written_is_said() {
-    let folder = folder_of("full-device", PLAN_A, ENDS_A);
-    let full = File::options().write(true).open("/dev/full").unwrap();
-    let output = program_in("runlog", &folder).stdout(full).output().unwrap();
-    expect_said(&output.stderr, "standard output");
-}
-
-/// Under a limit on a file's size the first write takes a part, and the next fails.
-#[test]
-fn a_write_that_takes_a_part_goes_on_with_the_rest() {
-    let ends = b"end\t0\t0\n".repeat(4_096);
-    let folder = folder_of("limited", PLAN_A, &ends);
-    let out = folder.join("out");
-    let limited = "trap '' XFSZ; ulimit -f 8; exec \"$0\" \"$@\"";
-    let program = program_in("runlog", &folder);
-    let output = Command::new("bash")
-        .args(["-c", limited])
-        .arg(program.get_program())
-        .args(program.get_args())
-        .current_dir(&folder)
-        .stdout(File::create(&out).unwrap())
-        .output()
-        .unwrap();
-    expect_said(&output.stderr, "standard output");
-    let log = run_log(PLAN_A, &ends);
-    assert!(fs::read(&out).unwrap() == log[..8_192]);
-}
-
-fn script(folder: &Path) -> Output {
-    let mut command = Command::new(at_root("runlog"));
-    command.arg(folder).output().unwrap()
-}
-
-#[test]
-fn the_script_runs_a_folder_and_has_an_exit_status() {
-    let good = script(&at_root("examples/plan-a"));
-    let log = fs::read(at_root("examples/plan-a/log.txt")).unwrap();
-    assert_eq!(good.status.code(), Some(0));
-    assert!(good.stdout == log);
-
-    let nowhere = script(&at_root("examples/nowhere"));
-    assert_eq!(nowhere.status.code(), Some(2));
-    assert_eq!(nowhere.stdout, b"");
 }

@@ -1,11 +1,11 @@
 //! Rules of waiting that are nearly the clash rule: each is told from it on a small plan
 //! worked out by hand, and on random mornings.
 
-use dispatcher::judge::{clash, clash_by_drive};
 use dispatcher::sample::mornings::random_morning;
 use dispatcher::sample::plans::random_plan;
-use dispatcher::sample::{announced_seed, Rng};
-use dispatcher::values::{drive_of, is_exclusive, items, ENDED, RUNNING, WAITING};
+use dispatcher::sample::Rng;
+use dispatcher::second::judge::{clash, clash_by_drive};
+use dispatcher::second::values::{drive_of, is_exclusive, items, ENDED, RUNNING, WAITING};
 use dispatcher::{open_book, read_plan, report, sound, Answer, Book, Plan, Rule};
 
 /// Whether task index i waits for task index j.
@@ -185,7 +185,7 @@ task\t4\t1\t6\t8\t-\t-
 
 #[test]
 fn random_mornings_tell_them_all() {
-    let mut rng = Rng::new(announced_seed("random_mornings_tell_them_all"));
+    let mut rng = Rng::announced("random_mornings_tell_them_all");
     let mut told = [0; IMPOSTORS.len()];
     for _ in 0..1000 {
         let plan = random_plan(&mut rng);

@@ -2,17 +2,15 @@
 //! Start on random mornings. Each random test prints its seed.
 
 use dispatcher::sample::damage::by_the_other_rule;
-use dispatcher::sample::events::{check_refused, must_take, random_book, Event};
+use dispatcher::sample::events::{book_after, check_refused, must_take, random_book, Event};
 use dispatcher::sample::mornings::random_morning;
 use dispatcher::sample::pairs::{every_pair, Pair};
 use dispatcher::sample::plans::random_plan;
 use dispatcher::sample::reports::accepted_report;
 use dispatcher::sample::waiting::{either_rule, rule_of};
-use dispatcher::sample::{announced_seed, Rng};
-use dispatcher::values::{ENDED, RUNNING, WAITING};
-use dispatcher::{
-    drop_task, minimum_early, open_book, read_plan, report, sound, Answer, Book, Plan, Rule,
-};
+use dispatcher::sample::Rng;
+use dispatcher::second::values::{ENDED, RUNNING, WAITING};
+use dispatcher::{drop_task, minimum_early, open_book, report, sound, Answer, Book, Plan, Rule};
 use Event::{Drop, End};
 
 /// Seven tasks on three boards. By the clash rule 4 waits for 2, 5 for 3, 6 for 1 and 4,
@@ -37,22 +35,6 @@ task\t5\t3\t0\t4\t7\t-\t-
 task\t6\t1\t0\t8\t10\te3\t-
 task\t7\t3\t9\t10\t13\t-\t2
 ";
-
-fn plan_of(text: &[u8]) -> Plan {
-    let reading = read_plan(text);
-    assert_eq!(reading.answer, Answer::ACCEPTED);
-    reading.plan
-}
-
-/// The book of a plan after these, all of which must be accepted.
-fn book_after(text: &[u8], rule: Rule, events: &[Event]) -> Book {
-    let fresh = open_book(&plan_of(text), rule).book;
-    let book = events
-        .iter()
-        .fold(fresh, |book, &event| must_take(&book, event));
-    assert!(sound(&book));
-    book
-}
 
 /// The tasks of that mark, by number.
 fn marked(book: &Book, mark: u8) -> Vec<usize> {
@@ -222,7 +204,7 @@ fn no_other_byte_is_a_rule() {
 
 #[test]
 fn nothing_changes_the_rule_of_a_book() {
-    let mut rng = Rng::new(announced_seed("nothing_changes_the_rule_of_a_book"));
+    let mut rng = Rng::announced("nothing_changes_the_rule_of_a_book");
     for _ in 0..300 {
         let (plan, rule) = (random_plan(&mut rng), either_rule(&mut rng));
         let morning = random_morning(&mut rng, &plan, rule);
@@ -233,7 +215,7 @@ fn nothing_changes_the_rule_of_a_book() {
 /// Where all tasks clash with all before them, both rules wait for the same.
 #[test]
 fn on_one_board_both_rules_are_one() {
-    let mut rng = Rng::new(announced_seed("on_one_board_both_rules_are_one"));
+    let mut rng = Rng::announced("on_one_board_both_rules_are_one");
     let mut reports = 0;
     for _ in 0..400 {
         let plan = random_plan(&mut rng);
@@ -258,7 +240,7 @@ fn on_one_board_both_rules_are_one() {
 /// So that a random test by one rule is none of the other.
 #[test]
 fn many_random_books_tell_the_rules_apart() {
-    let mut rng = Rng::new(announced_seed("many_random_books_tell_the_rules_apart"));
+    let mut rng = Rng::announced("many_random_books_tell_the_rules_apart");
     let (mut apart, mut alike) = (0, 0);
     for _ in 0..1000 {
         let book = random_book(&mut rng);

@@ -9,8 +9,8 @@ use dispatcher::sample::mixtures::{every_mixture, READING, SECOND_CALL};
 use dispatcher::sample::plan_a::PLAN_A;
 use dispatcher::sample::plans::random_plan;
 use dispatcher::sample::tally::Tally;
-use dispatcher::text::plan_text;
-use dispatcher::values::{refusal, EDITION_1, EDITION_2};
+use dispatcher::second::text::plan_text;
+use dispatcher::second::values::{refusal, EDITION_1, EDITION_2};
 use dispatcher::{read_exclusive, read_plan, run_log, Answer};
 
 /// A plan of two tasks with this second one, its LF included where it has one.

@@ -1,9 +1,11 @@
 //! How the commands are called: their use, links to them, how they fail, and what one that runs a program tells while it proves.
 
+use crate::folders::{copy_command, copy_files, folder_of, new_folder, put_script};
 use dispatcher::run_log;
+use dispatcher::sample::lent::text;
 use dispatcher::sample::plan_a::PLAN_A;
 use dispatcher::sample::program::{
-    at_root, comes_true, empty_folder, entries_below, expect_said, is_gone, without_rights,
+    at_root, comes_true, expect_said, is_gone, on_terminal, without_rights,
 };
 use std::os::unix::fs::{symlink, PermissionsExt};
 use std::path::{Path, PathBuf};
@@ -25,16 +27,8 @@ const COMMANDS: [&str; 12] = [
     "tools/year",
 ];
 
-fn folder(name: &str) -> PathBuf {
-    empty_folder(env!("CARGO_TARGET_TMPDIR"), name)
-}
-
 fn call(command: &Path, words: &[&str]) -> Output {
     Command::new(command).args(words).output().unwrap()
-}
-
-fn text(bytes: &[u8]) -> &str {
-    std::str::from_utf8(bytes).unwrap()
 }
 
 fn expect_printed(output: &Output, printed: &[u8]) {
@@ -54,7 +48,7 @@ fn link_to(folder: &Path, command: &str) -> PathBuf {
 #[test]
 fn every_command_tells_its_use() {
     for command in COMMANDS {
-        let link = link_to(&folder(&format!("use-{command}")), command);
+        let link = link_to(&new_folder(&format!("use-{command}")), command);
         for path in [at_root(command), link] {
             for option in ["--help", "-h"] {
                 let output = call(&path, &[option]);
@@ -85,18 +79,18 @@ fn no_command_takes_an_option_or_word_that_it_does_not_know() {
 fn links_to_the_commands_do_as_the_commands_do() {
     let example = at_root("examples/plan-a").canonicalize().unwrap();
     let log = fs::read(example.join("log.txt")).unwrap();
-    let link = link_to(&folder("link-runlog"), "runlog");
+    let link = link_to(&new_folder("link-runlog"), "runlog");
     expect_printed(&call(&link, &[]), &log);
     expect_printed(&call(&link, &[example.to_str().unwrap()]), &log);
 
-    let link = link_to(&folder("link-desk"), "desk");
+    let link = link_to(&new_folder("link-desk"), "desk");
     expect_printed(&call(&link, &[example.to_str().unwrap()]), &log);
 
-    let mut program = Command::new(link_to(&folder("link-program"), "tools/program"));
+    let mut program = Command::new(link_to(&new_folder("link-program"), "tools/program"));
     let ran = program.arg("runlog").current_dir(&example).output();
     expect_printed(&ran.unwrap(), &log);
 
-    let mut picture = Command::new(link_to(&folder("link-picture"), "tools/picture"));
+    let mut picture = Command::new(link_to(&new_folder("link-picture"), "tools/picture"));
     let drawn = picture.args([example.join("plan.txt"), example.join("log.txt")]);
     let committed = fs::read(example.join("picture.svg")).unwrap();
     expect_printed(&drawn.output().unwrap(), &committed);
@@ -104,13 +98,13 @@ fn links_to_the_commands_do_as_the_commands_do() {
     let told = call(&at_root("explain"), &[]).stdout;
     assert!(text(&told).starts_with("No refusals: "));
     expect_printed(
-        &call(&link_to(&folder("link-explain"), "explain"), &[]),
+        &call(&link_to(&new_folder("link-explain"), "explain"), &[]),
         &told,
     );
 
     let counted = call(&at_root("tools/believed"), &[]).stdout;
-    assert!(text(&counted).starts_with("| Crate |"));
-    let link = link_to(&folder("link-believed"), "tools/believed");
+    assert!(text(&counted).starts_with("| What you trust |"));
+    let link = link_to(&new_folder("link-believed"), "tools/believed");
     expect_printed(&call(&link, &[]), &counted);
 }
 
@@ -129,7 +123,7 @@ fn expect_failed(output: &Output, why: &str) {
 /// A folder's name that `CDPATH` would find elsewhere is that of the working directory.
 #[test]
 fn a_folder_is_found_from_where_the_command_is_called() {
-    let elsewhere = folder("cdpath");
+    let elsewhere = new_folder("cdpath");
     fs::create_dir_all(elsewhere.join("examples/plan-a")).unwrap();
     for command in [
         "runlog",
@@ -150,47 +144,17 @@ fn a_folder_is_found_from_where_the_command_is_called() {
     }
 }
 
-#[test]
-fn a_word_that_is_no_folder_is_said() {
-    expect_failed(&call(&at_root("runlog"), &[""]), "'' is no folder");
-    let file = at_root("README.md");
-    let output = call(&at_root("runlog"), &[file.to_str().unwrap()]);
-    expect_failed(&output, "is no folder");
-}
-
-#[test]
-fn a_folder_that_may_not_be_entered_is_said() {
-    let locked = folder("locked");
-    fs::write(locked.join("plan.txt"), PLAN_A).unwrap();
-    fs::set_permissions(&locked, fs::Permissions::from_mode(0o600)).unwrap();
-    let mut command = without_rights(&at_root("runlog"), &[locked.to_str().unwrap()]);
-    let output = command.output().unwrap();
-    fs::set_permissions(&locked, fs::Permissions::from_mode(0o700)).unwrap();
-    expect_failed(&output, "may not be entered");
-}
-
 fn in_shell(line: &str, words: &[&str]) -> Output {
     let mut shell = Command::new("bash");
     let shell = shell.args(["-c", line, "bash"]).args(words);
     shell.current_dir(at_root("")).output().unwrap()
 }
 
-#[test]
-fn closed_standard_output_is_said() {
-    expect_failed(&in_shell("./runlog >&-", &[]), "standard output is closed");
-    expect_failed(
-        &in_shell("./runlog --help >&-", &[]),
-        "standard output is closed",
-    );
-}
-
 /// More than a pipe holds is left when the reader goes, so that a write meets it; also where a caller ignores the signal.
 #[test]
 fn a_reader_that_goes_away_is_no_failure() {
-    let large = folder("large");
-    fs::write(large.join("plan.txt"), PLAN_A).unwrap();
     let ends = b"drop\t0\n".repeat(4_681);
-    fs::write(large.join("ends.txt"), &ends).unwrap();
+    let large = folder_of("large", &[("plan.txt", PLAN_A), ("ends.txt", &ends)]);
     assert!(run_log(PLAN_A, &ends).len() > 65_536);
     for before in ["", "trap '' PIPE; "] {
         let line = format!("{before}./runlog \"$1\" | head -n 1; exit ${{PIPESTATUS[0]}}");
@@ -199,16 +163,10 @@ fn a_reader_that_goes_away_is_no_failure() {
     }
 }
 
-fn put_script(path: &Path, script: &str) {
-    fs::create_dir_all(path.parent().unwrap()).unwrap();
-    fs::write(path, format!("#!/bin/sh\n{script}\n")).unwrap();
-    fs::set_permissions(path, fs::Permissions::from_mode(0o755)).unwrap();
-}
-
 /// A project of two programs and three crates, one of which both do without, with the command in it and an `rt`
 /// that proves nothing: it notes what it is asked for, and talks as much as the real one.
 fn project(command: &str, name: &str, rt: &str) -> PathBuf {
-    let root = folder(name);
+    let root = new_folder(name);
     fs::create_dir_all(root.join("crates")).unwrap();
     fs::create_dir_all(root.join("examples/plan-a")).unwrap();
     let crates =
@@ -216,13 +174,10 @@ fn project(command: &str, name: &str, rt: &str) -> PathBuf {
     fs::write(root.join("crates.txt"), crates).unwrap();
     put_script(&root.join("tools/program"), "echo \"$* ran\"");
     for script in [command, "tools/run.bash", "tools/use.bash"] {
-        fs::copy(at_root(script), root.join(script)).unwrap();
+        copy_command(script, &root);
     }
-    fs::create_dir_all(root.join("tools/desk")).unwrap();
-    for script in entries_below(&at_root("tools/desk")) {
-        let name = script.file_name().unwrap();
-        fs::copy(&script, root.join("tools/desk").join(name)).unwrap();
-    }
+    copy_files("tools/common", &root);
+    copy_files("tools/desk", &root);
     put_script(&root.join("own/rt"), &format!("echo \"$*\" >>asked\n{rt}"));
     root
 }
@@ -400,30 +355,33 @@ fn a_program_that_ends_without_a_word_is_a_failure() {
     expect_failed(&output, "the program ended with status 137");
 }
 
-/// Runs the project's command on a terminal, and presses the keys once the pattern is shown there.
-fn on_terminal(root: &Path, pattern: &str, keys: &str) -> (String, Option<i32>) {
-    let mut command = Command::new("python3");
-    command
-        .arg(at_root("rust/tests/on_terminal.py"))
-        .args([pattern, keys, "--"])
-        .arg(root.join("runlog"))
-        .env("TERM", "xterm");
+/// Runs the project's command on a terminal, with these steps.
+fn runlog_on_terminal(root: &Path, steps: &[&str]) -> (String, Option<i32>) {
+    let mut command = on_terminal(steps, &root.join("runlog"));
+    command.env("TERM", "xterm");
     let output = call_in(root, command);
     assert_eq!(text(&output.stderr), "");
     (text(&output.stdout).to_owned(), output.status.code())
 }
 
-/// The second crate is proved once the line was seen to count.
+/// A crate is proved once its line was seen, and the second one once that was seen to count.
 #[test]
 fn on_a_terminal_the_line_tells_the_seconds_and_is_gone_in_the_end() {
-    let slow = format!("[ \"$2\" != high ] || until [ -e seen ]; do sleep 0.1; done; {BUILDS}");
+    let slow = format!("until [ -e seen-$2 ]; do sleep 0.1; done; {BUILDS}");
     let root = project("runlog", "terminal", &slow);
-    let seen = format!("touch:{}", root.join("seen").display());
-    let (shown, status) = on_terminal(&root, "proving 2 of 3: high, [1-9]", &seen);
-    assert_eq!(status, Some(0));
-    let is_shown = |part: &str| shown.contains(&format!("\r\x1b[Krunlog: proving {part}"));
-    assert!(is_shown("1 of 3: low, 0 s"), "{shown:?}");
-    assert!(is_shown("2 of 3: high, 0 s"), "{shown:?}");
+    let line = |words: &str| format!("\r\x1b\\[Krunlog: proving {words}");
+    let seen = |name: &str| format!("touch:{}", root.join(format!("seen-{name}")).display());
+    let steps = [
+        (line("1 of 3: low, [0-9]+ s"), seen("low")),
+        (line("2 of 3: high, [1-9][0-9]* s"), seen("high")),
+        (line("3 of 3: runlog, [0-9]+ s"), seen("runlog")),
+    ];
+    let steps: Vec<&str> = steps
+        .iter()
+        .flat_map(|(pattern, keys)| [pattern.as_str(), keys])
+        .collect();
+    let (shown, status) = runlog_on_terminal(&root, &steps);
+    assert_eq!(status, Some(0), "{shown:?}");
     let (before, after) = shown.rsplit_once("\r\x1b[K").unwrap();
     assert_eq!(before.matches("\r\n").count(), 2, "{shown:?}");
     assert!(
@@ -441,7 +399,8 @@ touch proved-$2; mkdir -p target/bin; touch target/bin/$2; chmod +x target/bin/$
 #[test]
 fn ctrl_c_leaves_nothing_running_and_the_next_call_goes_on() {
     let root = project("runlog", "ctrl-c", KEEPS);
-    let (shown, status) = on_terminal(&root, "proving 2 of 3: high, [1-9]", "\x03");
+    let steps = ["proving 2 of 3: high, [1-9]", "\x03"];
+    let (shown, status) = runlog_on_terminal(&root, &steps);
     assert_eq!(status, Some(130), "{shown:?}");
     assert!(
         shown.ends_with("runlog: broken off; the next call goes on where this one stopped\r\n"),

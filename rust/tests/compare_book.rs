@@ -14,7 +14,7 @@ use dispatcher::sample::faults::{late_plan, sharing_plan};
 use dispatcher::sample::pairs::every_pair;
 use dispatcher::sample::plan_a::{PLAN_A, REPORTS_A};
 use dispatcher::sample::plan_b::{PLAN_B, REPORTS_B};
-use dispatcher::sample::plans::{full_plan, in_either_edition, random_plan};
+use dispatcher::sample::plans::{full_plan_of_either, random_plan};
 use dispatcher::sample::reports::{
     accepted_report, any_report, last_moment_report, one_tick_reports, running_tasks, Report,
 };
@@ -86,12 +86,6 @@ fn compare_morning(rng: &mut Rng, tally: &mut Tally, plan: &Plan, wrong_ones: u3
     }
     assert!(running_tasks(&book).is_empty(), "the morning is over");
     reports
-}
-
-/// A busy plan of either edition.
-fn full_plan_of_either(rng: &mut Rng, tasks: u8) -> Plan {
-    let plan = full_plan(rng, tasks);
-    in_either_edition(rng, &plan)
 }
 
 fn take_random_mornings(rng: &mut Rng, tally: &mut Tally) -> u64 {

@@ -5,10 +5,11 @@ use dispatcher::proved;
 use dispatcher::sample::columns::{
     every_damaged_ends, every_damaged_plan, every_damaged_rule_line,
 };
+use dispatcher::sample::lent::Lent;
 use dispatcher::sample::mixtures::every_mixture;
 use dispatcher::sample::plan_a::PLAN_A;
 use dispatcher::sample::tally::Tally;
-use dispatcher::values::{EDITION_1, EDITION_2};
+use dispatcher::second::values::{EDITION_1, EDITION_2};
 use dispatcher::{read_exclusive, read_plan, run_log};
 
 #[test]
@@ -56,12 +57,12 @@ fn every_mixture_of_3_4_18_and_20_is_answered_alike() {
 #[test]
 fn damaged_lines_of_ends_are_answered_alike() {
     let mut tally = Tally::new("compare_columns");
-    let mut out = vec![0; proved::LONGEST_LOG];
+    let mut out = Lent::new(proved::LONGEST_LOG);
     for text in [every_damaged_ends(), every_damaged_rule_line()].concat() {
         let wanted = run_log(PLAN_A, &text);
-        let length = proved::write_log(PLAN_A, &text, &mut out);
-        let shown = String::from_utf8_lossy(&text);
-        assert!(out[..length] == wanted[..], "{shown:?}");
+        out.expect(&wanted, &[&text], |out| {
+            proved::write_log(PLAN_A, &text, out)
+        });
         tally.count_printed(&wanted);
     }
     tally.finish_kind("ends with one to three faults in a line");

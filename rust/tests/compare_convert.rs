@@ -4,7 +4,7 @@
 use dispatcher::proved::{self, write_converted, CONVERTED_ROOM};
 use dispatcher::sample::damage::mutated_plan;
 use dispatcher::sample::faults::{damaged_text, faulty_pair_plan, late_plan, sharing_plan};
-use dispatcher::sample::lent::{pattern, shown};
+use dispatcher::sample::lent::{expect_room, shown, Lent};
 use dispatcher::sample::lines::{noise, stretched_text};
 use dispatcher::sample::old_texts::{old_text, second_edition, with_shared_holds};
 use dispatcher::sample::plan_a::PLAN_A;
@@ -13,8 +13,8 @@ use dispatcher::sample::plans::{exclusively_held, first_edition, full_plan, rand
 use dispatcher::sample::tally::Tally;
 use dispatcher::sample::wild::{one_rule_broken, wild_plan};
 use dispatcher::sample::Rng;
-use dispatcher::text::plan_text;
-use dispatcher::values::LONGEST_TEXT;
+use dispatcher::second::text::plan_text;
+use dispatcher::second::values::LONGEST_TEXT;
 use dispatcher::{convert, convert_text, read_exclusive, read_plan, Plan};
 
 /// Bytes that are right in some places of a text and wrong in others.
@@ -70,7 +70,7 @@ struct Texts {
     read: Tally,
     second: Tally,
     printed: Tally,
-    out: Vec<u8>,
+    out: Lent,
 }
 
 impl Texts {
@@ -89,11 +89,8 @@ impl Texts {
     /// What is printed is the same, and the bytes behind it are left.
     fn compare_printed(&mut self, text: &[u8]) {
         let wanted = convert_text(text);
-        let length = write_converted(text, &mut self.out);
-        assert!(self.out[..length] == wanted, "{}", shown(text));
-        let untouched = pattern(self.out.len());
-        assert!(self.out[length..] == untouched[length..], "{}", shown(text));
-        self.out[..length].copy_from_slice(&untouched[..length]);
+        self.out
+            .expect(&wanted, &[text], |out| write_converted(text, out));
         self.printed.count_printed(&wanted);
     }
 
@@ -162,7 +159,7 @@ fn texts_are_converted_alike() {
         read,
         second: Tally::new("compare_convert, second call"),
         printed: Tally::new("compare_convert, printed"),
-        out: pattern(CONVERTED_ROOM + 100),
+        out: Lent::new(CONVERTED_ROOM + 100),
     };
     compare_old_texts(&mut rng, &mut texts);
     compare_changed_bytes(&mut texts);
@@ -172,13 +169,6 @@ fn texts_are_converted_alike() {
     texts.read.finish(40_000, &[&codes[..], &[20]].concat());
     texts.second.finish(40_000, &codes);
     texts.printed.finish(40_000, &codes);
-}
-
-/// All bytes of a buffer of that length, and of those behind it, after the call.
-fn written_to(text: &[u8], length: usize) -> (usize, Vec<u8>) {
-    let mut bytes = pattern(length + 64);
-    let written = write_converted(text, &mut bytes[..length]);
-    (written, bytes)
 }
 
 #[test]
@@ -191,15 +181,7 @@ fn a_buffer_that_is_too_short_gets_nothing_and_a_longer_one_only_what_is_printed
         &edition_1,
         b"plan\t1\t1\t1\n",
     ] {
-        for length in [0, 1, 14, CONVERTED_ROOM - 1] {
-            assert!(written_to(text, length) == (0, pattern(length + 64)));
-        }
         let wanted = convert_text(text);
-        for length in [CONVERTED_ROOM, CONVERTED_ROOM + 1, 100_000] {
-            let (written, bytes) = written_to(text, length);
-            assert_eq!(written, wanted.len());
-            assert!(bytes[..written] == wanted);
-            assert!(bytes[written..] == pattern(length + 64)[written..]);
-        }
+        expect_room(CONVERTED_ROOM, &wanted, |out| write_converted(text, out));
     }
 }

@@ -7,7 +7,7 @@ use dispatcher::sample::damage::{
 use dispatcher::sample::events::{random_book, starts_past_the_clock};
 use dispatcher::sample::every_book::{every_book, AWAITED, CHAIN};
 use dispatcher::sample::mornings::random_morning;
-use dispatcher::sample::plans::{full_plan, in_either_edition, random_plan};
+use dispatcher::sample::plans::{full_plan_of_either, random_plan};
 use dispatcher::sample::tally::Tally;
 use dispatcher::sample::waiting::either_rule;
 use dispatcher::sample::wild::wild_book;
@@ -32,7 +32,7 @@ impl Compared {
             return;
         }
         let least = minimum_early(book).early;
-        let is_none = wanted.known == 0;
+        let is_none = !wanted.known;
         assert!(is_none || least <= wanted.early, "{book:?}");
         self.none += u64::from(is_none);
         self.above += u64::from(!is_none && least < wanted.early);
@@ -66,8 +66,7 @@ fn books_are_answered_alike() {
     }
     all.tally.finish_kind("books of random mornings");
     for _ in 0..60 {
-        let plan = full_plan(&mut rng, 64);
-        let plan = in_either_edition(&mut rng, &plan);
+        let plan = full_plan_of_either(&mut rng, 64);
         all.compare_morning(&mut rng, &plan);
     }
     all.tally.finish_kind("books of mornings of 64 tasks");

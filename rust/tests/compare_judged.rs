@@ -1,12 +1,11 @@
 //! Logs judged: the proved judge must answer every plan and log as the second one does, and print
 //! every pair of texts alike, to the last byte; and both keep the request's own sentences.
 
-use dispatcher::judge::clash;
 use dispatcher::proved::{self, write_judged, LONGEST_JUDGED};
 use dispatcher::sample::damage::mutated_plan;
 use dispatcher::sample::faults::{damaged_text, faulty_pair_plan, late_plan, sharing_plan};
 use dispatcher::sample::lengths::planned_length;
-use dispatcher::sample::lent::{pattern, shown};
+use dispatcher::sample::lent::{expect_room, shown, text, Lent};
 use dispatcher::sample::lines::noise;
 use dispatcher::sample::log_damage::{
     any_log, damaged_log, in_other_order, long_log, odd_log_lines,
@@ -18,13 +17,14 @@ use dispatcher::sample::one_fault::one_fault;
 use dispatcher::sample::plan_a::{ENDS_A, PLAN_A};
 use dispatcher::sample::plan_b::PLAN_B;
 use dispatcher::sample::plans::{full_plan, in_either_edition};
-use dispatcher::sample::tally::Tally;
+use dispatcher::sample::tally::{Printed, Tally};
 use dispatcher::sample::waiting::either_rule;
 use dispatcher::sample::wild::{one_rule_broken, wild_plan};
-use dispatcher::sample::{announced_seed, Rng};
-use dispatcher::text::plan_text;
+use dispatcher::sample::Rng;
+use dispatcher::second::judge::clash;
+use dispatcher::second::text::plan_text;
 use dispatcher::{judge_log, judged_text, read_plan, run_log, timetable};
-use dispatcher::{Answer, Judged, Lengths, Plan, Rule};
+use dispatcher::{Answer, JudgedLog, Lengths, Plan, Rule};
 
 /// Bytes that are right in some places of a log and wrong in others.
 const LIKELY_BYTES: &[u8] = b"\t\n-01269+s";
@@ -122,7 +122,7 @@ fn wanted_of_times(plan: &Plan, times: &Times) -> Answer {
 }
 
 /// A log that is read to its end: who is known, and the answer, by the request's sentences.
-fn check_read(plan: &Plan, log: &[u8], found: &Judged) {
+fn check_read(plan: &Plan, log: &[u8], found: &JudgedLog) {
     let said = said_in(log);
     let count = plan.task_count();
     for i in 0..64 {
@@ -152,7 +152,7 @@ fn check_read(plan: &Plan, log: &[u8], found: &Judged) {
 }
 
 /// The first line that stands where no log has it: everything before it is read.
-fn check_faulty_line(plan: &Plan, log: &[u8], found: &Judged) {
+fn check_faulty_line(plan: &Plan, log: &[u8], found: &JudgedLog) {
     let number = found.answer.first as usize;
     let lines: Vec<&[u8]> = log.split_inclusive(|&byte| byte == b'\n').collect();
     assert!(number >= 1 && number <= lines.len().max(1));
@@ -165,16 +165,16 @@ fn check_faulty_line(plan: &Plan, log: &[u8], found: &Judged) {
     }
 }
 
-fn compare(tally: &mut Tally, plan: &Plan, log: &[u8]) -> Judged {
+fn compare(tally: &mut Tally, plan: &Plan, log: &[u8]) -> JudgedLog {
     let wanted = judge_log(plan, log);
     let got = proved::judge_log(plan, log);
     assert_eq!(got.answer, wanted.answer, "{} of {plan:?}", shown(log));
     assert!(got == wanted, "{} of {plan:?}", shown(log));
     tally.count(wanted.answer);
     match wanted.answer.code {
-        9 | 1 => assert!(wanted == Judged::nothing(wanted.answer)),
+        9 | 1 => assert!(wanted == JudgedLog::nothing(wanted.answer)),
         23 => {
-            assert!(wanted == Judged::nothing(wanted.answer));
+            assert!(wanted == JudgedLog::nothing(wanted.answer));
             check_faulty_line(plan, log, &wanted);
         }
         _ => check_read(plan, log, &wanted),
@@ -183,7 +183,7 @@ fn compare(tally: &mut Tally, plan: &Plan, log: &[u8]) -> Judged {
 }
 
 /// The lengths that a judged log has.
-fn lengths_in(found: &Judged) -> Lengths {
+fn lengths_in(found: &JudgedLog) -> Lengths {
     Lengths {
         length: std::array::from_fn(|i| found.end[i] - found.start[i]),
         dropped: [0; 64],
@@ -191,7 +191,7 @@ fn lengths_in(found: &Judged) -> Lengths {
 }
 
 /// Nobody is late, and with the same lengths the clash rule starts nobody later.
-fn check_accepted(plan: &Plan, found: &Judged) {
+fn check_accepted(plan: &Plan, found: &JudgedLog) {
     assert_eq!(found.answer, Answer::ACCEPTED);
     let by_rule = timetable(plan, Rule::Clash, &lengths_in(found));
     assert_eq!(by_rule.answer, Answer::ACCEPTED);
@@ -320,30 +320,6 @@ fn every_log_of_two_tasks_is_judged_alike() {
     tally.finish(2_592, &[25]);
 }
 
-/// Pairs of texts, what was printed of them, and a buffer to lend.
-struct Printed {
-    tally: Tally,
-    out: Vec<u8>,
-}
-
-impl Printed {
-    /// What is printed is the same, and the bytes behind it are left.
-    fn compare(&mut self, plan: &[u8], log: &[u8]) {
-        let wanted = judged_text(plan, log);
-        let length = write_judged(plan, log, &mut self.out);
-        assert!(
-            self.out[..length] == wanted,
-            "{} and {}",
-            shown(plan),
-            shown(log)
-        );
-        let untouched = pattern(self.out.len());
-        assert!(self.out[length..] == untouched[length..]);
-        self.out[..length].copy_from_slice(&untouched[..length]);
-        self.tally.count_printed(&wanted);
-    }
-}
-
 fn print_random_logs(rng: &mut Rng, printed: &mut Printed) {
     for _ in 0..5_000 {
         let plan = plan_of_a_log(rng);
@@ -409,10 +385,7 @@ fn print_changed_bytes(printed: &mut Printed) {
 #[test]
 fn judged_logs_are_printed_alike() {
     let (mut rng, tally) = Tally::seeded("compare_judged, printed");
-    let mut printed = Printed {
-        tally,
-        out: pattern(LONGEST_JUDGED + 100),
-    };
+    let mut printed = Printed::new(tally, LONGEST_JUDGED, judged_text, write_judged);
     print_random_logs(&mut rng, &mut printed);
     print_refused_plans(&mut rng, &mut printed);
     print_long_logs(&mut rng, &mut printed);
@@ -422,13 +395,6 @@ fn judged_logs_are_printed_alike() {
     printed
         .tally
         .finish(30_000, &[&of_plans[..], &of_logs].concat());
-}
-
-/// All bytes of a buffer of that length, and of those behind it, after the call.
-fn written_to(plan: &[u8], log: &[u8], length: usize) -> (usize, Vec<u8>) {
-    let mut bytes = pattern(length + 64);
-    let written = write_judged(plan, log, &mut bytes[..length]);
-    (written, bytes)
 }
 
 /// 64 tasks, all planned to finish at 1 or 2 and ended at 1,000,000, or the plan's and the log's longest ticks.
@@ -458,16 +424,8 @@ fn a_buffer_that_is_too_short_gets_nothing_and_a_longer_one_only_what_is_printed
         (&full, &log),
         (&late_plan, &late_log),
     ] {
-        for length in [0, 1, 15, LONGEST_JUDGED - 1] {
-            assert!(written_to(plan, log, length) == (0, pattern(length + 64)));
-        }
         let wanted = judged_text(plan, log);
-        for length in [LONGEST_JUDGED, LONGEST_JUDGED + 1, 100_000] {
-            let (written, bytes) = written_to(plan, log, length);
-            assert_eq!(written, wanted.len());
-            assert!(bytes[..written] == wanted);
-            assert!(bytes[written..] == pattern(length + 64)[written..]);
-        }
+        expect_room(LONGEST_JUDGED, &wanted, |out| write_judged(plan, log, out));
     }
 }
 
@@ -531,7 +489,8 @@ fn logs_of_plan_a_are_judged_as_worked_out_by_hand() {
 /// Ticks at their bounds: a difference of a million both ways.
 #[test]
 fn a_difference_is_exact_at_and_below_zero() {
-    let mut rng = Rng::new(announced_seed("compare_judged, differences"));
+    let mut rng = Rng::announced("compare_judged, differences");
+    let mut out = Lent::new(LONGEST_JUDGED);
     for _ in 0..2_000 {
         let near = rng.within(1, 1_000_000);
         let finish = rng.pick(&[1, 2, near, 999_999, 1_000_000]);
@@ -548,11 +507,10 @@ fn a_difference_is_exact_at_and_below_zero() {
         };
         let early = i64::from(finish) - i64::from(end);
         let wanted = format!("1\t{early}\n{answer}\n");
-        let (written, bytes) = written_to(plan.as_bytes(), log.as_bytes(), LONGEST_JUDGED);
-        assert_eq!(String::from_utf8_lossy(&bytes[..written]), wanted);
-        assert_eq!(
-            judged_text(plan.as_bytes(), log.as_bytes()),
-            wanted.as_bytes()
-        );
+        let (plan, log) = (plan.as_bytes(), log.as_bytes());
+        out.expect(wanted.as_bytes(), &[plan, log], |out| {
+            write_judged(plan, log, out)
+        });
+        assert_eq!(text(&judged_text(plan, log)), wanted);
     }
 }

@@ -5,19 +5,18 @@ use dispatcher::sample::events::{
     accepted_event, any_event, event_line, first_drops, must_take, rule_line, Event,
 };
 use dispatcher::sample::faults::{damaged_text, late_plan, sharing_plan};
+use dispatcher::sample::lent::{expect_room, Lent};
 use dispatcher::sample::lines::{
     damaged_lines, damaged_rule_lines, noise, rule_lines_with_one_byte_wrong, with_odd_ends_line,
     with_odd_rule_line,
 };
 use dispatcher::sample::one_fault::one_fault;
 use dispatcher::sample::plan_a::{ENDS_A, PLAN_A};
-use dispatcher::sample::plans::{full_plan, in_either_edition, random_plan};
+use dispatcher::sample::plans::{full_plan, full_plan_of_either, random_plan};
 use dispatcher::sample::waiting::either_rule;
-use dispatcher::sample::{announced_seed, Rng};
-use dispatcher::text::plan_text;
+use dispatcher::sample::Rng;
+use dispatcher::second::text::plan_text;
 use dispatcher::{open_book, run_log, Plan, Rule};
-
-const FILL: u8 = 0xa5;
 
 /// A multiple of 2100, so that every kind of pair comes as often as planned.
 const ROUNDS: u32 = 10_500;
@@ -42,24 +41,10 @@ fn morning_ends(rng: &mut Rng, plan: &Plan) -> Vec<u8> {
     ends
 }
 
-fn is_untouched(bytes: &[u8]) -> bool {
-    // as a whole, since byte by byte takes longer than the log
-    static UNTOUCHED: [u8; LONGEST_LOG] = [FILL; LONGEST_LOG];
-    *bytes == UNTOUCHED[..bytes.len()]
-}
-
 /// Both logs are the same bytes, and nothing past the log is touched.
-fn compare(out: &mut [u8], plan: &[u8], ends: &[u8]) -> Vec<u8> {
+fn compare(out: &mut Lent, plan: &[u8], ends: &[u8]) -> Vec<u8> {
     let expected = run_log(plan, ends);
-    let length = write_log(plan, ends, out);
-    assert!(
-        out[..length] == expected[..],
-        "the logs differ on {:?} and {:?}",
-        String::from_utf8_lossy(plan),
-        String::from_utf8_lossy(ends)
-    );
-    assert!(is_untouched(&out[length..]));
-    out[..length].fill(FILL);
+    out.expect(&expected, &[plan, ends], |out| write_log(plan, ends, out));
     expected
 }
 
@@ -70,14 +55,13 @@ fn has_line(log: &[u8], word: &str) -> bool {
 
 #[test]
 fn logs_are_the_same() {
-    let mut rng = Rng::new(announced_seed("logs"));
-    let mut out = vec![FILL; LONGEST_LOG];
+    let mut rng = Rng::announced("logs");
+    let mut out = Lent::new(LONGEST_LOG);
     let (mut refused, mut late, mut unready, mut shared) = (0, 0, 0, 0);
     let (mut skipped, mut longest, mut clash, mut misruled) = (0, 0, 0, 0);
     for round in 0..ROUNDS {
         let plan = if round % 100 == 0 {
-            let full = full_plan(&mut rng, 64);
-            in_either_edition(&mut rng, &full)
+            full_plan_of_either(&mut rng, 64)
         } else {
             random_plan(&mut rng)
         };
@@ -118,7 +102,7 @@ fn logs_are_the_same() {
 /// Each first line damaged in every way, alone, before other lines and on a refused plan.
 #[test]
 fn damaged_rule_lines_are_answered_alike() {
-    let mut out = vec![FILL; LONGEST_LOG];
+    let mut out = Lent::new(LONGEST_LOG);
     let (mut early_start, mut clash) = (0, 0);
     for line in damaged_rule_lines() {
         for rest in [b"".as_slice(), ENDS_A, b"rule\tclash\n"] {
@@ -139,8 +123,8 @@ fn damaged_rule_lines_are_answered_alike() {
 
 #[test]
 fn ends_of_the_greatest_length() {
-    let plan = plan_text(&full_plan(&mut Rng::new(announced_seed("long ends")), 64));
-    let mut out = vec![FILL; LONGEST_LOG];
+    let plan = plan_text(&full_plan(&mut Rng::announced("long ends"), 64));
+    let mut out = Lent::new(LONGEST_LOG);
     for line in ["end\t0\t0\n", "drop\t0\n", "drop\t64\n"] {
         for rule in Rule::BOTH {
             let lines = (32_768 - rule_line(rule).len()) / line.len();
@@ -155,8 +139,9 @@ fn ends_of_the_greatest_length() {
 }
 
 #[test]
-fn a_shorter_buffer_gets_nothing() {
-    let mut out = vec![FILL; LONGEST_LOG - 1];
-    assert_eq!(write_log(b"", b"", &mut out), 0);
-    assert!(is_untouched(&out));
+fn a_buffer_that_is_too_short_gets_nothing_and_a_longer_one_only_the_log() {
+    for (plan, ends) in [(b"".as_slice(), b"".as_slice()), (PLAN_A, ENDS_A)] {
+        let wanted = run_log(plan, ends);
+        expect_room(LONGEST_LOG, &wanted, |out| write_log(plan, ends, out));
+    }
 }

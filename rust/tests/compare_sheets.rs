@@ -5,28 +5,26 @@ use dispatcher::sample::damage::mutated_book;
 use dispatcher::sample::events::{accepted_event, any_event, random_book, Event};
 use dispatcher::sample::plan_a::{PLAN_A, REPORTS_A};
 use dispatcher::sample::plan_b::PLAN_B;
-use dispatcher::sample::plans::{full_plan, in_either_edition, random_plan};
+use dispatcher::sample::plans::{full_plan_of_either, random_plan};
 use dispatcher::sample::tally::{say, Tally};
 use dispatcher::sample::waiting::either_rule;
 use dispatcher::sample::wild::wild_book;
 use dispatcher::sample::Rng;
-use dispatcher::sheet::{
-    drop_sheet, fresh_sheet, make_sheet, on_drive, renew_sheet, report_sheet, standing,
+use dispatcher::second::sheet::{drop_sheet, fresh_sheet, make_sheet, on_drive, report_sheet};
+use dispatcher::second::values::{
+    drive_of, is_exclusive, items, BookAndSheet, DROPPED, ENDED, RUNNING, WAITING,
 };
-use dispatcher::values::{drive_of, is_exclusive, items, Kept, DROPPED, ENDED, RUNNING, WAITING};
 use dispatcher::{open_book, proved, read_plan, Book, Plan, Rule, Sheet};
 use std::collections::BTreeSet;
 
 fn compare_making(tally: &mut Tally, book: &Book) -> Sheet {
     let wanted = make_sheet(book);
     assert!(proved::make_sheet(book) == wanted, "{book:?}");
-    assert!(proved::fresh_sheet(book) == fresh_sheet(book), "{book:?}");
-    assert!(proved::standing(book) == standing(book), "{book:?}");
     tally.count(wanted.answer);
     wanted.sheet
 }
 
-fn compare_event(tally: &mut Tally, book: &Book, sheet: &Sheet, event: Event) -> Kept {
+fn compare_event(tally: &mut Tally, book: &Book, sheet: &Sheet, event: Event) -> BookAndSheet {
     let (wanted, got) = match event {
         Event::End(task, tick) => (
             report_sheet(book, sheet, task, tick),
@@ -38,11 +36,11 @@ fn compare_event(tally: &mut Tally, book: &Book, sheet: &Sheet, event: Event) ->
         ),
     };
     assert_eq!(
-        got.handed.answer, wanted.handed.answer,
+        got.result.answer, wanted.result.answer,
         "{event:?}, {book:?}"
     );
     assert!(got == wanted, "{event:?}, {book:?}");
-    tally.count(wanted.handed.answer);
+    tally.count(wanted.result.answer);
     wanted
 }
 
@@ -54,15 +52,6 @@ fn compare_asking(tally: &mut Tally, book: &Book, sheet: &Sheet, drive: u32) {
         "drive {drive}, {book:?}"
     );
     tally.count(wanted.answer);
-}
-
-fn compare_update(old: &Book, sheet: &Sheet, new: &Book) {
-    let before = standing(old);
-    let wanted = renew_sheet(sheet, &before, new);
-    assert!(
-        proved::renew_sheet(sheet, before.runs, before.waits, new) == wanted,
-        "{old:?}"
-    );
 }
 
 /// What the document says of a sheet, drive by drive, where two boards never run one task and an exclusive holder runs alone.
@@ -107,24 +96,23 @@ fn compare_morning(
             break;
         };
         let kept = compare_event(tally, &book, &sheet, event);
-        assert!(kept.handed.answer.is_accepted());
+        assert!(kept.result.answer.is_accepted());
         assert!(
-            kept.sheet == fresh_sheet(&kept.handed.book),
+            kept.sheet == fresh_sheet(&kept.result.book),
             "kept is afresh"
         );
-        compare_update(&book, &sheet, &kept.handed.book);
         // a sheet of the book one step earlier is not the book's, unless nothing on it moved
         if sheet != kept.sheet {
             assert_eq!(
-                compare_event(tally, &kept.handed.book, &sheet, event)
-                    .handed
+                compare_event(tally, &kept.result.book, &sheet, event)
+                    .result
                     .answer
                     .code,
                 9
             );
-            compare_asking(tally, &kept.handed.book, &sheet, 1);
+            compare_asking(tally, &kept.result.book, &sheet, 1);
         }
-        (book, sheet) = (kept.handed.book, kept.sheet);
+        (book, sheet) = (kept.result.book, kept.sheet);
         check_words(&book, &sheet);
         accepted += 1;
     }
@@ -141,8 +129,8 @@ fn sheets_along_whole_mornings_agree() {
     }
     tally.finish_kind("sheets along random mornings");
     for _ in 0..10 {
-        let full = full_plan(&mut rng, 64);
-        let (plan, rule) = (in_either_edition(&mut rng, &full), either_rule(&mut rng));
+        let plan = full_plan_of_either(&mut rng, 64);
+        let rule = either_rule(&mut rng);
         accepted += compare_morning(&mut rng, &mut tally, &plan, rule, 2);
     }
     tally.finish_kind("sheets along mornings of 64 tasks");
@@ -179,7 +167,6 @@ fn sheets_of_wild_books_agree() {
         compare_event(&mut tally, &book, &sheet, event);
         let drive = rng.within(0, 36);
         compare_asking(&mut tally, &book, &sheet, drive);
-        compare_update(&good, &sheet, &book);
     }
     tally.finish_kind("sheets of wild books");
     tally.finish(12_000, &[0, 9]);
@@ -251,7 +238,7 @@ fn impostors_of_the_sheet_are_caught() {
             continue;
         };
         let after = proved::report_sheet(&book, &right, task, tick);
-        let mut late = after.handed.book;
+        let mut late = after.result.book;
         late.clock = book.clock;
         caught[5] += usize::from(fresh_sheet(&late) != after.sheet);
     }
@@ -277,7 +264,7 @@ fn the_drives_of_plan_a() {
     seen.push(look(&book, &sheet));
     for (task, tick) in REPORTS_A {
         let kept = proved::report_sheet(&book, &sheet, task, tick);
-        (book, sheet) = (kept.handed.book, kept.sheet);
+        (book, sheet) = (kept.result.book, kept.sheet);
         seen.push(look(&book, &sheet));
     }
     let wanted = [

@@ -12,10 +12,10 @@ use dispatcher::sample::plans::random_plan;
 use dispatcher::sample::tally::Tally;
 use dispatcher::sample::wild::{one_rule_broken, wild_plan};
 use dispatcher::sample::Rng;
-use dispatcher::text::plan_text;
-use dispatcher::values::LONGEST_TEXT;
+use dispatcher::second::text::plan_text;
+use dispatcher::second::values::LONGEST_TEXT;
 use dispatcher::{accepted, judge_plan, proved, read_plan, write_plan};
-use dispatcher::{Plan, Written};
+use dispatcher::{Plan, WriteResult};
 
 /// Bytes that are right in some places of a text and wrong in others.
 const LIKELY_BYTES: &[u8] = b"\t\n\r\0 -,es0123456789";
@@ -46,10 +46,10 @@ fn compare_judging(tally: &mut Tally, plan: &Plan) {
 
 /// What a writer answered, and all bytes of the buffer lent and of those behind it.
 fn written(
-    write: fn(&Plan, &mut [u8]) -> Written,
+    write: fn(&Plan, &mut [u8]) -> WriteResult,
     plan: &Plan,
     length: usize,
-) -> (Written, Vec<u8>) {
+) -> (WriteResult, Vec<u8>) {
     let mut bytes = pattern(length + 64);
     let written = write(plan, &mut bytes[..length]);
     (written, bytes)

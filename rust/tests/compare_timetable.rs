@@ -1,7 +1,6 @@
 //! The engine without reports: the proved implementation must answer every plan, rule, length and
 //! drop as the second one does, and print every pair of texts alike, to the last byte.
 
-use dispatcher::lengths::asking;
 use dispatcher::proved::{self, write_timetable, LONGEST_TIMETABLE};
 use dispatcher::sample::damage::mutated_plan;
 use dispatcher::sample::faults::{damaged_text, faulty_pair_plan, late_plan, sharing_plan};
@@ -9,7 +8,7 @@ use dispatcher::sample::lengths::{
     any_lengths, lengths_text, odd_lengths_texts, planned_length, random_case, taken_lengths,
     with_odd_field, with_odd_lengths_line, Case,
 };
-use dispatcher::sample::lent::{pattern, shown};
+use dispatcher::sample::lent::{expect_room, shown, Lent};
 use dispatcher::sample::lines::{
     damaged_lines, damaged_rule_lines, noise, rule_lines_with_one_byte_wrong, stretched_text,
     with_odd_rule_line,
@@ -18,14 +17,15 @@ use dispatcher::sample::one_fault::one_fault;
 use dispatcher::sample::pairs::every_pair;
 use dispatcher::sample::plan_a::PLAN_A;
 use dispatcher::sample::plan_b::PLAN_B;
-use dispatcher::sample::plans::{full_plan, in_either_edition, random_plan};
+use dispatcher::sample::plans::{full_plan, full_plan_of_either, random_plan};
 use dispatcher::sample::program::{at_root, contents};
-use dispatcher::sample::tally::Tally;
+use dispatcher::sample::tally::{Printed, Tally};
 use dispatcher::sample::waiting::{awaited, either_rule};
 use dispatcher::sample::wild::{one_rule_broken, wild_plan};
 use dispatcher::sample::Rng;
-use dispatcher::text::plan_text;
-use dispatcher::values::{Lengths, LONGEST_TEXT};
+use dispatcher::second::lengths::asking;
+use dispatcher::second::text::plan_text;
+use dispatcher::second::values::{Lengths, LONGEST_TEXT};
 use dispatcher::{timetable, timetable_text, Plan, Rule, Timetable};
 
 /// Bytes that are right in some places of a text and wrong in others.
@@ -112,8 +112,7 @@ fn compare_random_cases(rng: &mut Rng, tally: &mut Tally) {
 
 fn compare_full_plans(rng: &mut Rng, tally: &mut Tally) {
     for _ in 0..400 {
-        let plan = full_plan(rng, 64);
-        let plan = in_either_edition(rng, &plan);
+        let plan = full_plan_of_either(rng, 64);
         for rule in Rule::BOTH {
             for _ in 0..4 {
                 let given = any_lengths(rng, &plan, rule);
@@ -170,30 +169,6 @@ fn timetables_are_found_alike() {
     compare_every_pair(&mut rng, &mut tally);
     compare_changed_plans(&mut rng, &mut tally);
     tally.finish(40_000, &[0, 9, 19, 22]);
-}
-
-/// Pairs of texts, what was printed of them, and a buffer to lend.
-struct Printed {
-    tally: Tally,
-    out: Vec<u8>,
-}
-
-impl Printed {
-    /// What is printed is the same, and the bytes behind it are left.
-    fn compare(&mut self, plan: &[u8], lengths: &[u8]) {
-        let wanted = timetable_text(plan, lengths);
-        let length = write_timetable(plan, lengths, &mut self.out);
-        assert!(
-            self.out[..length] == wanted,
-            "{} and {}",
-            shown(plan),
-            shown(lengths)
-        );
-        let untouched = pattern(self.out.len());
-        assert!(self.out[length..] == untouched[length..]);
-        self.out[..length].copy_from_slice(&untouched[..length]);
-        self.tally.count_printed(&wanted);
-    }
 }
 
 fn print_random_texts(rng: &mut Rng, printed: &mut Printed) {
@@ -275,10 +250,7 @@ fn print_changed_bytes(printed: &mut Printed) {
 #[test]
 fn timetables_are_printed_alike() {
     let (mut rng, tally) = Tally::seeded("compare_timetable, printed");
-    let mut printed = Printed {
-        tally,
-        out: pattern(LONGEST_TIMETABLE + 100),
-    };
+    let mut printed = Printed::new(tally, LONGEST_TIMETABLE, timetable_text, write_timetable);
     print_random_texts(&mut rng, &mut printed);
     print_faulty_plans(&mut rng, &mut printed);
     print_long_texts(&mut rng, &mut printed);
@@ -316,13 +288,6 @@ fn lengths_are_read_alike() {
     tally.finish(30_000, &[0, 1, 3, 4]);
 }
 
-/// All bytes of a buffer of that length, and of those behind it, after the call.
-fn written_to(plan: &[u8], lengths: &[u8], length: usize) -> (usize, Vec<u8>) {
-    let mut bytes = pattern(length + 64);
-    let written = write_timetable(plan, lengths, &mut bytes[..length]);
-    (written, bytes)
-}
-
 #[test]
 fn a_buffer_that_is_too_short_gets_nothing_and_a_longer_one_only_what_is_printed() {
     let full = plan_text(&full_plan(&mut Rng::new(7), 64));
@@ -332,16 +297,10 @@ fn a_buffer_that_is_too_short_gets_nothing_and_a_longer_one_only_what_is_printed
         (PLAN_A, b"length\n"),
         (&full, b""),
     ] {
-        for length in [0, 1, 15, LONGEST_TIMETABLE - 1] {
-            assert!(written_to(plan, lengths, length) == (0, pattern(length + 64)));
-        }
         let wanted = timetable_text(plan, lengths);
-        for length in [LONGEST_TIMETABLE, LONGEST_TIMETABLE + 1, 100_000] {
-            let (written, bytes) = written_to(plan, lengths, length);
-            assert_eq!(written, wanted.len());
-            assert!(bytes[..written] == wanted);
-            assert!(bytes[written..] == pattern(length + 64)[written..]);
-        }
+        expect_room(LONGEST_TIMETABLE, &wanted, |out| {
+            write_timetable(plan, lengths, out)
+        });
     }
 }
 
@@ -392,6 +351,8 @@ fn the_example_prints_its_timetable() {
     let [plan, lengths, wanted] = ["plan.txt", "lengths.txt", "timetable.txt"]
         .map(|name| contents(&at_root("examples/timetable").join(name)));
     assert!(timetable_text(&plan, &lengths) == wanted);
-    let (written, bytes) = written_to(&plan, &lengths, LONGEST_TIMETABLE);
-    assert!(bytes[..written] == wanted);
+    let mut out = Lent::new(LONGEST_TIMETABLE);
+    out.expect(&wanted, &[&plan, &lengths], |out| {
+        write_timetable(&plan, &lengths, out)
+    });
 }

@@ -2,7 +2,7 @@
 //! write every report alike; and both keep the sums, greatest and least over the list of logs.
 
 use dispatcher::proved::{self, LONGEST_REPORT};
-use dispatcher::sample::lent::{pattern, shown};
+use dispatcher::sample::lent::{expect_room, pattern, shown};
 use dispatcher::sample::logs::{school_log, school_times};
 use dispatcher::sample::plan_a::{ENDS_A, PLAN_A};
 use dispatcher::sample::plans::full_plan;
@@ -10,10 +10,10 @@ use dispatcher::sample::tally::Tally;
 use dispatcher::sample::years::{
     any_folder, any_totals, broken_totals, wild_totals, Folder, ALL_ONES,
 };
-use dispatcher::sample::{announced_seed, Rng};
-use dispatcher::values::{refusal, MOST_LOGS};
+use dispatcher::sample::Rng;
+use dispatcher::second::values::{refusal, MOST_LOGS};
 use dispatcher::{add_log, judge_log, read_plan, report_text, run_log, year_text};
-use dispatcher::{Added, Answer, Judged, Plan, Totals};
+use dispatcher::{AddResult, Answer, JudgedLog, Plan, Totals};
 
 const NINE: Answer = Answer::UNSOUND;
 const ONE_TOO_MANY: Answer = refusal(28, 0, 0);
@@ -37,11 +37,11 @@ fn wanted_of_totals(totals: &Totals) -> Answer {
 }
 
 /// Totals that are refused stay, and nothing is found; a log that is refused is counted apart.
-fn check(totals: &Totals, plan: &Plan, log: &[u8], added: &Added) {
+fn check(totals: &Totals, plan: &Plan, log: &[u8], added: &AddResult) {
     assert_eq!(added.answer, wanted_of_totals(totals), "{totals:?}");
     if !added.answer.is_accepted() {
         assert!(added.totals == *totals);
-        assert!(added.judged == Judged::nothing(Answer::ACCEPTED));
+        assert!(added.judged == JudgedLog::nothing(Answer::ACCEPTED));
         return;
     }
     assert!(added.judged == judge_log(plan, log));
@@ -335,7 +335,7 @@ fn ten_thousand_logs_are_added_and_no_more() {
 
 #[test]
 fn reports_are_written_alike() {
-    let mut rng = Rng::new(announced_seed("compare_year, reports"));
+    let mut rng = Rng::announced("compare_year, reports");
     for _ in 0..4_000 {
         for totals in [
             any_totals(&mut rng),
@@ -346,13 +346,6 @@ fn reports_are_written_alike() {
         }
     }
     report_of(&Totals::ZERO);
-}
-
-/// All bytes of a buffer of that length, and of those behind it, after the call.
-fn written_to(totals: &Totals, length: usize) -> (usize, Vec<u8>) {
-    let mut bytes = pattern(length + 64);
-    let written = proved::write_report(totals, true, &mut bytes[..length]);
-    (written, bytes)
 }
 
 #[test]
@@ -366,23 +359,17 @@ fn a_buffer_that_is_too_short_gets_nothing_and_a_longer_one_only_the_report() {
         least: [1_000_000; 8],
     };
     for totals in [Totals::ZERO, largest, ALL_ONES] {
-        for length in [0, 1, 15, LONGEST_REPORT - 1] {
-            assert!(written_to(&totals, length) == (0, pattern(length + 64)));
-        }
         let wanted = report_text(&totals, true);
-        for length in [LONGEST_REPORT, LONGEST_REPORT + 1, 10_000] {
-            let (written, bytes) = written_to(&totals, length);
-            assert_eq!(written, wanted.len());
-            assert!(bytes[..written] == wanted);
-            assert!(bytes[written..] == pattern(length + 64)[written..]);
-        }
+        expect_room(LONGEST_REPORT, &wanted, |out| {
+            proved::write_report(&totals, true, out)
+        });
     }
 }
 
 /// Full mornings, many of them: the second side's totals are the definition's.
 #[test]
 fn a_month_of_full_mornings_comes_to_the_definition() {
-    let mut rng = Rng::new(announced_seed("compare_year, full mornings"));
+    let mut rng = Rng::announced("compare_year, full mornings");
     let mut tally = Tally::new("compare_year, full mornings");
     let plan = full_plan(&mut rng, 64);
     let folders: Vec<Folder> = (0..30)

@@ -1,7 +1,6 @@
 //! What must hold of converted plans, of both dispatchers, on random plans and texts.
 //! Each test prints its seed; set SEED to repeat or try another.
 
-use dispatcher::judge::overlap;
 use dispatcher::proved::{self, CONVERTED_ROOM, LONGEST_LOG};
 use dispatcher::sample::damage::mutated_plan;
 use dispatcher::sample::events::{any_event, ends_text, Event};
@@ -10,10 +9,11 @@ use dispatcher::sample::mornings::random_morning;
 use dispatcher::sample::old_texts::{old_text, second_edition, with_shared_holds};
 use dispatcher::sample::plans::{exclusively_held, random_plan};
 use dispatcher::sample::waiting::either_rule;
-use dispatcher::sample::{announced_seed, Rng};
-use dispatcher::text::plan_text;
-use dispatcher::values::{drive_of, items, made_exclusive, refusal, EDITION_1, EDITION_2};
-use dispatcher::{Answer, Book, Figure, Handed, Plan, Reading, Rule};
+use dispatcher::sample::Rng;
+use dispatcher::second::judge::overlap;
+use dispatcher::second::text::plan_text;
+use dispatcher::second::values::{drive_of, items, made_exclusive, refusal, EDITION_1, EDITION_2};
+use dispatcher::{Answer, Book, BookResult, Figure, Plan, Reading, Rule};
 
 /// One of the two dispatchers.
 struct Side {
@@ -23,9 +23,9 @@ struct Side {
     read_exclusive: fn(&[u8]) -> Reading,
     convert_text: fn(&[u8]) -> Vec<u8>,
     run_log: fn(&[u8], &[u8]) -> Vec<u8>,
-    open_book: fn(&Plan, Rule) -> Handed,
-    report: fn(&Book, u32, u32) -> Handed,
-    drop_task: fn(&Book, u32) -> Handed,
+    open_book: fn(&Plan, Rule) -> BookResult,
+    report: fn(&Book, u32, u32) -> BookResult,
+    drop_task: fn(&Book, u32) -> BookResult,
     minimum_early: fn(&Book) -> Figure,
 }
 
@@ -85,10 +85,6 @@ impl Side {
     }
 }
 
-fn rng_for(test: &str) -> Rng {
-    Rng::new(announced_seed(test))
-}
-
 /// An accepted plan of edition 1, drives shared where it happens so.
 fn old_plan(rng: &mut Rng) -> Plan {
     let mut plans = std::iter::repeat_with(|| random_plan(rng));
@@ -121,7 +117,7 @@ fn refused_with(answer: Answer) -> Reading {
 
 #[test]
 fn without_shared_holds_every_accepted_plan_of_edition_1_converts() {
-    let mut rng = rng_for("without_shared_holds_every_accepted_plan_of_edition_1_converts");
+    let mut rng = Rng::announced("without_shared_holds_every_accepted_plan_of_edition_1_converts");
     for _ in 0..1500 {
         let plan = exclusively_held(&old_plan(&mut rng));
         let wanted = accepted_with(Plan {
@@ -153,7 +149,7 @@ fn first_pair_on_a_drive(plan: &Plan) -> Option<(u32, u32)> {
 
 #[test]
 fn a_plan_converts_exactly_when_no_two_tasks_hold_a_drive_at_once() {
-    let mut rng = rng_for("a_plan_converts_exactly_when_no_two_tasks_hold_a_drive_at_once");
+    let mut rng = Rng::announced("a_plan_converts_exactly_when_no_two_tasks_hold_a_drive_at_once");
     let (mut converted, mut refused) = (0, 0);
     for _ in 0..2000 {
         let plan = old_plan(&mut rng);
@@ -174,7 +170,7 @@ fn a_plan_converts_exactly_when_no_two_tasks_hold_a_drive_at_once() {
 
 #[test]
 fn any_other_plan_is_9_for_the_converter() {
-    let mut rng = rng_for("any_other_plan_is_9_for_the_converter");
+    let mut rng = Rng::announced("any_other_plan_is_9_for_the_converter");
     let unsound = refused_with(Answer::UNSOUND);
     let (mut changed, mut second) = (0, 0);
     for _ in 0..2000 {
@@ -217,7 +213,7 @@ fn rule_that_stays(rng: &mut Rng, plan: &Plan) -> Rule {
 
 #[test]
 fn a_converted_morning_goes_as_the_old_one() {
-    let mut rng = rng_for("a_converted_morning_goes_as_the_old_one");
+    let mut rng = Rng::announced("a_converted_morning_goes_as_the_old_one");
     let mut mornings = 0;
     while mornings < 200 {
         let plan = old_plan(&mut rng);
@@ -255,7 +251,7 @@ fn a_converted_morning_goes_as_the_old_one() {
 
 #[test]
 fn a_converted_plan_gives_the_same_log() {
-    let mut rng = rng_for("a_converted_plan_gives_the_same_log");
+    let mut rng = Rng::announced("a_converted_plan_gives_the_same_log");
     let mut logs = 0;
     for _ in 0..200 {
         let plan = old_plan(&mut rng);
@@ -305,7 +301,7 @@ fn made_exclusive_in(text: &[u8]) -> Vec<u8> {
 
 #[test]
 fn the_second_call_reads_the_text_with_s_made_e() {
-    let mut rng = rng_for("the_second_call_reads_the_text_with_s_made_e");
+    let mut rng = Rng::announced("the_second_call_reads_the_text_with_s_made_e");
     let (mut without, mut with, mut read) = (0, 0, 0);
     for _ in 0..6000 {
         let plan = random_plan(&mut rng);
@@ -332,7 +328,7 @@ fn the_second_call_reads_the_text_with_s_made_e() {
 
 #[test]
 fn what_is_printed_reads_back_and_stays() {
-    let mut rng = rng_for("what_is_printed_reads_back_and_stays");
+    let mut rng = Rng::announced("what_is_printed_reads_back_and_stays");
     let (mut first, mut second, mut refused) = (0, 0, 0);
     for _ in 0..3000 {
         let plan = random_plan(&mut rng);
@@ -358,7 +354,7 @@ fn what_is_printed_reads_back_and_stays() {
 
 #[test]
 fn what_is_printed_is_by_the_call_of_its_edition() {
-    let mut rng = rng_for("what_is_printed_is_by_the_call_of_its_edition");
+    let mut rng = Rng::announced("what_is_printed_is_by_the_call_of_its_edition");
     for _ in 0..3000 {
         let plan = random_plan(&mut rng);
         let text = old_text(&mut rng, &plan);

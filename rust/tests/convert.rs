@@ -1,16 +1,13 @@
 //! The built program `convert` on folders of plans, and the examples for a class: what
 //! is typed there is what the program and the second dispatcher print.
 
-use dispatcher::sample::plan_a::PLAN_A;
+use crate::folders::plan_folder;
 use dispatcher::sample::plans::{exclusively_held, full_plan};
-use dispatcher::sample::program::{
-    at_root, contents, empty_folder, entries_below, expect_printed, expect_said, make_unreadable,
-    program_in,
-};
-use dispatcher::sample::{announced_seed, Rng};
-use dispatcher::text::plan_text;
+use dispatcher::sample::program::{at_root, contents, entries_below, expect_printed, program_in};
+use dispatcher::sample::Rng;
+use dispatcher::second::text::plan_text;
 use dispatcher::{convert_text, run_log};
-use std::fs::{self, File};
+use std::fs;
 use std::path::{Path, PathBuf};
 use std::process::Command;
 
@@ -68,49 +65,12 @@ fn the_refused_plan_is_the_old_plan_but_for_task_6() {
     assert_eq!(mended[6], "task\t6\t2\t12\t16\ts2\t4");
 }
 
-fn folder_of(name: &str, plan: &[u8]) -> PathBuf {
-    let folder = empty_folder(env!("CARGO_TARGET_TMPDIR"), name);
-    fs::write(folder.join("plan.txt"), plan).unwrap();
-    folder
-}
-
 #[test]
 fn plans_of_sixty_four_tasks_are_printed_whole() {
-    let full = full_plan(&mut Rng::new(announced_seed("convert")), 64);
+    let full = full_plan(&mut Rng::announced("convert"), 64);
     for (name, plan) in [("shared", full), ("exclusive", exclusively_held(&full))] {
         let text = plan_text(&plan);
-        let folder = folder_of(&format!("convert-{name}"), &text);
+        let folder = plan_folder(&format!("convert-{name}"), &text);
         expect_printed(convert_in(&folder), &convert_text(&text));
     }
-}
-
-#[test]
-fn a_text_of_the_greatest_length_is_read_and_a_longer_one_is_not() {
-    let mut text = PLAN_A.to_vec();
-    text.resize(32_768, b'\n');
-    let folder = folder_of("convert-32768", &text);
-    expect_printed(convert_in(&folder), b"refused\t5\t7\t0\n");
-    text.push(b'\n');
-    let folder = folder_of("convert-32769", &text);
-    expect_printed(convert_in(&folder), b"refused\t1\t0\t0\n");
-    let large = File::create(folder.join("plan.txt")).unwrap();
-    large.set_len(50_000_000).unwrap();
-    expect_printed(convert_in(&folder), b"refused\t1\t0\t0\n");
-}
-
-#[test]
-fn a_plan_that_cannot_be_read_is_named_and_nothing_printed() {
-    let folder = folder_of("convert-unreadable", PLAN_A);
-    make_unreadable(&folder, "plan.txt");
-    let output = convert_in(&folder).output().unwrap();
-    assert_eq!(output.stdout, b"");
-    expect_said(&output.stderr, "plan.txt");
-}
-
-#[test]
-fn a_text_that_cannot_be_written_is_said() {
-    let folder = folder_of("convert-full-device", PLAN_A);
-    let full = File::options().write(true).open("/dev/full").unwrap();
-    let output = convert_in(&folder).stdout(full).output().unwrap();
-    expect_said(&output.stderr, "standard output");
 }

@@ -1,34 +1,25 @@
 //! The desk line by line: dialogues typed from the rules, and whole mornings beside the second desk.
 
-use dispatcher::desk::{Reply, Start};
+use crate::folders::plan_folder;
 use dispatcher::run_log;
-use dispatcher::sample::desk_lines::{any_line, any_question, next_step};
+use dispatcher::sample::desk_lines::{any_line, any_question, next_step, opened};
 use dispatcher::sample::events::rule_line;
+use dispatcher::sample::lent::text;
 use dispatcher::sample::live::{
     answers_in, desk_command, desk_program, folder_with, quick_place, Live,
 };
 use dispatcher::sample::plan_a::{ENDS_A, PLAN_A};
-use dispatcher::sample::plans::{full_plan, in_either_edition};
+use dispatcher::sample::plans::full_plan_of_either;
 use dispatcher::sample::program::{contents, empty_folder};
 use dispatcher::sample::tally::Tally;
 use dispatcher::sample::Rng;
-use dispatcher::text::plan_text;
+use dispatcher::second::desk::Reply;
+use dispatcher::second::text::plan_text;
 use dispatcher::{Desk, Rule};
 use std::fs;
-use std::path::{Path, PathBuf};
+use std::path::Path;
 
 const MORNINGS: u32 = 100;
-
-fn folder_of(name: &str, plan: &[u8]) -> PathBuf {
-    folder_with(empty_folder(env!("CARGO_TARGET_TMPDIR"), name), plan)
-}
-
-fn opened(plan: &[u8], ends: &[u8]) -> (Vec<u8>, Desk) {
-    match Desk::start(plan, ends) {
-        Start::Open(log, desk) => (log, *desk),
-        _ => panic!("the desk does not open"),
-    }
-}
 
 /// A line, its answer and whether it is kept, typed with blanks for tabs and `|` between lines.
 type Told = (&'static str, &'static str, bool);
@@ -46,7 +37,7 @@ fn as_line(typed: &str) -> Vec<u8> {
 
 /// The second desk and the program answer as it is typed, and `ends.txt` has the kept lines.
 fn check(name: &str, plan: &[u8], opening: &str, told: &[Told]) {
-    let folder = folder_of(name, plan);
+    let folder = plan_folder(name, plan);
     let mut live = Live::start(desk_program(&folder));
     let (log, mut desk) = opened(plan, b"");
     assert_eq!(text(&log), text(&as_line(opening)));
@@ -68,10 +59,6 @@ fn check(name: &str, plan: &[u8], opening: &str, told: &[Told]) {
         assert_eq!(contents(&folder.join("ends.txt")), kept, "{line}");
     }
     expect_quiet_end(live);
-}
-
-fn text(bytes: &[u8]) -> &str {
-    std::str::from_utf8(bytes).unwrap()
 }
 
 fn expect_quiet_end(live: Live) {
@@ -247,7 +234,7 @@ fn slips_are_answered_as_typed_from_the_rules() {
 /// Up to 64 bytes a line is read; a longer one is 3 at column 65, whatever it holds, and answered once.
 #[test]
 fn a_long_line_is_answered_once() {
-    let folder = folder_of("desk-long", PLAN_A);
+    let folder = plan_folder("desk-long", PLAN_A);
     let mut live = Live::start(desk_program(&folder));
     live.answer();
     let digits = |many: usize| [b"why\t".to_vec(), b"1".repeat(many), b"\n".to_vec()].concat();
@@ -288,7 +275,7 @@ fn a_last_line_without_lf_is_refused() {
     .into_iter()
     .enumerate()
     {
-        let folder = folder_of(&format!("desk-no-lf-{k}"), PLAN_A);
+        let folder = plan_folder(&format!("desk-no-lf-{k}"), PLAN_A);
         let mut live = Live::start(desk_program(&folder));
         live.answer();
         live.ask(b"early\n");
@@ -304,7 +291,7 @@ fn a_last_line_without_lf_is_refused() {
 /// Where the pieces of a line come one by one, it is one line; where lines come together, each is answered.
 #[test]
 fn lines_are_told_apart_by_their_lf_alone() {
-    let folder = folder_of("desk-pieces", PLAN_A);
+    let folder = plan_folder("desk-pieces", PLAN_A);
     let mut live = Live::start(desk_program(&folder));
     live.answer();
     for byte in b"end\t2\t3" {
@@ -377,8 +364,7 @@ fn compare_mornings(rule: Rule, title: &'static str) {
     let (mut rng, mut tally) = Tally::seeded(title);
     let place = quick_place(env!("CARGO_TARGET_TMPDIR"));
     for round in 0..MORNINGS {
-        let plan = full_plan(&mut rng, 64);
-        let plan = plan_text(&in_either_edition(&mut rng, &plan));
+        let plan = plan_text(&full_plan_of_either(&mut rng, 64));
         let folder = folder_with(empty_folder(&place, &format!("{title}-{round}")), &plan);
         compare_morning(&mut rng, &mut tally, &folder, &plan, rule);
         fs::remove_dir_all(folder).unwrap();
@@ -400,7 +386,7 @@ fn a_hundred_mornings_by_the_clash_rule_are_answered_as_by_the_second_desk() {
 /// Ends and drops, refused by the book or not, come to the log that `runlog` prints of them.
 #[test]
 fn without_ends_the_desk_prints_the_log_of_its_lines() {
-    let folder = folder_of("desk-as-runlog", PLAN_A);
+    let folder = plan_folder("desk-as-runlog", PLAN_A);
     let lines = [b"drop\t0\nend\t9\t1\n", ENDS_A, b"end\t1\t5\n"].concat();
     let mut live = Live::start(desk_command(&folder));
     live.hand(&lines);

@@ -1,17 +1,18 @@
 //! Mornings at the desk that are broken off again and again, by SIGKILL and by a disk that is full: nothing that was
 //! answered is lost, and of what was not answered at most the line in flight is kept.
 
-use dispatcher::desk::{Reply, Start};
+use crate::folders::plan_folder;
 use dispatcher::run_log;
-use dispatcher::sample::desk_lines::{any_line, next_step};
+use dispatcher::sample::desk_lines::{any_line, next_step, opened};
 use dispatcher::sample::events::rule_line;
-use dispatcher::sample::live::{desk_command, desk_program, folder_with, Left, Live};
-use dispatcher::sample::plans::{full_plan, in_either_edition};
-use dispatcher::sample::program::{contents, empty_folder, expect_said};
+use dispatcher::sample::live::{desk_command, desk_program, Left, Live};
+use dispatcher::sample::plans::full_plan_of_either;
+use dispatcher::sample::program::{contents, expect_said, on_full_disk};
 use dispatcher::sample::tally::say;
 use dispatcher::sample::waiting::either_rule;
-use dispatcher::sample::{announced_seed, Rng};
-use dispatcher::text::plan_text;
+use dispatcher::sample::Rng;
+use dispatcher::second::desk::Reply;
+use dispatcher::second::text::plan_text;
 use dispatcher::Desk;
 use std::path::{Path, PathBuf};
 use std::process::Command;
@@ -58,11 +59,9 @@ impl Morning {
     /// Another plan, in a folder of its own.
     fn begin(&mut self, rng: &mut Rng) {
         self.many += 1;
-        let plan = full_plan(rng, 64);
-        self.plan = plan_text(&in_either_edition(rng, &plan));
+        self.plan = plan_text(&full_plan_of_either(rng, 64));
         let name = format!("{}-{}", self.title, self.many);
-        let folder = empty_folder(env!("CARGO_TARGET_TMPDIR"), &name);
-        self.folder = folder_with(folder, &self.plan);
+        self.folder = plan_folder(&name, &self.plan);
         self.kept.clear();
         self.in_flight.clear();
     }
@@ -128,9 +127,7 @@ impl Morning {
 
 /// Some of the lines that are left of a morning whose kept lines are these, with questions and slips among them.
 fn rest_of_morning(rng: &mut Rng, plan: &[u8], kept: &[u8]) -> Vec<Line> {
-    let Start::Open(_, mut desk) = Desk::start(plan, kept) else {
-        panic!("the desk does not open");
-    };
+    let (_, mut desk) = opened(plan, kept);
     let mut taken = Vec::new();
     let mut take = |desk: &mut Desk, line: &[u8]| {
         if !line.is_empty() {
@@ -161,7 +158,7 @@ fn text_of(lines: &[Line]) -> Vec<u8> {
 /// Kills a desk that has its lines before it, again and again: mostly some milliseconds after it began to print, and of
 /// five times once at any moment of its first milliseconds. Answers how often a line was in flight.
 fn kill_often(title: &'static str, way: Way, kills: u32, longest_start: u32) -> u32 {
-    let mut rng = Rng::new(announced_seed(title));
+    let mut rng = Rng::announced(title);
     let mut morning = Morning::new(&mut rng, title, way);
     let (mut in_flight, mut kept, mut cut) = (0, 0, 0);
     for round in 0..kills {
@@ -205,20 +202,6 @@ fn a_killed_command_has_lost_nothing() {
     );
 }
 
-/// The desk as on a disk that takes so many bytes of a file.
-fn on_full_disk(command: &Command, bytes: usize) -> Command {
-    let mut limited = Command::new("bash");
-    let line = "trap '' XFSZ; limit=$0; exec prlimit --fsize=\"$limit\" \"$@\"";
-    limited
-        .args(["-c", line, &bytes.to_string()])
-        .arg(command.get_program())
-        .args(command.get_args());
-    if let Some(folder) = command.get_current_dir() {
-        limited.current_dir(folder);
-    }
-    limited
-}
-
 /// Runs a desk until the disk is full, and answers what was left; nothing more is handed over.
 fn fill_disk(rng: &mut Rng, morning: &mut Morning) -> Left {
     let lines = morning.lines(rng);
@@ -240,7 +223,7 @@ fn fill_disk(rng: &mut Rng, morning: &mut Morning) -> Left {
 
 #[test]
 fn a_full_disk_ends_the_desk_and_loses_nothing() {
-    let mut rng = Rng::new(announced_seed("full disks"));
+    let mut rng = Rng::announced("full disks");
     let mut morning = Morning::new(&mut rng, "desk-full", desk_program);
     let mut cut = 0;
     for _ in 0..FULL_DISKS {
@@ -258,7 +241,7 @@ fn a_full_disk_ends_the_desk_and_loses_nothing() {
 
 #[test]
 fn the_command_says_that_the_disk_is_full() {
-    let mut rng = Rng::new(announced_seed("the command and a full disk"));
+    let mut rng = Rng::announced("the command and a full disk");
     let mut morning = Morning::new(&mut rng, "desk-full-command", desk_command);
     for _ in 0..2 {
         let left = fill_disk(&mut rng, &mut morning);

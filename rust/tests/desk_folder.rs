@@ -1,32 +1,21 @@
 //! The desk and its folder: what it starts with, what it keeps, how it fails and who else is there.
 
+use crate::folders::{folder_of, new_folder, plan_folder};
 use dispatcher::run_log;
-use dispatcher::sample::live::{answers_in, desk_command, desk_program, folder_with, Left, Live};
-use dispatcher::sample::plan_a::{ENDS_A, PLAN_A};
-use dispatcher::sample::program::{
-    at_root, comes_true, empty_folder, expect_said, make_unreadable, without_rights,
-};
+use dispatcher::sample::lent::text;
+use dispatcher::sample::live::{answers_in, desk_command, desk_program, Left, Live};
+use dispatcher::sample::plan_a::{ENDS_A, OPENING_A, PLAN_A};
+use dispatcher::sample::program::{at_root, comes_true, expect_said, on_full_disk, without_rights};
 use std::fs;
 use std::os::unix::fs::PermissionsExt;
 use std::path::{Path, PathBuf};
 use std::process::Command;
 
-const OPENING_A: &str = "run\t1\t2\t5\nstart\t1\t1\t0\t0\nstart\t2\t2\t0\t0\nearly\t0\t0\n";
 const CUT_OFF: &str =
     "note: what followed the last LF of ends.txt was never answered, and is cut off\n";
 
-fn folder_of(name: &str, plan: &[u8]) -> PathBuf {
-    folder_with(empty_folder(env!("CARGO_TARGET_TMPDIR"), name), plan)
-}
-
 fn folder_with_ends(name: &str, plan: &[u8], ends: &[u8]) -> PathBuf {
-    let folder = folder_of(name, plan);
-    fs::write(folder.join("ends.txt"), ends).unwrap();
-    folder
-}
-
-fn text(bytes: &[u8]) -> &str {
-    std::str::from_utf8(bytes).unwrap()
+    folder_of(name, &[("plan.txt", plan), ("ends.txt", ends)])
 }
 
 /// All that a desk leaves to whom these lines are handed, and then the end of input.
@@ -51,7 +40,7 @@ fn expect_failed(left: &Left, printed: &[u8], name: &str) {
 
 #[test]
 fn a_started_desk_goes_on_where_it_stopped() {
-    let folder = folder_of("desk-goes-on", PLAN_A);
+    let folder = plan_folder("desk-goes-on", PLAN_A);
     let log = run_log(PLAN_A, ENDS_A);
     let mut kept = Vec::new();
     for line in ENDS_A.split_inclusive(|&byte| byte == b'\n') {
@@ -90,7 +79,7 @@ fn a_refused_plan_ends_the_desk() {
             assert!(fs::read(folder.join("ends.txt")).unwrap() == ends);
         }
     }
-    let folder = empty_folder(env!("CARGO_TARGET_TMPDIR"), "desk-no-plan");
+    let folder = new_folder("desk-no-plan");
     let left = session(desk_command(&folder), b"early\n");
     expect_left(&left, b"refused\t2\t1\t0\n", "", 0);
     assert_eq!(fs::read_dir(folder).unwrap().count(), 0);
@@ -174,23 +163,6 @@ fn a_rule_is_taken_where_only_a_torn_line_stood() {
     assert_eq!(fs::read(folder.join("ends.txt")).unwrap(), b"rule\tclash\n");
 }
 
-/// 1 is asked of the whole file, before it is looked into.
-#[test]
-fn ends_that_are_too_long_are_left_alone() {
-    for (k, last) in [b"\n".as_slice(), b"x", b"end\t1\t4\n"]
-        .into_iter()
-        .enumerate()
-    {
-        let mut ends = b"end\t0\t0\n".repeat(4_096);
-        ends.extend_from_slice(last);
-        let folder = folder_with_ends(&format!("desk-long-ends-{k}"), PLAN_A, &ends);
-        let left = session(desk_program(&folder), b"early\n");
-        assert_eq!(text(&left.printed), "refused\t1\t0\t0\n");
-        expect_said(left.said.as_bytes(), "ends.txt");
-        assert!(fs::read(folder.join("ends.txt")).unwrap() == ends);
-    }
-}
-
 /// A line that would take `ends.txt` past 32,768 bytes is refused by 1; one that just fits is kept.
 #[test]
 fn a_line_that_no_longer_fits_is_refused() {
@@ -231,20 +203,10 @@ fn a_line_that_no_longer_fits_is_refused() {
     }
 }
 
-#[test]
-fn files_that_cannot_be_read_are_named() {
-    for name in ["plan.txt", "ends.txt"] {
-        let folder = folder_with_ends(&format!("desk-unread-{name}"), PLAN_A, ENDS_A);
-        make_unreadable(&folder, name);
-        let left = session(desk_command(&folder), b"early\n");
-        expect_failed(&left, b"", &format!("desk: {name}"));
-    }
-}
-
 /// Questions need no file; the first line that is to be kept cannot be, is not answered, and ends the desk.
 #[test]
 fn a_folder_that_may_not_be_written_answers_questions() {
-    let folder = folder_of("desk-read-only", PLAN_A);
+    let folder = plan_folder("desk-read-only", PLAN_A);
     fs::set_permissions(&folder, fs::Permissions::from_mode(0o555)).unwrap();
     let command = at_root("desk");
     let command = || without_rights(&command, &[folder.to_str().unwrap()]);
@@ -297,7 +259,7 @@ fn expect_second(left: &Left) {
 
 #[test]
 fn a_second_desk_says_that_another_is_open() {
-    let folder = folder_of("desk-two", PLAN_A);
+    let folder = plan_folder("desk-two", PLAN_A);
     let mut first = Live::start(desk_command(&folder));
     assert_eq!(text(&first.answer()), OPENING_A);
     let second = session(desk_command(&folder), b"end\t1\t4\n");
@@ -331,7 +293,7 @@ fn processes_in(folder: &Path) -> Vec<PathBuf> {
 #[test]
 fn no_process_outlives_the_command() {
     for signal in ["KILL", "TERM", "HUP"] {
-        let folder = folder_of(&format!("desk-signal-{signal}"), PLAN_A);
+        let folder = plan_folder(&format!("desk-signal-{signal}"), PLAN_A);
         let mut live = Live::start(desk_command(&folder));
         live.answer();
         live.ask(b"end\t2\t3\n");
@@ -355,7 +317,7 @@ fn no_process_outlives_the_command() {
 /// A reader that goes away has what it wanted, as of the other commands.
 #[test]
 fn a_reader_that_goes_away_is_no_failure() {
-    let folder = folder_of("desk-no-reader", PLAN_A);
+    let folder = plan_folder("desk-no-reader", PLAN_A);
     let lines = "for k in 1 2 3 4 5 6 7 8 9; do echo early; sleep 0.05; done";
     let line = format!("({lines}) | \"$0\" \"$1\" | head -n 1; exit ${{PIPESTATUS[1]}}");
     let output = Command::new("bash")
@@ -372,7 +334,7 @@ fn a_reader_that_goes_away_is_no_failure() {
 /// A folder in the place of standard input is there, and cannot be read.
 #[test]
 fn input_that_cannot_be_read_is_said() {
-    let folder = folder_of("desk-unread-input", PLAN_A);
+    let folder = plan_folder("desk-unread-input", PLAN_A);
     let input = || fs::File::open(&folder).unwrap();
     let output = desk_program(&folder).stdin(input()).output().unwrap();
     assert_eq!(text(&output.stdout), OPENING_A);
@@ -384,45 +346,29 @@ fn input_that_cannot_be_read_is_said() {
 
 /// What was kept stays kept where its answer cannot be written: the next start shows it.
 #[test]
-fn output_that_cannot_be_written_is_said() {
+fn a_line_is_kept_where_its_answer_cannot_be_written() {
     let folder = folder_with_ends("desk-full-output", PLAN_A, b"end\t2\t3\n");
-    let full = fs::File::options().write(true).open("/dev/full").unwrap();
-    let output = desk_command(&folder).stdout(full).output().unwrap();
-    expect_said(&output.stderr, "desk: standard output");
-    assert_eq!(output.status.code(), Some(2));
-
     // A file that takes the opening and a few bytes more.
     let room = run_log(PLAN_A, b"end\t2\t3\n").len() + 5;
     let lines = folder.join("lines");
     fs::write(&lines, "end\t1\t4\nearly\n").unwrap();
     let answers = folder.join("answers");
-    let program = desk_program(&folder);
-    let mut limited = Command::new("bash");
-    limited
-        .args([
-            "-c",
-            "trap '' XFSZ; exec prlimit --fsize=\"$0\" \"$@\"",
-            &room.to_string(),
-        ])
-        .arg(program.get_program())
-        .args(program.get_args())
-        .current_dir(&folder)
+    let output = on_full_disk(&desk_program(&folder), room)
         .stdin(fs::File::open(&lines).unwrap())
-        .stdout(fs::File::create(&answers).unwrap());
-    expect_said(&limited.output().unwrap().stderr, "standard output");
+        .stdout(fs::File::create(&answers).unwrap())
+        .output();
+    expect_said(&output.unwrap().stderr, "standard output");
     assert_eq!(fs::read(&answers).unwrap().len(), room);
     let kept = fs::read(folder.join("ends.txt")).unwrap();
     assert_eq!(text(&kept), "end\t2\t3\nend\t1\t4\n");
 }
 
 #[test]
-fn closed_input_and_no_folder_are_said() {
-    let folder = folder_of("desk-closed", PLAN_A);
+fn closed_input_and_no_word_are_said() {
+    let folder = plan_folder("desk-closed", PLAN_A);
     for (line, why) in [
         ("\"$0\" \"$1\" <&-", "standard input is closed"),
-        ("\"$0\" \"$1\" >&-", "standard output is closed"),
         ("\"$0\"", "no folder is named"),
-        ("\"$0\" \"$1/plan.txt\"", "is no folder"),
     ] {
         let output = Command::new("bash")
             .args(["-c", line])
@@ -488,7 +434,7 @@ fn expect_kept_first(calls: &[String], bytes: usize) {
 /// The disk has the line before its reader has the answer; at the first line kept it has the folder's new entry too.
 #[test]
 fn a_line_is_on_the_disk_before_it_is_answered() {
-    let folder = folder_of("desk-traced", PLAN_A);
+    let folder = plan_folder("desk-traced", PLAN_A);
     let calls = calls_over(&folder, b"early\nend\t2\t3\nend\t1\t99\nend\t1\t4\n");
     let is_answer = |call: &String| call.starts_with("write 1 ");
     let mut answers: Vec<&[String]> = calls.split_inclusive(is_answer).collect();

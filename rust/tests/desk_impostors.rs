@@ -1,7 +1,7 @@
 //! Desks that are nearly right: each is told from the right one by a short dialogue on plan A, by what it prints or by
 //! what a kill leaves behind.
 
-use dispatcher::desk::Start;
+use dispatcher::sample::desk_lines::opened;
 use dispatcher::sample::plan_a::PLAN_A;
 use dispatcher::{run_log, Desk};
 
@@ -70,16 +70,9 @@ fn counts_twice(desk: &mut Desk, line: &[u8]) -> Vec<Does> {
     does
 }
 
-fn opened() -> Desk {
-    match Desk::start(PLAN_A, b"") {
-        Start::Open(_, desk) => *desk,
-        _ => panic!("plan A is accepted"),
-    }
-}
-
 /// All that the desk prints for these lines, typed with blanks for tabs.
 fn printed(takes: Takes, lines: &[&str]) -> String {
-    let mut desk = opened();
+    let (_, mut desk) = opened(PLAN_A, b"");
     let mut printed = Vec::new();
     for line in lines {
         for does in takes(&mut desk, line.replace(' ', "\t").as_bytes()) {
@@ -93,7 +86,8 @@ fn printed(takes: Takes, lines: &[&str]) -> String {
 
 /// Whether after a kill at any moment the log of the folder is that of the lines answered, or of these and the one in flight.
 fn survives_kills(takes: Takes, lines: &[&str]) -> bool {
-    let (mut desk, mut judge) = (opened(), opened());
+    let (_, mut desk) = opened(PLAN_A, b"");
+    let mut judge = desk.clone();
     let (mut ends, mut answered) = (Vec::new(), Vec::new());
     for line in lines {
         let line = line.replace(' ', "\t");

@@ -1,25 +1,17 @@
 //! The desk at a terminal: a prompt, blanks for tabs, `help`, and keys that end a line or the desk.
 
-use dispatcher::sample::live::folder_with;
-use dispatcher::sample::plan_a::PLAN_A;
-use dispatcher::sample::program::{at_root, empty_folder};
+use crate::folders::plan_folder;
+use dispatcher::sample::plan_a::{OPENING_A, PLAN_A};
+use dispatcher::sample::program::{at_root, on_terminal};
 use std::fs;
-use std::path::{Path, PathBuf};
+use std::path::Path;
 use std::process::{Command, Output};
-
-fn folder_of(name: &str, plan: &[u8]) -> PathBuf {
-    folder_with(empty_folder(env!("CARGO_TARGET_TMPDIR"), name), plan)
-}
 
 /// What is shown where at each prompt the next of these keys are pressed.
 fn at_terminal(folder: &Path, keys: &[&str]) -> Output {
-    let mut command = Command::new("python3");
-    command.arg(at_root("rust/tests/on_terminal.py"));
-    for keys in keys {
-        command.args(["desk> $", keys]);
-    }
-    let command = command.arg("--").arg(at_root("desk")).arg(folder);
-    command.env("TERM", "dumb").output().unwrap()
+    let steps: Vec<&str> = keys.iter().flat_map(|keys| ["desk> $", keys]).collect();
+    let mut command = on_terminal(&steps, &at_root("desk"));
+    command.arg(folder).env("TERM", "dumb").output().unwrap()
 }
 
 fn shown(output: &Output) -> String {
@@ -28,12 +20,10 @@ fn shown(output: &Output) -> String {
     shown.replace("\r\n", "\n")
 }
 
-const OPENING_A: &str = "run\t1\t2\t5\nstart\t1\t1\t0\t0\nstart\t2\t2\t0\t0\nearly\t0\t0\n";
-
 /// Each answer is shown before the next prompt, and the next keys are pressed only there.
 #[test]
 fn a_dialogue_at_a_terminal() {
-    let folder = folder_of("desk-terminal", PLAN_A);
+    let folder = plan_folder("desk-terminal", PLAN_A);
     let output = at_terminal(
         &folder,
         &[
@@ -71,7 +61,7 @@ desk> \n"
 /// Every line in is listed, and the list is no line of the desk's: the next slip is its first line.
 #[test]
 fn help_lists_the_lines() {
-    let folder = folder_of("desk-help", PLAN_A);
+    let folder = plan_folder("desk-help", PLAN_A);
     let output = at_terminal(&folder, &["help\r", "help me\r", "\x04"]);
     let shown = shown(&output);
     let (list, slip) = shown.split_once("desk> help me\n").unwrap();
@@ -87,7 +77,7 @@ fn help_lists_the_lines() {
 /// Ctrl-C gives up the line, not the desk; Ctrl-D ends it.
 #[test]
 fn ctrl_c_gives_up_a_line() {
-    let folder = folder_of("desk-ctrl-c", PLAN_A);
+    let folder = plan_folder("desk-ctrl-c", PLAN_A);
     let output = at_terminal(&folder, &["\x03", "end 2 3\r", "\x03", "early\r", "\x04"]);
     let shown = shown(&output);
     assert!(
@@ -100,7 +90,7 @@ fn ctrl_c_gives_up_a_line() {
 /// Whatever the moment: the keys are pressed as soon as the prompt shows, when the desk does not wait for keys yet.
 #[test]
 fn ctrl_c_is_seen_the_moment_the_prompt_shows() {
-    let folder = folder_of("desk-ctrl-c-often", PLAN_A);
+    let folder = plan_folder("desk-ctrl-c-often", PLAN_A);
     let mut keys = vec!["\x03"; 100];
     keys.extend(["early\r", "\x04"]);
     let output = at_terminal(&folder, &keys);
@@ -113,7 +103,7 @@ fn ctrl_c_is_seen_the_moment_the_prompt_shows() {
 /// The one moment that keys cannot be pressed at: the prompt is written, and nobody waits for keys yet.
 #[test]
 fn ctrl_c_between_prompt_and_keys_is_seen() {
-    let folder = folder_of("desk-ctrl-c-between", PLAN_A);
+    let folder = plan_folder("desk-ctrl-c-between", PLAN_A);
     let mut command = Command::new("python3");
     let command = command
         .arg(at_root("rust/tests/interrupted.py"))
@@ -143,7 +133,7 @@ fn the_prompt_follows_the_whole_log() {
     .into_iter()
     .enumerate()
     {
-        let folder = folder_of(&format!("desk-prompt-{k}"), PLAN_A);
+        let folder = plan_folder(&format!("desk-prompt-{k}"), PLAN_A);
         fs::write(folder.join("ends.txt"), ends).unwrap();
         let output = at_terminal(&folder, &["early\r", "\x04"]);
         assert_eq!(
@@ -156,12 +146,12 @@ fn the_prompt_follows_the_whole_log() {
 /// A desk that does not open asks nothing.
 #[test]
 fn a_desk_that_fails_shows_why_and_no_prompt() {
-    let folder = folder_of("desk-terminal-refused", b"plan\t1\t1\t0\n");
+    let folder = plan_folder("desk-terminal-refused", b"plan\t1\t1\t0\n");
     let output = at_terminal(&folder, &[]);
     assert_eq!(shown(&output), "refused\t2\t1\t0\n");
     assert_eq!(output.status.code(), Some(0));
 
-    let folder = folder_of("desk-terminal-stops", PLAN_A);
+    let folder = plan_folder("desk-terminal-stops", PLAN_A);
     fs::write(folder.join("ends.txt"), "foo\n").unwrap();
     let output = at_terminal(&folder, &[]);
     let said = "desk: ends.txt: runlog stops in it; nothing was changed\n";
@@ -173,10 +163,11 @@ fn a_desk_that_fails_shows_why_and_no_prompt() {
 /// What the program says is shown behind the log or the line that it belongs to, and never beside a prompt.
 #[test]
 fn what_is_said_stands_on_lines_of_its_own() {
-    let folder = folder_of("desk-terminal-torn", PLAN_A);
+    let folder = plan_folder("desk-terminal-torn", PLAN_A);
     fs::write(folder.join("ends.txt"), "end\t9\t9\nend\t2").unwrap();
     let output = at_terminal(&folder, &["early\r", "\x04"]);
-    let note = "desk: note: what followed the last LF of ends.txt was never answered, and is cut off\n";
+    let note =
+        "desk: note: what followed the last LF of ends.txt was never answered, and is cut off\n";
     let log = format!("{OPENING_A}refused\t10\t9\t9\n{note}");
     let dialogue = format!("{log}desk> early\nearly\t0\t0\ndesk> \n");
     assert_eq!(shown(&output), dialogue);
@@ -186,7 +177,7 @@ fn what_is_said_stands_on_lines_of_its_own() {
 /// A line that cannot be kept is not answered; why is said, and the desk ends.
 #[test]
 fn a_line_that_cannot_be_kept_ends_the_desk_at_a_terminal() {
-    let folder = folder_of("desk-terminal-unkept", PLAN_A);
+    let folder = plan_folder("desk-terminal-unkept", PLAN_A);
     let link = folder.join("ends.txt");
     std::os::unix::fs::symlink("nowhere/ends.txt", &link).unwrap();
     let output = at_terminal(&folder, &["early\r", "end 2 3\r"]);
@@ -212,7 +203,7 @@ fn the_dialogues_of_the_documents_are_true() {
         .into_iter()
         .enumerate()
     {
-        let folder = folder_of(&format!("desk-document-{k}"), PLAN_A);
+        let folder = plan_folder(&format!("desk-document-{k}"), PLAN_A);
         let dialogues = dialogues_in(document);
         assert_eq!(dialogues.len(), many, "{document}");
         for dialogue in dialogues {

@@ -4,7 +4,7 @@
 use dispatcher::sample::events::rule_line;
 use dispatcher::sample::every_book::CHAIN;
 use dispatcher::sample::plan_a::PLAN_A;
-use dispatcher::values::{refusal, ENDED, RUNNING, WAITING};
+use dispatcher::second::values::{refusal, ENDED, RUNNING, WAITING};
 use dispatcher::{
     drop_task, minimum_early, open_book, read_plan, report, run_log, sound, Answer, Book, Rule,
 };

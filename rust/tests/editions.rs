@@ -6,15 +6,11 @@ use dispatcher::sample::mornings::random_morning;
 use dispatcher::sample::plans::{exclusively_held, first_edition, random_plan, with_ready_ticks};
 use dispatcher::sample::reports::running_tasks;
 use dispatcher::sample::waiting::{awaited, either_rule};
-use dispatcher::sample::{announced_seed, Rng};
-use dispatcher::text::plan_text;
-use dispatcher::values::{refusal, DROPPED, EDITION_2, WAITING};
+use dispatcher::sample::Rng;
+use dispatcher::second::text::plan_text;
+use dispatcher::second::values::{refusal, DROPPED, EDITION_2, WAITING};
 use dispatcher::{accepted, drop_task, minimum_early, open_book, read_plan, report, run_log};
 use dispatcher::{Book, Plan};
-
-fn rng_for(test: &str) -> Rng {
-    Rng::new(announced_seed(test))
-}
 
 /// A random plan with ready ticks.
 fn awaited_plan(rng: &mut Rng) -> Plan {
@@ -40,7 +36,7 @@ fn in_edition_2(book: &Book) -> Book {
 
 #[test]
 fn edition_2_with_nobody_awaiting_a_class_runs_as_edition_1() {
-    let mut rng = rng_for("edition_2_with_nobody_awaiting_a_class_runs_as_edition_1");
+    let mut rng = Rng::announced("edition_2_with_nobody_awaiting_a_class_runs_as_edition_1");
     for _ in 0..400 {
         let plan = exclusively_held(&first_edition(&random_plan(&mut rng)));
         let second = Plan {
@@ -66,7 +62,7 @@ fn edition_2_with_nobody_awaiting_a_class_runs_as_edition_1() {
 
 #[test]
 fn the_figure_of_edition_1_is_the_least_over_the_running_tasks() {
-    let mut rng = rng_for("the_figure_of_edition_1_is_the_least_over_the_running_tasks");
+    let mut rng = Rng::announced("the_figure_of_edition_1_is_the_least_over_the_running_tasks");
     let mut early = 0;
     for _ in 0..400 {
         let plan = first_edition(&random_plan(&mut rng));
@@ -85,7 +81,7 @@ fn the_figure_of_edition_1_is_the_least_over_the_running_tasks() {
 
 #[test]
 fn nobody_starts_before_its_ready_tick_unless_dropped() {
-    let mut rng = rng_for("nobody_starts_before_its_ready_tick_unless_dropped");
+    let mut rng = Rng::announced("nobody_starts_before_its_ready_tick_unless_dropped");
     let (mut on_the_tick, mut later, mut passed_before) = (0, 0, 0);
     for _ in 0..600 {
         let (plan, rule) = (awaited_plan(&mut rng), either_rule(&mut rng));
@@ -129,7 +125,7 @@ fn check_limit_holds_others(book: &Book, i: usize) -> u32 {
 
 #[test]
 fn starts_past_the_clock_count_as_running() {
-    let mut rng = rng_for("starts_past_the_clock_count_as_running");
+    let mut rng = Rng::announced("starts_past_the_clock_count_as_running");
     let (mut starts, mut by_15) = (0, 0);
     for book in books_of_awaited_mornings(&mut rng, 300) {
         for i in starts_past_the_clock(&book) {
@@ -146,7 +142,7 @@ fn starts_past_the_clock_count_as_running() {
 
 #[test]
 fn drops_leave_ready_terms_out_and_lower_no_figure() {
-    let mut rng = rng_for("drops_leave_ready_terms_out_and_lower_no_figure");
+    let mut rng = Rng::announced("drops_leave_ready_terms_out_and_lower_no_figure");
     let mut raised = 0;
     for book in books_of_awaited_mornings(&mut rng, 150) {
         let figure = minimum_early(&book).early;
@@ -163,7 +159,7 @@ fn drops_leave_ready_terms_out_and_lower_no_figure() {
 
 #[test]
 fn a_ready_tick_after_the_start_is_18_in_a_text_and_9_as_a_value() {
-    let mut rng = rng_for("a_ready_tick_after_the_start");
+    let mut rng = Rng::announced("a_ready_tick_after_the_start");
     for _ in 0..2000 {
         let mut plan = awaited_plan(&mut rng);
         assert!(accepted(&plan));
@@ -178,7 +174,7 @@ fn a_ready_tick_after_the_start_is_18_in_a_text_and_9_as_a_value() {
 
 #[test]
 fn an_edition_1_text_has_no_ready_ticks_and_an_edition_1_value_none_either() {
-    let mut rng = rng_for("an_edition_1_text_has_no_ready_ticks");
+    let mut rng = Rng::announced("an_edition_1_text_has_no_ready_ticks");
     for _ in 0..1000 {
         let plan = first_edition(&random_plan(&mut rng));
         let text = plan_text(&plan);
@@ -213,7 +209,7 @@ fn starts_in(log: &str) -> Vec<(usize, u32, u32)> {
 
 #[test]
 fn runlog_prints_each_start_once_all_it_waits_for_have_ended() {
-    let mut rng = rng_for("runlog_prints_each_start_once_all_it_waits_for_have_ended");
+    let mut rng = Rng::announced("runlog_prints_each_start_once_all_it_waits_for_have_ended");
     let mut ahead = 0;
     for _ in 0..150 {
         let (plan, rule) = (awaited_plan(&mut rng), either_rule(&mut rng));
@@ -235,7 +231,7 @@ fn runlog_prints_each_start_once_all_it_waits_for_have_ended() {
 
 #[test]
 fn a_known_start_is_fixed() {
-    let mut rng = rng_for("a_known_start_is_fixed");
+    let mut rng = Rng::announced("a_known_start_is_fixed");
     let mut reached_later = 0;
     for _ in 0..400 {
         let (plan, rule) = (awaited_plan(&mut rng), either_rule(&mut rng));

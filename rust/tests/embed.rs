@@ -1,11 +1,12 @@
 //! The clients of `examples/embed`: that in C built, both run, and what they print held against the log of the morning
 //! and against the second dispatcher.
 
-use dispatcher::fields::line_of;
+use crate::folders::new_folder;
 use dispatcher::proved::{peer::kit, EMULATED};
-use dispatcher::sample::program::{at_root, cases_below, contents, empty_folder, expect_printed};
+use dispatcher::sample::program::{at_root, cases_below, contents, expect_printed};
 use dispatcher::sample::tally::say;
-use dispatcher::values::{items, ENDED};
+use dispatcher::second::fields::line_of;
+use dispatcher::second::values::{items, ENDED};
 use dispatcher::{drop_task, fresh_sheet, on_drive, open_book, read_plan, report, run_log, why};
 use dispatcher::{Book, Rule};
 use std::fs;
@@ -14,10 +15,6 @@ use std::process::Command;
 
 /// A drive and a task, asked for in each morning; there is no drive 33, and few have 64 tasks.
 const ASKED: [(u32, u32); 4] = [(1, 5), (7, 1), (2, 64), (33, 3)];
-
-fn folder(name: &str) -> PathBuf {
-    empty_folder(env!("CARGO_TARGET_TMPDIR"), name)
-}
 
 fn run(command: &mut Command) {
     let output = command.output().unwrap();
@@ -150,7 +147,7 @@ fn wanted(case: &Path, drive: u32, task: u32) -> Vec<u8> {
 
 /// Plan A with reports and drops that are refused, the log by the second dispatcher.
 fn case_with_refusals(name: &str) -> PathBuf {
-    let (folder, plan_a) = (folder(name), at_root("examples/plan-a"));
+    let (folder, plan_a) = (new_folder(name), at_root("examples/plan-a"));
     let plan = contents(&plan_a.join("plan.txt"));
     let ends = [
         b"drop\t1\nend\t3\t3\n",
@@ -185,7 +182,7 @@ fn check_client(name: &str, asked: &[(u32, u32)], client: impl Fn() -> Command) 
 
 #[test]
 fn the_client_in_c_prints_the_log_and_what_it_asks() {
-    let program = built_morning(&folder("morning"));
+    let program = built_morning(&new_folder("morning"));
     // An emulated program takes long to start.
     let asked = if EMULATED { &ASKED[..1] } else { &ASKED };
     check_client("morning-refusals", asked, || kit().runner(&program));
@@ -234,7 +231,7 @@ fn the_clients_are_short() {
 
 /// Whether `cc` is there with headers of its own, and makes what the library is for.
 fn has_c_compiler() -> bool {
-    let folder = folder("has-c-compiler");
+    let folder = new_folder("has-c-compiler");
     let file = folder.join("try.c");
     fs::write(
         &file,

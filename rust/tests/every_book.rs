@@ -2,7 +2,8 @@
 
 use dispatcher::sample::events::starts_past_the_clock;
 use dispatcher::sample::every_book::{every_book, morning_of, Morning, AWAITED, CHAIN};
-use dispatcher::{open_book, read_plan, sound, Book, Plan, Rule};
+use dispatcher::sample::plans::accepted_plan;
+use dispatcher::{open_book, sound, Book, Rule};
 use std::collections::HashSet;
 
 /// By Early Start task 2 waits for 1, and 3 for both; 2 and 3 can be dropped.
@@ -51,12 +52,6 @@ fn put(book: &mut Book, i: usize, state: State) {
     book.end[i] = state.end;
 }
 
-fn plan_of(text: &[u8]) -> Plan {
-    let reading = read_plan(text);
-    assert!(reading.answer.is_accepted());
-    reading.plan
-}
-
 #[test]
 fn a_book_of_three_tasks_is_sound_exactly_when_a_run_gives_it() {
     check_every_book_of_three(THREE, Rule::EarlyStart);
@@ -74,7 +69,7 @@ fn so_is_one_by_the_clash_rule() {
 }
 
 fn check_every_book_of_three(text: &[u8], rule: Rule) {
-    let plan = plan_of(text);
+    let plan = accepted_plan(text);
     let given: HashSet<Morning> = every_book(&plan, rule).iter().map(morning_of).collect();
     let states = every_state();
     let mut found = 0;
@@ -109,7 +104,7 @@ fn last_books(books: &[Book], dropped: &[usize]) -> usize {
 fn the_last_books_of_the_chain_are_as_many_as_its_endings() {
     // The two rules let the same tasks of the chain go on the same ticks.
     for rule in Rule::BOTH {
-        let books = every_book(&plan_of(CHAIN), rule);
+        let books = every_book(&accepted_plan(CHAIN), rule);
         let last_books = |dropped: &[usize]| last_books(&books, dropped);
         // Tasks 1, 2 and 4 may take one tick or two, 3 and 5 only one.
         assert_eq!(last_books(&[]), 8);
@@ -125,7 +120,7 @@ fn the_last_books_of_the_chain_are_as_many_as_its_endings() {
 /// it starts at the end of 2; 4 takes a tick from 3 on, and 5 one or two.
 #[test]
 fn the_last_books_with_ready_ticks_are_as_many_as_their_endings() {
-    let books = every_book(&plan_of(AWAITED), Rule::EarlyStart);
+    let books = every_book(&accepted_plan(AWAITED), Rule::EarlyStart);
     let last_books = |dropped: &[usize]| last_books(&books, dropped);
     // 1, 2, 3 and 5 have two endings each.
     assert_eq!(last_books(&[]), 16);
@@ -147,7 +142,7 @@ fn the_last_books_with_ready_ticks_are_as_many_as_their_endings() {
 /// for 1 and 4.
 #[test]
 fn the_last_books_by_the_clash_rule_are_as_many_as_their_endings() {
-    let books = every_book(&plan_of(AWAITED), Rule::Clash);
+    let books = every_book(&accepted_plan(AWAITED), Rule::Clash);
     let last_books = |dropped: &[usize]| last_books(&books, dropped);
     // 1 and 3 end at 2 or 3, 2 at 1 or 2, 4 at 4, and 5 at 5 or 6.
     assert_eq!(last_books(&[]), 16);

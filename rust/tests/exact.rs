@@ -1,17 +1,17 @@
 //! The exact figure: values worked out by hand, every later sequence of small plans, and
 //! figures that are nearly it.
 
-use dispatcher::sample::events::{must_take, Event};
+use dispatcher::sample::events::{book_after, Event};
 use dispatcher::sample::every_book::{AWAITED, CHAIN};
 use dispatcher::sample::every_later::EveryLater;
 use dispatcher::sample::mornings::random_morning;
 use dispatcher::sample::plan_a::{PLAN_A, REPORTS_A};
-use dispatcher::sample::plans::random_plan;
+use dispatcher::sample::plans::{accepted_plan, random_plan};
 use dispatcher::sample::tally::say;
 use dispatcher::sample::waiting::{awaited, either_rule, rule_of};
-use dispatcher::sample::{announced_seed, Rng};
-use dispatcher::values::{DROPPED, ENDED, RUNNING, WAITING};
-use dispatcher::{exact_early, minimum_early, open_book, proved, read_plan};
+use dispatcher::sample::Rng;
+use dispatcher::second::values::{DROPPED, ENDED, RUNNING, WAITING};
+use dispatcher::{exact_early, minimum_early, proved};
 use dispatcher::{Answer, Book, Exact, Plan, Rule};
 use Event::{Drop, End};
 
@@ -38,23 +38,14 @@ task\t3\t2\t4\t6\t8\te1\t-
 task\t4\t1\t1\t9\t10\te1\t-
 ";
 
-fn plan_of(text: &[u8]) -> Plan {
-    let reading = read_plan(text);
-    assert_eq!(reading.answer, Answer::ACCEPTED);
-    reading.plan
-}
-
 fn after(text: &[u8], events: &[Event]) -> Book {
-    let fresh = open_book(&plan_of(text), Rule::EarlyStart).book;
-    events
-        .iter()
-        .fold(fresh, |book, &event| must_take(&book, event))
+    book_after(text, Rule::EarlyStart, events)
 }
 
 fn shown(figure: Option<u32>) -> Exact {
     Exact {
         answer: Answer::ACCEPTED,
-        known: u32::from(figure.is_some()),
+        known: figure.is_some(),
         early: figure.unwrap_or(0),
     }
 }
@@ -107,7 +98,7 @@ fn across_a_gap() {
 fn a_book_that_is_not_sound_has_none() {
     let refused = Exact {
         answer: Answer::UNSOUND,
-        known: 0,
+        known: false,
         early: 0,
     };
     for unsound in [Book::ZERO, ahead_of_time(&after(GAP, &[]))] {
@@ -135,7 +126,7 @@ fn is_left(book: &Book, i: usize) -> bool {
 /// Every book of the plan with every later sequence, by reports alone and with further
 /// drops; how many have a figure, and how many one above M.
 fn check_every_later(text: &[u8], rule: Rule) -> [u32; 3] {
-    let every = EveryLater::of(&plan_of(text), rule);
+    let every = EveryLater::of(&accepted_plan(text), rule);
     let with_drops = every.latest_starts(true);
     let by_reports = every.latest_starts(false);
     let mut counted = [0; 3];
@@ -341,12 +332,12 @@ const MORNINGS: u32 = 400;
 
 fn proved_figure(book: &Book) -> Figure {
     let figure = proved::exact_early(book);
-    (figure.known == 1).then_some(i64::from(figure.early))
+    figure.known.then_some(i64::from(figure.early))
 }
 
 #[test]
 fn random_mornings_tell_them_all() {
-    let mut rng = Rng::new(announced_seed("exact::random_mornings_tell_them_all"));
+    let mut rng = Rng::announced("exact::random_mornings_tell_them_all");
     let mut told = [0; IMPOSTORS.len()];
     for _ in 0..MORNINGS {
         let (plan, rule) = (random_plan(&mut rng), either_rule(&mut rng));

@@ -1,13 +1,13 @@
 //! `./explain`: the words beside each refusal of a folder's log. What it must say is typed, in `told.txt` of each folder.
 
+use crate::folders::folder_of;
 use dispatcher::run_log;
+use dispatcher::sample::lent::text;
 use dispatcher::sample::plan_a::{ENDS_A, PLAN_A};
-use dispatcher::sample::program::{
-    at_root, contents, empty_folder, entries_below, expect_said, make_unreadable,
-};
+use dispatcher::sample::program::{at_root, contents, entries_below, expect_said, make_unreadable};
 use std::collections::BTreeSet;
 use std::fs::{self, File};
-use std::path::{Path, PathBuf};
+use std::path::Path;
 use std::process::{Command, Output};
 
 /// Those that a folder's log can have.
@@ -32,17 +32,6 @@ fn explain(python: &str, folder: &Path) -> Command {
         .current_dir(at_root(""))
         .env("LC_ALL", "C");
     command
-}
-
-fn folder_of(name: &str, plan: &[u8], ends: &[u8]) -> PathBuf {
-    let folder = empty_folder(env!("CARGO_TARGET_TMPDIR"), name);
-    fs::write(folder.join("plan.txt"), plan).unwrap();
-    fs::write(folder.join("ends.txt"), ends).unwrap();
-    folder
-}
-
-fn text(bytes: &[u8]) -> &str {
-    std::str::from_utf8(bytes).unwrap()
 }
 
 fn told_of(folder: &Path) -> String {
@@ -137,7 +126,10 @@ fn a_text_that_is_too_long_is_named_with_its_length() {
         ("plan.txt", [b'x'; 40_000].as_slice(), ENDS_A),
         ("ends.txt", PLAN_A, [b'x'; 40_000].as_slice()),
     ] {
-        let told = told_of(&folder_of(&format!("explain-long-{name}"), plan, ends));
+        let told = told_of(&folder_of(
+            &format!("explain-long-{name}"),
+            &[("plan.txt", plan), ("ends.txt", ends)],
+        ));
         let words = format!(
             "refused 1 0 0
   Wrong: {name} has 40,000 bytes, and a text has at most 32,768.
@@ -153,7 +145,10 @@ fn a_text_that_is_too_long_is_named_with_its_length() {
 fn of_a_long_line_the_part_around_the_column_is_shown() {
     let digits = "9".repeat(6_000);
     let plan = format!("plan\t1\t1\t1\ntask\t1\t1\t0\t{digits}\t-\t-\n");
-    let told = told_of(&folder_of("explain-wide", plan.as_bytes(), b""));
+    let told = told_of(&folder_of(
+        "explain-wide",
+        &[("plan.txt", plan.as_bytes()), ("ends.txt", b"")],
+    ));
     let words = format!(
         "refused 4 2 12
   Wrong: The planned finish `{}…` is over 1,000,000, the greatest number of a text.
@@ -169,7 +164,10 @@ fn of_a_long_line_the_part_around_the_column_is_shown() {
     );
     assert_eq!(told, words);
     let plan = format!("plan\t1\t1\t1\ntask\t1\t1\t0\t{digits}\tq\t-\n");
-    let told = told_of(&folder_of("explain-far", plan.as_bytes(), b""));
+    let told = told_of(&folder_of(
+        "explain-far",
+        &[("plan.txt", plan.as_bytes()), ("ends.txt", b"")],
+    ));
     let line = format!(
         "\n      …{}→q→-¶\n      {}^\n",
         "9".repeat(69),
@@ -189,7 +187,10 @@ fn the_manual_shows_what_is_told() {
 #[test]
 fn it_ends_with_2_and_one_sentence_where_there_is_no_log() {
     let nowhere = explain(&python(), Path::new("examples/nowhere")).output();
-    let unreadable = folder_of("explain-unreadable", PLAN_A, ENDS_A);
+    let unreadable = folder_of(
+        "explain-unreadable",
+        &[("plan.txt", PLAN_A), ("ends.txt", ENDS_A)],
+    );
     make_unreadable(&unreadable, "ends.txt");
     let unread = explain(&python(), &unreadable).output();
     for output in [nowhere.unwrap(), unread.unwrap()] {
@@ -238,17 +239,19 @@ fn its_use_says_that_it_is_not_proved() {
 /// No module but the standard library's, and a call leaves nothing behind in the clone.
 #[test]
 fn it_needs_python_alone_and_leaves_nothing_behind() {
-    let own = at_root("tools/explain");
-    assert!(!own.join("__pycache__").exists());
     let mut files = vec![at_root("explain")];
-    files.extend(entries_below(&own));
+    for own in ["tools/common", "tools/explain"] {
+        assert!(!at_root(own).join("__pycache__").exists());
+        files.extend(entries_below(&at_root(own)));
+    }
     for file in files {
         for line in fs::read_to_string(&file).unwrap().lines() {
             let mut words = line.split(' ');
             let (Some("import" | "from"), Some(module)) = (words.next(), words.next()) else {
                 continue;
             };
-            let is_own = module.starts_with('.') || module == "explain.told";
+            let own = [".", "common.", "explain.told"];
+            let is_own = own.iter().any(|begin| module.starts_with(begin));
             let standard = ["difflib", "os", "re", "signal", "subprocess", "sys"];
             assert!(
                 is_own || standard.contains(&module),

@@ -1,15 +1,17 @@
 //! The table of exports is the library's Rattle source. It is held against the archive here; what it
 //! says of structs is held against `values.rs` by the build. And both ways to call the library agree.
 
-use dispatcher::exports::{exports_in, struct_in, without_comments, Export, Field, Kind, Table};
+use dispatcher::library::exports::{
+    exports_in, struct_in, without_comments, Export, Field, Kind, Table,
+};
 use dispatcher::proved::{self, peer};
 use dispatcher::sample::plan_a::PLAN_A;
 use dispatcher::sample::plans::{full_plan, with_even_ready_ticks};
 use dispatcher::sample::program::at_root;
 use dispatcher::sample::reports::last_moment_report;
 use dispatcher::sample::years::ALL_ONES;
-use dispatcher::sample::{announced_seed, Rng};
-use dispatcher::text::plan_text;
+use dispatcher::sample::Rng;
+use dispatcher::second::text::plan_text;
 use dispatcher::{Lengths, Plan, Rule, Totals};
 use std::fs;
 
@@ -55,11 +57,11 @@ fn number(name: &str) -> Kind {
 
 #[test]
 fn an_export_is_read_as_it_is_written() {
-    let source = "// pub extern \"C\" fn no() -> u8\n#[no_mangle]\npub extern \"C\" fn dispatch_all(\n    \
-        plan: Plan, // a comment\n    text: &[u8],\n    clash: bool,\n    out: &mut [u8],\n    tick: i32,\n) -> Written\n    \
+    let source = "// pub extern \"C\" fn no() -> u8\n#[no_mangle]\npub extern \"C\" fn clover_all(\n    \
+        plan: Plan, // a comment\n    text: &[u8],\n    clash: bool,\n    out: &mut [u8],\n    tick: i32,\n) -> WriteResult\n    \
         ensures { λ r. ⌜ r ≡ (λ (x : Nat). x) 1 ⌝ }\n{\n}\n\nfn own(yes: bool) -> u32\n{\n}\n";
     let wanted = Export {
-        name: "dispatch_all".to_string(),
+        name: "clover_all".to_string(),
         arguments: vec![
             field("plan", Kind::Struct("Plan".to_string())),
             field("text", Kind::Slice),
@@ -90,13 +92,13 @@ fn a_struct_is_read_and_laid_out_as_c_does() {
 #[test]
 #[should_panic(expected = "there is no way yet to hand over &[u32]")]
 fn a_kind_that_is_not_known_stops_the_build() {
-    exports_in("#[no_mangle]\npub extern \"C\" fn dispatch_sum(of: &[u32]) -> u32\n{\n}\n");
+    exports_in("#[no_mangle]\npub extern \"C\" fn clover_sum(of: &[u32]) -> u32\n{\n}\n");
 }
 
 #[test]
-#[should_panic(expected = "dispatch_one is not marked #[no_mangle]")]
+#[should_panic(expected = "clover_one is not marked #[no_mangle]")]
 fn an_export_that_the_archive_does_not_name_stops_the_build() {
-    exports_in("pub extern \"C\" fn dispatch_one() -> u32\n{\n}\n");
+    exports_in("pub extern \"C\" fn clover_one() -> u32\n{\n}\n");
 }
 
 #[test]
@@ -190,7 +192,7 @@ fn compare_on_books(plan: &Plan, rule: Rule) {
 
 #[test]
 fn the_peer_answers_as_the_library_does() {
-    let full = full_plan(&mut Rng::new(announced_seed("exports")), 64);
+    let full = full_plan(&mut Rng::announced("exports"), 64);
     let plan_a = proved::read_plan(PLAN_A).plan;
     for plan in [plan_a, full, with_even_ready_ticks(&full), Plan::ZERO] {
         compare_on_plan(&plan);

@@ -1,12 +1,13 @@
 //! `include/cloverdusk.h` against the Rattle source, against `values.rs` and against what is refused.
 //! The build holds `values.rs` against the source, and the peer calls by the header.
 
-use dispatcher::exports::Table;
-use dispatcher::header::{constants_in, declared_in, drift, is_enum};
+use crate::folders::new_folder;
+use dispatcher::library::exports::Table;
+use dispatcher::library::header::{constants_in, declared_in, drift, is_enum};
 use dispatcher::proved::{self, peer::kit};
 use dispatcher::sample::plan_a::PLAN_A;
-use dispatcher::sample::program::{at_root, empty_folder};
-use dispatcher::values::*;
+use dispatcher::sample::program::at_root;
+use dispatcher::second::values::*;
 use std::collections::{BTreeMap, BTreeSet};
 use std::fs;
 use std::path::Path;
@@ -25,10 +26,14 @@ fn the_header_declares_every_export_and_struct_and_no_other() {
     let (table, header) = (Table::of(&at_root(".")), header());
     assert_eq!(drift(&table, &header), "");
     for (right, wrong, said) in [
-        ("uint32_t dispatch_is_sound(DispatchBook book);", "", 1),
         (
-            "DispatchSheet sheet, uint32_t drive",
-            "DispatchSheet sheet, int32_t drive",
+            "CLOVER_RESULT bool clover_is_sound(CloverBook book);",
+            "",
+            1,
+        ),
+        (
+            "CloverSheet sheet, uint32_t drive",
+            "CloverSheet sheet, int32_t drive",
             2,
         ),
         (
@@ -36,8 +41,8 @@ fn the_header_declares_every_export_and_struct_and_no_other() {
             "    uint8_t holds",
             2,
         ),
-        ("DISPATCH_PLACE(DispatchBook, clock, 4);", "", 1),
-        ("/* ---- plans */", "int dispatch_more(void);", 1),
+        ("CLOVER_PLACE(CloverBook, clock, 4);", "", 1),
+        ("/* ---- plans */", "int clover_more(void);", 1),
     ] {
         let changed = header.replace(right, wrong);
         let told = drift(&table, &changed);
@@ -77,10 +82,10 @@ fn defined(path: &str, name: &str) -> u32 {
 #[test]
 fn sizes_and_bytes_are_those_of_the_source_and_of_the_values() {
     let log = defined("crates/log/specs/Log.antt", "logMost");
-    let converted = defined("crates/converter/specs/Renewed.antt", "textMost");
-    let timetable = defined("crates/timetable_lines/specs/Rows.antt", "tableMost");
-    let judged = defined("crates/log_rules/specs/Text.antt", "judgedMost");
-    let report = defined("crates/year_text/specs/Report.antt", "reportMost");
+    let converted = defined("crates/plan_convert/specs/Renewed.antt", "textMost");
+    let timetable = defined("crates/engine_write/specs/Rows.antt", "tableMost");
+    let judged = defined("crates/school/specs/Text.antt", "judgedMost");
+    let report = defined("crates/year_write/specs/Report.antt", "reportMost");
     let logs = defined("crates/year_rules/specs/Totals.antt", "logsMost");
     assert_eq!(log as usize, proved::LONGEST_LOG);
     assert_eq!(converted as usize, proved::CONVERTED_ROOM);
@@ -113,9 +118,9 @@ fn sizes_and_bytes_are_those_of_the_source_and_of_the_values() {
         ("DROPPED", DROPPED.into()),
         ("ACCEPTED", Answer::ACCEPTED.code),
     ];
-    let wanted = wanted.map(|(name, number)| (format!("DISPATCH_{name}"), number));
+    let wanted = wanted.map(|(name, number)| (format!("CLOVER_{name}"), number));
     let mut found = constants();
-    found.retain(|name, _| !name.starts_with("DISPATCH_REFUSED_"));
+    found.retain(|name, _| !name.starts_with("CLOVER_REFUSED_"));
     assert_eq!(found, BTreeMap::from(wanted));
 }
 
@@ -231,9 +236,9 @@ fn each_refusal_number_is_given_where_its_name_says() {
     let calls = calls.chain([refused_log_too_many()]);
     let calls = calls.map(|(name, answer)| (name, answer.code));
     let met = texts.chain(calls);
-    let met = met.map(|(name, code)| (format!("DISPATCH_REFUSED_{name}"), code));
+    let met = met.map(|(name, code)| (format!("CLOVER_REFUSED_{name}"), code));
     let mut named = constants();
-    named.retain(|name, _| name.starts_with("DISPATCH_REFUSED_"));
+    named.retain(|name, _| name.starts_with("CLOVER_REFUSED_"));
     assert_eq!(named, met.collect::<BTreeMap<_, _>>());
     let numbers: BTreeSet<u32> = named.into_values().collect();
     assert_eq!(numbers, (1..=28).collect());
@@ -270,14 +275,14 @@ const LANGUAGES: [&[&str]; 2] = [
 
 /// The header twice, and a call of each sort by its own declaration.
 const CLIENT: &str = "#include \"cloverdusk.h\"\n#include \"cloverdusk.h\"\n\
-    DispatchAnswer judged(DispatchPlan plan);\n\
-    DispatchAnswer judged(DispatchPlan plan) { return dispatch_judge_plan(plan); }\n\
+    CloverAnswer judged(CloverPlan plan);\n\
+    CloverAnswer judged(CloverPlan plan) { return clover_judge_plan(plan); }\n\
     bool is_whole(uint8_t *out, size_t length);\n\
-    bool is_whole(uint8_t *out, size_t length) { return dispatch_run_log(out, 0, out, 0, out, length) < length; }\n";
+    bool is_whole(uint8_t *out, size_t length) { return clover_run_log(out, 0, out, 0, out, length) < length; }\n";
 
 #[test]
 fn c11_and_cpp17_take_the_header_without_a_warning() {
-    let folder = empty_folder(env!("CARGO_TARGET_TMPDIR"), "header");
+    let folder = new_folder("header");
     let file = folder.join("client.c");
     fs::write(&file, CLIENT).unwrap();
     for language in LANGUAGES {
@@ -288,16 +293,16 @@ fn c11_and_cpp17_take_the_header_without_a_warning() {
 /// A header beside the client goes before the right one.
 #[test]
 fn a_wrong_field_place_or_size_is_refused_by_the_compiler() {
-    let folder = empty_folder(env!("CARGO_TARGET_TMPDIR"), "wrong-header");
+    let folder = new_folder("wrong-header");
     let file = folder.join("client.c");
     fs::write(&file, CLIENT).unwrap();
     for (right, wrong) in [
         ("uint32_t ready[64];", "uint16_t ready[64];"),
         ("uint8_t rule;          /*", "uint64_t rule; /*"),
-        ("DispatchBook, mark, 1352)", "DispatchBook, mark, 1353)"),
+        ("CloverBook, mark, 1352)", "CloverBook, mark, 1353)"),
         (
-            "DISPATCH_SIZE(DispatchKept, 7924)",
-            "DISPATCH_SIZE(DispatchKept, 7925)",
+            "CLOVER_SIZE(CloverKept, 7924)",
+            "CLOVER_SIZE(CloverKept, 7925)",
         ),
         ("defined(__x86_64__)", "defined(__aarch64__)"),
     ] {

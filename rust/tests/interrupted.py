@@ -3,6 +3,7 @@
 The signal is sent so many times, each time when the call that writes the prompt has just returned and the desk does not wait
 for keys yet. Then `early` is typed, and Ctrl-D. Prints what was shown; has the command's status.
 """
+import ctypes
 import os
 import pty
 import signal
@@ -20,13 +21,18 @@ class Interrupter:
     def __init__(self, child, terminal, times):
         self.child, self.terminal = child, terminal
         self.steps = [None] * times + [b"early\r", b"\x04"]
-        self.written = b""
+        self.written = self.handed = b""
 
     def look(self, info):
         if info.op == ENTRY:
-            if (CALLS.get(info.number), info.arguments[0]) == ("write", 1):
-                self.written += self.bytes_at(info.arguments[1], info.arguments[2])
-        elif self.written.endswith(PROMPT) and self.steps:
+            is_write = (CALLS.get(info.number), info.arguments[0]) == ("write", 1)
+            self.handed = self.bytes_at(info.arguments[1], info.arguments[2]) if is_write else b""
+            return
+        # What a call that is left answers stands in the number's place; one that a signal breaks off has taken nothing.
+        taken = ctypes.c_int64(info.number).value
+        self.written += self.handed[:max(taken, 0)]
+        self.handed = b""
+        if self.written.endswith(PROMPT) and self.steps:
             self.written = b""
             self.step(self.steps.pop(0))
 

@@ -1,14 +1,14 @@
 //! Judges that are nearly the log judge: each is told from it by a folder whose answer is typed, and
 //! by the logs on which the two implementations are compared.
 
-use dispatcher::judge::clash;
 use dispatcher::proved::{self, LONGEST_JUDGED};
 use dispatcher::sample::log_damage::any_log;
 use dispatcher::sample::logs::plan_of_a_log;
 use dispatcher::sample::program::{at_root, contents};
 use dispatcher::sample::tally::say;
-use dispatcher::sample::{announced_seed, Rng};
-use dispatcher::text::plan_text;
+use dispatcher::sample::Rng;
+use dispatcher::second::judge::clash;
+use dispatcher::second::text::plan_text;
 use dispatcher::{judged_text, read_plan, Plan};
 
 /// What an impostor does otherwise; with nothing of this it is the judge.
@@ -313,7 +313,7 @@ fn typed_folders_tell_them() {
 
 #[test]
 fn the_logs_of_the_comparison_tell_them_all() {
-    let mut rng = Rng::new(announced_seed("judgelog_impostors"));
+    let mut rng = Rng::announced("judgelog_impostors");
     let mut told = [0; IMPOSTORS.len()];
     for _ in 0..4_000 {
         let plan = plan_of_a_log(&mut rng);

@@ -1,12 +1,14 @@
 //! The committed pictures are what the tool draws now, and it draws nothing it should not.
 
+use crate::folders::new_folder;
 use dispatcher::run_log;
 use dispatcher::sample::plan_a::PLAN_A;
-use dispatcher::sample::program::{at_root, empty_folder};
+use dispatcher::sample::program::at_root;
 use std::collections::BTreeMap;
-use std::fs;
+use std::fs::{self, File};
+use std::io;
 use std::path::PathBuf;
-use std::process::{Command, Output};
+use std::process::{Command, Output, Stdio};
 
 /// Shown in the README at the root.
 const DRAWN: [&str; 6] = [
@@ -54,7 +56,7 @@ fn draw(plan: &str, log: &str) -> Output {
 
 /// What is drawn of texts of its own, put into a folder of that name; without ends the plan alone.
 fn drawn(name: &str, options: &[&str], plan: &[u8], ends: Option<&[u8]>) -> String {
-    let folder = empty_folder(env!("CARGO_TARGET_TMPDIR"), name);
+    let folder = new_folder(name);
     let mut files = vec![folder.join("plan.txt")];
     fs::write(&files[0], plan).unwrap();
     if let Some(ends) = ends {
@@ -332,7 +334,7 @@ fn a_timetable_of_another_plan_is_not_drawn() {
         "task\t4\t1\t6\t9\n",
         "task\t5\t2\t6\t8\n",
     ];
-    let folder = empty_folder(env!("CARGO_TARGET_TMPDIR"), "timetables");
+    let folder = new_folder("timetables");
     let (plan, file) = (folder.join("plan.txt"), folder.join("timetable.txt"));
     fs::write(&plan, PLAN_A).unwrap();
     let drawn_of = |text: String| {
@@ -364,7 +366,7 @@ fn a_timetable_of_another_plan_is_not_drawn() {
 
 /// What is drawn of plan A and a log of another school, or why it is not.
 fn drawn_of_log(name: &str, log: &str) -> Result<String, String> {
-    let folder = empty_folder(env!("CARGO_TARGET_TMPDIR"), name);
+    let folder = new_folder(name);
     let files = ["plan.txt", "log.txt"].map(|file| folder.join(file));
     fs::write(&files[0], PLAN_A).unwrap();
     fs::write(&files[1], log).unwrap();
@@ -455,4 +457,31 @@ fn rows_are_boards_or_drives() {
         assert_eq!(output.status.code(), Some(2));
         assert!(String::from_utf8_lossy(&output.stderr).contains("drive or board"));
     }
+}
+
+/// What it says and its status if it prints into this.
+fn said_into(output: impl Into<Stdio>, words: &[&str]) -> (String, Option<i32>) {
+    let mut command = Command::new(at_root("tools/picture"));
+    let command = command.args(words).current_dir(at_root(""));
+    let ran = command.stdout(output).output().unwrap();
+    (String::from_utf8(ran.stderr).unwrap(), ran.status.code())
+}
+
+#[test]
+fn a_reader_that_goes_away_is_no_failure_and_a_full_disk_is() {
+    let drawn = ["examples/plan-a/plan.txt", "examples/plan-a/log.txt"];
+    for words in [&drawn[..], &drawn[..1], &["--help"]] {
+        let (reader, writer) = io::pipe().unwrap();
+        drop(reader);
+        assert_eq!(said_into(writer, words), (String::new(), Some(0)));
+        let full = File::options().write(true).open("/dev/full").unwrap();
+        let (said, status) = said_into(full, words);
+        assert!(said.starts_with("picture: standard output: "), "{said}");
+        assert_eq!(status, Some(2));
+    }
+    let mut shell = Command::new("bash");
+    let shell = shell.args(["-c", "tools/picture --help >&-"]);
+    let closed = shell.current_dir(at_root("")).output().unwrap();
+    assert_eq!(closed.stderr, b"picture: standard output is closed\n");
+    assert_eq!(closed.status.code(), Some(2));
 }

@@ -1,11 +1,11 @@
 //! How much stack the built programs take: the least with which each runs.
 
-use dispatcher::desk::Start;
+use crate::folders::new_folder;
 use dispatcher::judged_text;
 use dispatcher::proved::EMULATED;
-use dispatcher::sample::program::{at_root, empty_folder, program_in};
+use dispatcher::sample::desk_lines::opened;
+use dispatcher::sample::program::{at_root, program_by_script};
 use dispatcher::sample::tally::say;
-use dispatcher::Desk;
 use std::fs::{self, File};
 use std::path::PathBuf;
 
@@ -36,7 +36,7 @@ impl Run {
         if let Some(ends) = &self.ends {
             fs::write(self.folder.join("ends.txt"), ends).unwrap();
         }
-        let mut command = program_in(self.program, &self.folder);
+        let mut command = program_by_script(self.program, &self.folder);
         command.env_clear();
         for name in ["PATH", "RATTLE_HOME"] {
             if let Some(value) = std::env::var_os(name) {
@@ -117,9 +117,7 @@ fn judgelog_takes_no_more_than_192_kib() {
 
 /// All that the second desk prints for these lines.
 fn printed_at_desk(plan: &[u8], ends: &[u8], lines: &[u8]) -> Vec<u8> {
-    let Start::Open(mut printed, mut desk) = Desk::start(plan, ends) else {
-        panic!("the desk does not open");
-    };
+    let (mut printed, mut desk) = opened(plan, ends);
     for line in lines.split_inclusive(|&byte| byte == b'\n') {
         printed.extend(desk.take(&line[..line.len() - 1], true).answer);
     }
@@ -129,7 +127,7 @@ fn printed_at_desk(plan: &[u8], ends: &[u8], lines: &[u8]) -> Vec<u8> {
 /// Half of the morning is in `ends.txt`. The other half is told line by line, and then everything is asked.
 #[test]
 fn the_desk_takes_no_more_than_448_kib() {
-    let folder = empty_folder(env!("CARGO_TARGET_TMPDIR"), "desk-stack");
+    let folder = new_folder("desk-stack");
     let plan = fs::read(full_morning("plan.txt")).unwrap();
     fs::write(folder.join("plan.txt"), &plan).unwrap();
     let whole = fs::read(full_morning("ends.txt")).unwrap();

@@ -1,7 +1,6 @@
 //! What must hold on random plans, runs and damaged inputs.
 //! Each test prints its seed; set SEED to repeat or to try another.
 
-use dispatcher::judge::{clash, Clashes};
 use dispatcher::sample::damage::{
     by_the_other_rule, late_book, mutated_book, mutated_plan, ruleless_book, wrongly_dropped_book,
 };
@@ -17,18 +16,15 @@ use dispatcher::sample::reports::{
     any_report, last_moment_report, one_tick_reports, running_tasks,
 };
 use dispatcher::sample::waiting::{awaited, either_rule, rule_of};
-use dispatcher::sample::{announced_seed, Rng};
-use dispatcher::text::plan_text;
-use dispatcher::values::{items, refusal, EDITION_2, LONGEST_TEXT};
+use dispatcher::sample::Rng;
+use dispatcher::second::judge::{clash, Clashes};
+use dispatcher::second::text::plan_text;
+use dispatcher::second::values::{items, refusal, EDITION_2, LONGEST_TEXT};
 use dispatcher::{
     accepted, drop_task, first_faulty_pair, minimum_early, open_book, read_plan, report, run_log,
     sound, write_plan,
 };
 use dispatcher::{Answer, Book, Plan, Rule};
-
-fn rng_for(test: &str) -> Rng {
-    Rng::new(announced_seed(test))
-}
 
 fn count(book: &Book) -> usize {
     usize::from(book.tasks)
@@ -44,7 +40,7 @@ fn written_text(plan: &Plan) -> Vec<u8> {
 
 #[test]
 fn written_plans_read_back_the_same() {
-    let mut rng = rng_for("written_plans_read_back_the_same");
+    let mut rng = Rng::announced("written_plans_read_back_the_same");
     let (mut tasks, mut longest, mut of_edition_2) = (0, 0, 0);
     for _ in 0..1500 {
         let plan = random_plan(&mut rng);
@@ -75,7 +71,7 @@ fn damaged_texts(rng: &mut Rng, plans: u32) -> Vec<Vec<u8>> {
 
 #[test]
 fn read_texts_write_back_the_same_bytes() {
-    let mut rng = rng_for("read_texts_write_back_the_same_bytes");
+    let mut rng = Rng::announced("read_texts_write_back_the_same_bytes");
     let mut read = 0;
     for text in damaged_texts(&mut rng, 3000) {
         let reading = read_plan(&text);
@@ -95,7 +91,7 @@ fn read_texts_write_back_the_same_bytes() {
 
 #[test]
 fn one_fault_texts_meet_their_refusal() {
-    let mut rng = rng_for("one_fault_texts_meet_their_refusal");
+    let mut rng = Rng::announced("one_fault_texts_meet_their_refusal");
     for _ in 0..2000 {
         let plan = random_plan(&mut rng);
         for _ in 0..10 {
@@ -111,7 +107,7 @@ fn one_fault_texts_meet_their_refusal() {
 
 #[test]
 fn a_plan_with_no_task_at_0_is_refused_for_that_alone() {
-    let mut rng = rng_for("a_plan_with_no_task_at_0");
+    let mut rng = Rng::announced("a_plan_with_no_task_at_0");
     let mut late_as_a_whole = 0;
     for _ in 0..3000 {
         let plan = random_plan(&mut rng);
@@ -163,7 +159,7 @@ fn late_for(plan: &Plan, i: usize, j: usize) -> bool {
 
 #[test]
 fn the_least_faulty_pair_is_the_one_named() {
-    let mut rng = rng_for("the_least_faulty_pair_is_the_one_named");
+    let mut rng = Rng::announced("the_least_faulty_pair_is_the_one_named");
     let mut by_code = [0u32; 9];
     for _ in 0..2000 {
         let accepted_plan = random_plan(&mut rng);
@@ -186,7 +182,7 @@ fn the_least_faulty_pair_is_the_one_named() {
 
 #[test]
 fn a_plan_value_is_accepted_exactly_when_its_text_reads_back_as_it() {
-    let mut rng = rng_for("a_plan_value_is_accepted_exactly");
+    let mut rng = Rng::announced("a_plan_value_is_accepted_exactly");
     let mut kept = 0;
     for _ in 0..3000 {
         let plan = random_plan(&mut rng);
@@ -290,7 +286,7 @@ fn chains_in(morning: &Morning) -> usize {
 
 #[test]
 fn mornings_keep_what_the_plan_promises() {
-    let mut rng = rng_for("mornings_keep_what_the_plan_promises");
+    let mut rng = Rng::announced("mornings_keep_what_the_plan_promises");
     let (mut events, mut early, mut chains) = (0, 0, 0);
     for _ in 0..800 {
         let (plan, rule) = (random_plan(&mut rng), either_rule(&mut rng));
@@ -316,7 +312,7 @@ fn mornings_keep_what_the_plan_promises() {
 
 #[test]
 fn no_two_clashing_tasks_ever_run_at_once() {
-    let mut rng = rng_for("no_two_clashing_tasks_ever_run_at_once");
+    let mut rng = Rng::announced("no_two_clashing_tasks_ever_run_at_once");
     for _ in 0..300 {
         let (plan, rule) = (random_plan(&mut rng), either_rule(&mut rng));
         for book in random_morning(&mut rng, &plan, rule).books {
@@ -330,7 +326,7 @@ fn no_two_clashing_tasks_ever_run_at_once() {
 
 #[test]
 fn the_least_limit_is_always_accepted() {
-    let mut rng = rng_for("the_least_limit_is_always_accepted");
+    let mut rng = Rng::announced("the_least_limit_is_always_accepted");
     let (mut tried, mut dropped) = (0, 0);
     for _ in 0..150 {
         let (plan, rule) = (random_plan(&mut rng), either_rule(&mut rng));
@@ -353,7 +349,7 @@ fn the_least_limit_is_always_accepted() {
 
 #[test]
 fn reports_of_one_tick_may_come_in_any_order() {
-    let mut rng = rng_for("reports_of_one_tick_may_come_in_any_order");
+    let mut rng = Rng::announced("reports_of_one_tick_may_come_in_any_order");
     let mut groups = 0;
     for _ in 0..600 {
         let book = random_book(&mut rng);
@@ -407,7 +403,7 @@ fn reordered(rng: &mut Rng, events: &[Event]) -> Vec<Event> {
 
 #[test]
 fn the_same_reports_and_drops_leave_the_same_book() {
-    let mut rng = rng_for("the_same_reports_and_drops_leave_the_same_book");
+    let mut rng = Rng::announced("the_same_reports_and_drops_leave_the_same_book");
     let (mut taken, mut refused) = (0, 0);
     for _ in 0..600 {
         let (plan, rule) = (random_plan(&mut rng), either_rule(&mut rng));
@@ -456,7 +452,7 @@ fn expected_code(book: &Book, task: u32, tick: u32) -> u32 {
 
 #[test]
 fn refused_reports_leave_the_book() {
-    let mut rng = rng_for("refused_reports_leave_the_book");
+    let mut rng = Rng::announced("refused_reports_leave_the_book");
     let mut by_code = [0u32; 17];
     for _ in 0..400 {
         let book = random_book(&mut rng);
@@ -498,7 +494,7 @@ fn expected_drop_code(book: &Book, task: u32) -> u32 {
 
 #[test]
 fn refused_drops_leave_the_book_and_accepted_ones_nearly() {
-    let mut rng = rng_for("refused_drops_leave_the_book_and_accepted_ones_nearly");
+    let mut rng = Rng::announced("refused_drops_leave_the_book_and_accepted_ones_nearly");
     let mut by_code = [0u32; 20];
     for _ in 0..400 {
         let book = random_book(&mut rng);
@@ -542,7 +538,7 @@ fn replayed(book: &Book) -> Option<Book> {
 
 #[test]
 fn sound_books_are_exactly_those_a_run_gives() {
-    let mut rng = rng_for("sound_books_are_exactly_those_a_run_gives");
+    let mut rng = Rng::announced("sound_books_are_exactly_those_a_run_gives");
     let (mut kept, mut with_drops) = (0, 0);
     for _ in 0..900 {
         let book = random_book(&mut rng);
@@ -561,7 +557,7 @@ fn sound_books_are_exactly_those_a_run_gives() {
 
 #[test]
 fn a_book_on_a_plan_with_no_task_at_0_is_never_sound() {
-    let mut rng = rng_for("a_book_on_a_plan_with_no_task_at_0");
+    let mut rng = Rng::announced("a_book_on_a_plan_with_no_task_at_0");
     for _ in 0..2000 {
         let book = random_book(&mut rng);
         let late = late_book(&mut rng, &book);
@@ -577,7 +573,7 @@ fn a_book_on_a_plan_with_no_task_at_0_is_never_sound() {
 
 #[test]
 fn a_book_is_judged_by_the_rule_it_holds() {
-    let mut rng = rng_for("a_book_is_judged_by_the_rule_it_holds");
+    let mut rng = Rng::announced("a_book_is_judged_by_the_rule_it_holds");
     let (mut sound_by_both, mut by_its_own) = (0, 0);
     for _ in 0..2000 {
         let book = random_book(&mut rng);
@@ -608,7 +604,7 @@ fn plainly_clash(plan: &Plan, a: usize, b: usize) -> bool {
 
 #[test]
 fn clashes_are_as_the_document_says() {
-    let mut rng = rng_for("clashes_are_as_the_document_says");
+    let mut rng = Rng::announced("clashes_are_as_the_document_says");
     for _ in 0..300 {
         let plan = random_plan(&mut rng);
         let clashes = Clashes::of(&plan);
@@ -624,7 +620,7 @@ fn clashes_are_as_the_document_says() {
 
 #[test]
 fn a_wrong_drop_is_never_sound() {
-    let mut rng = rng_for("a_wrong_drop_is_never_sound");
+    let mut rng = Rng::announced("a_wrong_drop_is_never_sound");
     for _ in 0..600 {
         let book = random_book(&mut rng);
         for _ in 0..10 {
@@ -660,7 +656,7 @@ fn check_starts_rise(paragraph: &[&str]) {
 
 #[test]
 fn runlog_prints_each_task_once_and_ends_with_the_last_figure() {
-    let mut rng = rng_for("runlog_prints_each_task_once");
+    let mut rng = Rng::announced("runlog_prints_each_task_once");
     let mut skipped = 0;
     for _ in 0..150 {
         let (plan, rule) = (random_plan(&mut rng), either_rule(&mut rng));
@@ -724,7 +720,7 @@ fn code_of_a_damaged_input(rng: &mut Rng) -> u32 {
 
 #[test]
 fn every_refusal_number_is_reached() {
-    let mut rng = rng_for("every_refusal_number_is_reached");
+    let mut rng = Rng::announced("every_refusal_number_is_reached");
     let mut by_code = [0u32; 21];
     for _ in 0..8000 {
         by_code[code_of_a_damaged_input(&mut rng) as usize] += 1;

@@ -1,9 +1,12 @@
 //! Request P8's ready ticks by examples worked out by hand. In plan B the two rules let
 //! the same tasks go on the same ticks, so each holds by both.
 
-use dispatcher::sample::events::{check_refused, must_take, rule_line, Event};
+use dispatcher::sample::events::{book_after, check_refused, ends, must_take, rule_line, Event};
+use dispatcher::sample::faults::check_reading;
+use dispatcher::sample::lines::with_line;
 use dispatcher::sample::plan_b::{PLAN_B, REPORTS_B};
-use dispatcher::values::{refusal, ENDED, RUNNING, WAITING};
+use dispatcher::sample::plans::accepted_plan;
+use dispatcher::second::values::{refusal, ENDED, RUNNING, WAITING};
 use dispatcher::{
     accepted, drop_task, minimum_early, open_book, read_plan, report, run_log, sound, write_plan,
 };
@@ -14,19 +17,12 @@ use Event::{Drop, End};
 type Spoiled<T> = (&'static str, fn(&mut T));
 
 fn plan_b() -> Plan {
-    let reading = read_plan(PLAN_B);
-    assert_eq!(reading.answer, Answer::ACCEPTED);
-    reading.plan
+    accepted_plan(PLAN_B)
 }
 
 /// The book of plan B after these, all of which must be accepted.
-fn book_after(rule: Rule, events: &[Event]) -> Book {
-    let fresh = open_book(&plan_b(), rule).book;
-    let book = events
-        .iter()
-        .fold(fresh, |book, &event| must_take(&book, event));
-    assert!(sound(&book));
-    book
+fn b_after(rule: Rule, events: &[Event]) -> Book {
+    book_after(PLAN_B, rule, events)
 }
 
 fn figure(book: &Book) -> u32 {
@@ -37,17 +33,11 @@ fn figure(book: &Book) -> u32 {
 
 /// Plan B's text with one line replaced.
 fn plan_b_with(line: usize, new_line: &str) -> Vec<u8> {
-    let text = std::str::from_utf8(PLAN_B).unwrap();
-    let mut lines: Vec<&str> = text.lines().collect();
-    lines[line - 1] = new_line;
-    (lines.join("\n") + "\n").into_bytes()
+    with_line(PLAN_B, line, new_line)
 }
 
 fn check_text(text: &[u8], code: u32, first: u32, second: u32) {
-    let reading = read_plan(text);
-    let shown = String::from_utf8_lossy(text);
-    assert_eq!(reading.answer, refusal(code, first, second), "{shown:?}");
-    assert_eq!(reading.plan, Plan::ZERO, "{shown:?}");
+    check_reading(read_plan(text), text, refusal(code, first, second));
 }
 
 #[test]
@@ -201,7 +191,7 @@ fn code_9_plan_with_a_wrong_edition_or_ready_tick() {
 #[test]
 fn at_opening_a_start_may_lie_past_the_clock() {
     for rule in Rule::BOTH {
-        let book = book_after(rule, &[]);
+        let book = b_after(rule, &[]);
         assert_eq!((book.edition, book.clock), (2, 0));
         assert_eq!(book.ready, plan_b().ready);
         assert_eq!(
@@ -217,7 +207,7 @@ fn at_opening_a_start_may_lie_past_the_clock() {
 #[test]
 fn a_start_past_the_clock_counts_as_running() {
     for rule in Rule::BOTH {
-        let book = book_after(rule, &[]);
+        let book = b_after(rule, &[]);
         // At or before its start, at once and later.
         for tick in [0, 1, 2] {
             check_refused(&book, End(1, tick), 13);
@@ -227,10 +217,10 @@ fn a_start_past_the_clock_counts_as_running() {
         check_refused(&book, End(2, 5), 15);
         check_refused(&book, End(2, 6), 14);
         check_refused(&book, Drop(1), 19);
-        assert_eq!(book_after(rule, &[End(1, 3)]).end[0], 3);
-        assert_eq!(book_after(rule, &[End(2, 4)]).clock, 4);
+        assert_eq!(b_after(rule, &[End(1, 3)]).end[0], 3);
+        assert_eq!(b_after(rule, &[End(2, 4)]).clock, 4);
         // The task of least limit, at its limit.
-        assert_eq!(book_after(rule, &[End(1, 4)]).clock, 4);
+        assert_eq!(b_after(rule, &[End(1, 4)]).clock, 4);
     }
 }
 
@@ -238,7 +228,7 @@ fn a_start_past_the_clock_counts_as_running() {
 fn the_figure_may_come_from_ready_terms_alone() {
     for rule in Rule::BOTH {
         // After the end of 2 at 1 nobody is at work: 1 starts at 2, and 3 at 3.
-        let book = book_after(rule, &[Drop(4), End(2, 1)]);
+        let book = b_after(rule, &[Drop(4), End(2, 1)]);
         assert_eq!(book.mark[..5], [RUNNING, ENDED, RUNNING, WAITING, WAITING]);
         assert_eq!((book.clock, book.start[0], book.start[2]), (1, 2, 3));
         // 4 - 2, 5 - 3 and 12 - 0; 4 is dropped, and its 9 - 9 left out.
@@ -254,9 +244,9 @@ fn the_figure_may_come_from_ready_terms_alone() {
         // Task 1's start is reached at 1: 4 - 1, and 5 - 4 of task 3 still to come.
         assert_eq!(figure(&moved), 1);
         // With 4 among those to come.
-        assert_eq!(figure(&book_after(rule, &[End(2, 1)])), 0);
+        assert_eq!(figure(&b_after(rule, &[End(2, 1)])), 0);
         // Once all have ended there is no term.
-        let last = book_after(rule, &REPORTS_B.map(|(task, tick)| End(task, tick)));
+        let last = b_after(rule, &ends(&REPORTS_B));
         assert_eq!((last.clock, figure(&last)), (13, 0));
     }
 }
@@ -266,7 +256,7 @@ fn the_start_is_the_later_of_ready_tick_and_latest_end() {
     for rule in Rule::BOTH {
         // Before the ready tick, on it, and after it.
         for (end, start) in [(1, 3), (2, 3), (3, 3), (4, 4)] {
-            let book = book_after(rule, &[End(2, end)]);
+            let book = b_after(rule, &[End(2, end)]);
             assert_eq!(
                 (book.mark[2], book.start[2]),
                 (RUNNING, start),
@@ -274,7 +264,7 @@ fn the_start_is_the_later_of_ready_tick_and_latest_end() {
             );
         }
         // Task 4 is ready at 9 only, however early the others end.
-        let book = book_after(rule, &[End(2, 1), End(1, 3), End(3, 5)]);
+        let book = b_after(rule, &[End(2, 1), End(1, 3), End(3, 5)]);
         assert_eq!((book.clock, book.mark[3], book.start[3]), (5, RUNNING, 9));
         for tick in [5, 8, 9] {
             check_refused(&book, End(4, tick), 13);
@@ -294,13 +284,13 @@ fn the_start_is_the_later_of_ready_tick_and_latest_end() {
 #[test]
 fn a_dropped_task_need_not_be_ready() {
     for rule in Rule::BOTH {
-        let book = book_after(rule, &[Drop(4), End(2, 1), End(1, 3), End(3, 5)]);
+        let book = b_after(rule, &[Drop(4), End(2, 1), End(1, 3), End(3, 5)]);
         // Its ready tick is 9; it passes at 5, and 5 starts there.
         assert_eq!(book.mark[..5], [ENDED, ENDED, ENDED, ENDED, RUNNING]);
         assert_eq!((book.start[3], book.end[3], book.start[4]), (5, 5, 5));
         assert_eq!(figure(&book), 7);
         // Dropped between the reports too, as long as it waits.
-        let later = book_after(rule, &[End(2, 1), End(1, 3), Drop(4), End(3, 5)]);
+        let later = b_after(rule, &[End(2, 1), End(1, 3), Drop(4), End(3, 5)]);
         assert_eq!(later, book);
     }
 }
@@ -338,16 +328,16 @@ fn code_9_book_with_a_start_that_is_not_by_the_rule() {
             ("edition 0", |b| b.edition = 0),
         ];
         for (what, change) in spoil {
-            let mut book = book_after(rule, &[End(2, 1)]);
+            let mut book = b_after(rule, &[End(2, 1)]);
             change(&mut book);
             check_book_9(&book, what);
         }
         // A ready tick that its start does not tell is another plan's, and as good.
-        let mut other_plan = book_after(rule, &[End(2, 1)]);
+        let mut other_plan = b_after(rule, &[End(2, 1)]);
         other_plan.ready[3] = 0;
         assert!(sound(&other_plan));
         // Passed at its ready tick instead of the latest end.
-        let mut passed_late = book_after(rule, &[Drop(4), End(2, 1), End(1, 3), End(3, 5)]);
+        let mut passed_late = b_after(rule, &[Drop(4), End(2, 1), End(1, 3), End(3, 5)]);
         (passed_late.start[3], passed_late.end[3], passed_late.clock) = (9, 9, 9);
         passed_late.start[4] = 9;
         check_book_9(

@@ -2,12 +2,14 @@
 //! in the small plan the two rules let the same tasks go, so books meet them by both.
 
 use dispatcher::sample::damage::on_other_plan;
-use dispatcher::sample::events::random_book;
+use dispatcher::sample::events::{book_after, ends, random_book};
+use dispatcher::sample::faults::check_reading;
+use dispatcher::sample::lent::shown;
 use dispatcher::sample::plan_a::{ENDS_A, PLAN_A, REPORTS_A};
 use dispatcher::sample::plans::moved_later;
-use dispatcher::sample::{announced_seed, Rng};
-use dispatcher::text::plan_text;
-use dispatcher::values::{refusal, RUNNING};
+use dispatcher::sample::Rng;
+use dispatcher::second::text::plan_text;
+use dispatcher::second::values::{refusal, RUNNING};
 use dispatcher::{
     accepted, drop_task, minimum_early, open_book, proved, read_plan, report, run_log, sound,
     write_plan,
@@ -51,22 +53,13 @@ fn small_plan() -> Plan {
 }
 
 fn book_of(rule: Rule, text: &[u8], reports: &[(u32, u32)]) -> Book {
-    let mut book = open_book(&read_plan(text).plan, rule).book;
-    for &(task, tick) in reports {
-        let reported = report(&book, task, tick);
-        assert_eq!(reported.answer, Answer::ACCEPTED, "end {task} at {tick}");
-        book = reported.book;
-    }
-    book
+    book_after(text, rule, &ends(reports))
 }
 
 fn check_text(text: &[u8], code: u32, first: u32, second: u32) {
-    let reading = read_plan(text);
-    let shown = String::from_utf8_lossy(&text[..text.len().min(300)]);
-    assert_eq!(reading.answer, refusal(code, first, second), "{shown:?}");
-    assert_eq!(reading.plan, Plan::ZERO, "{shown:?}");
+    check_reading(read_plan(text), text, refusal(code, first, second));
     let refused = format!("refused\t{code}\t{first}\t{second}\n");
-    assert_eq!(run_log(text, ENDS_A), refused.as_bytes(), "{shown:?}");
+    assert_eq!(run_log(text, ENDS_A), refused.as_bytes(), "{}", shown(text));
 }
 
 fn check_plan_9(plan: &Plan, what: &str) {
@@ -669,7 +662,7 @@ task\t1\t1\t0\t1000000\t-\t-
 task\t2\t2\t0\t5\t-\t-
 task\t3\t2\t5\t9\t-\t-
 ";
-    let mut rng = Rng::new(announced_seed("above the last tick"));
+    let mut rng = Rng::announced("above the last tick");
     let mut books: Vec<Book> = (0..500).map(|_| random_book(&mut rng)).collect();
     books.extend(Rule::BOTH.map(|rule| book_of(rule, to_the_last_tick, &[])));
     for book in books {

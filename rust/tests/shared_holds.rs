@@ -1,14 +1,16 @@
 //! Request P12, shared holds retired in edition 2, by examples worked out by hand.
 
 use dispatcher::sample::damage::on_other_plan;
+use dispatcher::sample::faults::check_reading;
 use dispatcher::sample::plan_a::PLAN_A;
 use dispatcher::sample::plan_b::{PLAN_B, REPORTS_B};
-use dispatcher::values::{refusal, EDITION_2};
+use dispatcher::sample::plans::accepted_plan;
+use dispatcher::second::values::{refusal, EDITION_2};
 use dispatcher::{
     accepted, convert, convert_text, drop_task, minimum_early, open_book, read_exclusive,
     read_plan, report, sound, write_plan,
 };
-use dispatcher::{Answer, Book, Plan, Reading, Rule};
+use dispatcher::{Answer, Book, Plan, Rule};
 
 /// Three tasks on two boards in edition 2; holds stand in column 16 of each line.
 const SMALL: [&str; 4] = [
@@ -27,28 +29,20 @@ fn small_with(new_lines: &[(usize, &str)]) -> Vec<u8> {
     (lines.join("\n") + "\n").into_bytes()
 }
 
-fn check(reading: Reading, text: &[u8], code: u32, first: u32, second: u32) {
-    let shown = String::from_utf8_lossy(&text[..text.len().min(300)]);
-    assert_eq!(reading.answer, refusal(code, first, second), "{shown:?}");
-    assert_eq!(reading.plan, Plan::ZERO, "{shown:?}");
-}
-
 /// Reading is refused by the first answer, and the second call by the other.
 fn check_both(text: &[u8], read: (u32, u32, u32), second: (u32, u32, u32)) {
-    check(read_plan(text), text, read.0, read.1, read.2);
-    check(read_exclusive(text), text, second.0, second.1, second.2);
+    check_reading(read_plan(text), text, refusal(read.0, read.1, read.2));
+    check_reading(
+        read_exclusive(text),
+        text,
+        refusal(second.0, second.1, second.2),
+    );
 }
 
 /// Reading is refused by 20 with that line and column, and the second call reads it.
 fn check_20(text: &[u8], line: u32, column: u32) {
-    check(read_plan(text), text, 20, line, column);
+    check_reading(read_plan(text), text, refusal(20, line, column));
     assert_eq!(read_exclusive(text).answer, Answer::ACCEPTED);
-}
-
-fn plan_of(text: &[u8]) -> Plan {
-    let reading = read_plan(text);
-    assert_eq!(reading.answer, Answer::ACCEPTED);
-    reading.plan
 }
 
 #[test]
@@ -66,7 +60,7 @@ fn code_20_names_the_holds_field() {
 
 #[test]
 fn edition_1_takes_shared_holds_as_before() {
-    let plan = plan_of(PLAN_A);
+    let plan = accepted_plan(PLAN_A);
     assert_eq!(plan.holds[64..66], [5, 0]);
     for rule in Rule::BOTH {
         assert_eq!(open_book(&plan, rule).answer, Answer::ACCEPTED);
@@ -154,7 +148,7 @@ fn code_20_comes_before_whatever_is_said_of_the_whole_text() {
 #[test]
 fn code_9_plan_and_book_with_a_shared_hold_in_edition_2() {
     for rule in Rule::BOTH {
-        let mut plan = plan_of(PLAN_B);
+        let mut plan = accepted_plan(PLAN_B);
         let mut books = vec![open_book(&plan, rule).book];
         for (task, tick) in REPORTS_B {
             books.push(report(&books[books.len() - 1], task, tick).book);
@@ -192,9 +186,9 @@ task\t5\t2\t0\t10\t14\te1\t3
 
 #[test]
 fn plan_a_is_converted() {
-    let converted = convert(&plan_of(PLAN_A));
+    let converted = convert(&accepted_plan(PLAN_A));
     assert_eq!(converted.answer, Answer::ACCEPTED);
-    assert_eq!(converted.plan, plan_of(PLAN_A_CONVERTED));
+    assert_eq!(converted.plan, accepted_plan(PLAN_A_CONVERTED));
     assert_eq!(convert_text(PLAN_A), PLAN_A_CONVERTED);
     assert_eq!(convert_text(PLAN_A_CONVERTED), PLAN_A_CONVERTED);
 }
@@ -208,21 +202,21 @@ task\t2\t2\t1\t5\te3\t-
 task\t3\t1\t4\t6\ts2\t-
 task\t4\t3\t4\t7\ts1,s2\t-
 ";
-    let plan = plan_of(text);
-    check(convert(&plan), text, 7, 3, 4);
+    let plan = accepted_plan(text);
+    check_reading(convert(&plan), text, refusal(7, 3, 4));
     assert_eq!(convert_text(text), b"refused\t7\t3\t4\n");
     // Task 1 a tick longer holds it too, and its pair is the first.
     let mut longer = plan;
     (longer.board[2], longer.finish[0]) = (2, 5);
     (longer.begin[2], longer.finish[2]) = (5, 6);
     assert!(accepted(&longer));
-    check(convert(&longer), text, 7, 1, 4);
+    check_reading(convert(&longer), text, refusal(7, 1, 4));
 }
 
 #[test]
 fn any_plan_that_is_not_accepted_in_edition_1_is_9_for_the_converter() {
     let spoiled = |change: fn(&mut Plan)| {
-        let mut plan = plan_of(PLAN_A);
+        let mut plan = accepted_plan(PLAN_A);
         change(&mut plan);
         plan
     };
@@ -230,8 +224,8 @@ fn any_plan_that_is_not_accepted_in_edition_1_is_9_for_the_converter() {
     let overlapping = spoiled(|plan| plan.begin[2] = 3);
     let with_a_ready_tick = spoiled(|plan| plan.ready[3] = 1);
     let of_edition_2 = spoiled(|plan| plan.edition = EDITION_2);
-    let second = plan_of(PLAN_B);
-    let converted = plan_of(PLAN_A_CONVERTED);
+    let second = accepted_plan(PLAN_B);
+    let converted = accepted_plan(PLAN_A_CONVERTED);
     for plan in [
         late,
         overlapping,
@@ -241,18 +235,22 @@ fn any_plan_that_is_not_accepted_in_edition_1_is_9_for_the_converter() {
         converted,
         Plan::ZERO,
     ] {
-        check(convert(&plan), b"", 9, 0, 0);
+        check_reading(convert(&plan), b"", refusal(9, 0, 0));
     }
 }
 
 #[test]
 fn the_second_call_keeps_ready_ticks() {
     let sharing = String::from_utf8_lossy(PLAN_B).replace("\te2", "\ts2");
-    check(read_plan(sharing.as_bytes()), PLAN_B, 20, 4, 16);
+    check_reading(
+        read_plan(sharing.as_bytes()),
+        sharing.as_bytes(),
+        refusal(20, 4, 16),
+    );
     let reading = read_exclusive(sharing.as_bytes());
     assert_eq!(
         (reading.answer, reading.plan),
-        (Answer::ACCEPTED, plan_of(PLAN_B))
+        (Answer::ACCEPTED, accepted_plan(PLAN_B))
     );
     assert_eq!(read_exclusive(PLAN_B), reading);
     assert_eq!(convert_text(sharing.as_bytes()), PLAN_B);
@@ -260,15 +258,15 @@ fn the_second_call_keeps_ready_ticks() {
 
 #[test]
 fn the_second_call_takes_no_text_of_edition_1_and_none_that_is_too_long() {
-    check(read_exclusive(PLAN_A), PLAN_A, 2, 1, 0);
-    check(read_exclusive(b""), b"", 2, 1, 0);
-    check(read_exclusive(b"plan\t1\t1\t1\n"), b"", 2, 1, 0);
-    check(read_exclusive(b"plan\t3\t1\t1\n"), b"", 2, 1, 0);
-    check(read_exclusive(b"plan\t2\t1\t65\n"), b"", 2, 1, 0);
+    check_reading(read_exclusive(PLAN_A), PLAN_A, refusal(2, 1, 0));
+    check_reading(read_exclusive(b""), b"", refusal(2, 1, 0));
+    check_reading(read_exclusive(b"plan\t1\t1\t1\n"), b"", refusal(2, 1, 0));
+    check_reading(read_exclusive(b"plan\t3\t1\t1\n"), b"", refusal(2, 1, 0));
+    check_reading(read_exclusive(b"plan\t2\t1\t65\n"), b"", refusal(2, 1, 0));
     for text in [PLAN_A, PLAN_B, b""] {
         let mut long = text.to_vec();
         long.resize(32_769, b'\n');
-        check(read_exclusive(&long), text, 1, 0, 0);
+        check_reading(read_exclusive(&long), &long, refusal(1, 0, 0));
         assert_eq!(convert_text(&long), b"refused\t1\t0\t0\n");
     }
 }

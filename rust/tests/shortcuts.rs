@@ -1,9 +1,10 @@
 //! The shortcuts that break a morning, each coded as a small variant. They break it by
 //! both rules, which let the same tasks of these plans go on the same ticks.
 
-use dispatcher::judge::{clash, clash_by_drive};
+use dispatcher::sample::events::{book_after, ends};
 use dispatcher::sample::plan_a::PLAN_A;
 use dispatcher::sample::waiting::{awaited, rule_of};
+use dispatcher::second::judge::{clash, clash_by_drive};
 use dispatcher::{minimum_early, open_book, read_plan, report, Book, Plan, Rule};
 
 /// Whether waiting task index i may start now, reporter being the index ended.
@@ -93,16 +94,6 @@ fn plan_a() -> Plan {
     reading.plan
 }
 
-fn accepted_reports(plan: &Plan, rule: Rule, reports: &[(u32, u32)]) -> Book {
-    let mut book = open_book(plan, rule).book;
-    for &(task, tick) in reports {
-        let reported = report(&book, task, tick);
-        assert!(reported.answer.is_accepted(), "end {task} at {tick}");
-        book = reported.book;
-    }
-    book
-}
-
 #[test]
 fn starting_once_board_and_drives_are_free() {
     for rule in Rule::BOTH {
@@ -119,7 +110,7 @@ task\t4\t1\t6\t9\te1\t-
         );
         assert_eq!(full_length_starts(awaited_ended, &plan, rule), [0, 0, 5, 6]);
 
-        let real = accepted_reports(&plan, rule, &[(1, 4), (2, 5), (3, 6), (4, 9)]);
+        let real = book_after(text, rule, &ends(&[(1, 4), (2, 5), (3, 6), (4, 9)]));
         assert_eq!(real.start[..4], plan.begin[..4]);
         assert_eq!(real.end[..4], plan.finish[..4]);
     }
@@ -141,7 +132,7 @@ fn waiting_only_for_strictly_earlier_finishes() {
 #[test]
 fn looking_on_the_reporters_board_only() {
     for rule in Rule::BOTH {
-        let before = accepted_reports(&plan_a(), rule, &[(2, 3), (1, 4)]);
+        let before = book_after(PLAN_A, rule, &ends(&[(2, 3), (1, 4)]));
         let wrong = report_by(on_the_reporters_board, &before, 3, 6);
         assert_eq!(wrong.mark[..5], [2, 2, 2, 0, 1]);
 
@@ -182,7 +173,7 @@ fn early_of_earliest_running(book: &Book) -> u32 {
 #[test]
 fn taking_the_figure_from_one_report_or_the_largest_board() {
     for rule in Rule::BOTH {
-        let book = accepted_reports(&plan_a(), rule, &[(2, 3), (1, 4)]);
+        let book = book_after(PLAN_A, rule, &ends(&[(2, 3), (1, 4)]));
         assert_eq!(early_of_last_report(&book), 2);
         assert_eq!(early_of_largest_board(&book), 2);
         assert_eq!(minimum_early(&book).early, 1);
@@ -197,7 +188,7 @@ fn taking_the_figure_from_one_report_or_the_largest_board() {
 #[test]
 fn taking_the_largest_figure_of_those_that_run() {
     for rule in Rule::BOTH {
-        let book = accepted_reports(&plan_a(), rule, &[(2, 3)]);
+        let book = book_after(PLAN_A, rule, &ends(&[(2, 3)]));
         assert_eq!(early_of_earliest_running(&book), 1);
         assert_eq!(minimum_early(&book).early, 0);
 

@@ -8,21 +8,21 @@ use dispatcher::sample::lengths::{planned_length, taken_lengths};
 use dispatcher::sample::mornings::random_morning;
 use dispatcher::sample::plan_a::PLAN_A;
 use dispatcher::sample::plan_b::PLAN_B;
-use dispatcher::sample::plans::{full_plan, in_either_edition, random_plan, small_plan};
+use dispatcher::sample::plans::{full_plan_of_either, random_plan, small_plan};
 use dispatcher::sample::program::{at_root, contents};
 use dispatcher::sample::tally::say;
 use dispatcher::sample::waiting::{awaited, either_rule, rule_of};
-use dispatcher::sample::{announced_seed, Rng};
-use dispatcher::values::{refusal, Handed, DROPPED, ENDED, WAITING};
+use dispatcher::sample::Rng;
+use dispatcher::second::values::{refusal, BookResult, DROPPED, ENDED, WAITING};
 use dispatcher::{drop_task, open_book, proved, read_plan, report, timetable};
 use dispatcher::{Answer, Book, Lengths, Plan, Rule, Timetable};
 use std::collections::{BTreeMap, HashSet};
 
 /// The calls on a book.
 struct Dispatcher {
-    open: fn(&Plan, Rule) -> Handed,
-    report: fn(&Book, u32, u32) -> Handed,
-    drop: fn(&Book, u32) -> Handed,
+    open: fn(&Plan, Rule) -> BookResult,
+    report: fn(&Book, u32, u32) -> BookResult,
+    drop: fn(&Book, u32) -> BookResult,
 }
 
 const DISPATCHERS: [Dispatcher; 2] = [
@@ -41,7 +41,7 @@ const DISPATCHERS: [Dispatcher; 2] = [
 const ENGINES: [fn(&Plan, Rule, &Lengths) -> Timetable; 2] = [proved::timetable, timetable];
 
 impl Dispatcher {
-    fn answer(&self, book: &Book, event: Event) -> Handed {
+    fn answer(&self, book: &Book, event: Event) -> BookResult {
         match event {
             Event::End(task, tick) => (self.report)(book, task, tick),
             Event::Drop(task) => (self.drop)(book, task),
@@ -212,7 +212,7 @@ fn feed_every_timetable(plan: &Plan, rule: Rule, fed: &mut Fed) {
 
 #[test]
 fn every_timetable_of_small_plans_is_taken_in_every_order() {
-    let mut rng = Rng::new(announced_seed("timetable_feeds, small plans"));
+    let mut rng = Rng::announced("timetable_feeds, small plans");
     let mut fed = Fed::default();
     for (tasks, plans) in [(2, 100), (3, 200), (4, 150)] {
         for _ in 0..plans {
@@ -296,14 +296,13 @@ fn feed_in_some_order(rng: &mut Rng, plan: &Plan, rule: Rule, given: &Lengths) -
 
 #[test]
 fn timetables_of_many_tasks_are_taken_in_random_orders() {
-    let mut rng = Rng::new(announced_seed("timetable_feeds, many tasks"));
+    let mut rng = Rng::announced("timetable_feeds, many tasks");
     let mut with_equal_ticks = 0;
     for round in 0..210 {
         let plan = if round % 3 == 0 {
             random_plan(&mut rng)
         } else {
-            let full = full_plan(&mut rng, 64);
-            in_either_edition(&mut rng, &full)
+            full_plan_of_either(&mut rng, 64)
         };
         for rule in Rule::BOTH {
             let given = taken_lengths(&mut rng, &plan, rule);
@@ -337,12 +336,11 @@ fn lengths_of(book: &Book) -> Lengths {
 /// Drops come before and between the reports, and reports in any order that is accepted.
 #[test]
 fn a_book_in_which_all_has_ended_is_the_timetable_of_its_lengths_and_drops() {
-    let mut rng = Rng::new(announced_seed("timetable_feeds, finished books"));
+    let mut rng = Rng::announced("timetable_feeds, finished books");
     let mut with_drops = 0;
     for round in 0..700 {
         let plan = if round % 10 == 0 {
-            let full = full_plan(&mut rng, 64);
-            in_either_edition(&mut rng, &full)
+            full_plan_of_either(&mut rng, 64)
         } else {
             random_plan(&mut rng)
         };
@@ -375,7 +373,7 @@ fn check_rules(plan: &Plan, given: &Lengths) -> [u32; 2] {
 
 #[test]
 fn no_task_starts_later_by_the_clash_rule() {
-    let mut rng = Rng::new(announced_seed("timetable_feeds, rules"));
+    let mut rng = Rng::announced("timetable_feeds, rules");
     let (mut earlier, mut only_early_start) = (0, 0);
     for _ in 0..6_000 {
         let plan = random_plan(&mut rng);

@@ -4,8 +4,8 @@
 use dispatcher::sample::lengths::{planned_length, random_case, Case};
 use dispatcher::sample::tally::say;
 use dispatcher::sample::waiting::awaited;
-use dispatcher::sample::{announced_seed, Rng};
-use dispatcher::values::{refusal, DROPPED};
+use dispatcher::sample::Rng;
+use dispatcher::second::values::{refusal, DROPPED};
 use dispatcher::{accepted, proved, read_plan, timetable};
 use dispatcher::{Answer, Lengths, Plan, Rule, Timetable};
 
@@ -247,7 +247,7 @@ fn small_plans_tell_them() {
 
 #[test]
 fn the_inputs_of_the_comparison_tell_them_all() {
-    let mut rng = Rng::new(announced_seed("timetable_impostors"));
+    let mut rng = Rng::announced("timetable_impostors");
     let mut told = [0; IMPOSTORS.len()];
     for _ in 0..1500 {
         let Case { plan, rule, given } = random_case(&mut rng);

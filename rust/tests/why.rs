@@ -6,22 +6,23 @@ use dispatcher::sample::damage::{
     by_the_other_rule, mutated_book, ruleless_book, sharing_book, wrongly_dropped_book,
 };
 use dispatcher::sample::events::{
-    accepted_event, first_drops, is_started, must_take, random_book, starts_past_the_clock, Event,
+    accepted_event, book_after, ends, first_drops, is_started, must_take, random_book,
+    starts_past_the_clock, Event,
 };
 use dispatcher::sample::every_book::{every_book, AWAITED, CHAIN};
 use dispatcher::sample::plan_a::{PLAN_A, REPORTS_A};
 use dispatcher::sample::plan_b::{PLAN_B, REPORTS_B};
-use dispatcher::sample::plans::{full_plan, in_either_edition, random_plan, single_file};
+use dispatcher::sample::plans::{full_plan_of_either, random_plan, single_file};
 use dispatcher::sample::reports::last_moment_report;
 use dispatcher::sample::tally::Tally;
 use dispatcher::sample::waiting::{awaited, either_rule, rule_of};
 use dispatcher::sample::wild::wild_book;
 use dispatcher::sample::Rng;
-use dispatcher::values::{refusal, DROPPED, EDITION_1, ENDED};
+use dispatcher::second::values::{refusal, DROPPED, EDITION_1, ENDED};
 use dispatcher::{open_book, proved, read_plan, why, Answer, Book, Chain, Plan, Rule};
 
 /// What was compared, and how much of it was of a sort that must not be rare.
-struct Asking {
+struct LengthsResult {
     tally: Tally,
     /// Links of all chains, dropped tasks among them, chains that stop at a ready tick,
     /// and tasks that start past the clock.
@@ -31,10 +32,10 @@ struct Asking {
     ahead: u64,
 }
 
-impl Asking {
-    fn seeded(title: &'static str) -> (Rng, Asking) {
+impl LengthsResult {
+    fn seeded(title: &'static str) -> (Rng, LengthsResult) {
         let (rng, tally) = Tally::seeded(title);
-        let asking = Asking {
+        let asking = LengthsResult {
             tally,
             links: 0,
             dropped: 0,
@@ -144,15 +145,10 @@ fn stops(plan: &Plan, book: &Book, i: usize) -> bool {
 }
 
 /// The book after the reports, tasks dropped before them.
-fn book_after(text: &[u8], rule: Rule, dropped: &[u32], reports: &[(u32, u32)]) -> Book {
-    let mut book = open_book(&read_plan(text).plan, rule).book;
-    for &task in dropped {
-        book = must_take(&book, Event::Drop(task));
-    }
-    for &(task, tick) in reports {
-        book = must_take(&book, Event::End(task, tick));
-    }
-    book
+fn after_drops(text: &[u8], rule: Rule, dropped: &[u32], reports: &[(u32, u32)]) -> Book {
+    let drops = dropped.iter().map(|&task| Event::Drop(task));
+    let events: Vec<Event> = drops.chain(ends(reports)).collect();
+    book_after(text, rule, &events)
 }
 
 fn check_numbers(book: &Book, task: u32, numbers: &[u8]) {
@@ -171,7 +167,7 @@ fn check_refused(book: &Book, task: u32, answer: Answer) {
 /// Worked out by hand. Task 4 started at 6, when 3 ended, which started at 3, when 2 ended.
 #[test]
 fn the_chains_of_plan_a() {
-    let book = book_after(PLAN_A, Rule::EarlyStart, &[], &REPORTS_A);
+    let book = after_drops(PLAN_A, Rule::EarlyStart, &[], &REPORTS_A);
     check_numbers(&book, 1, &[1]);
     check_numbers(&book, 2, &[2]);
     check_numbers(&book, 3, &[3, 2]);
@@ -180,11 +176,11 @@ fn the_chains_of_plan_a() {
     check_refused(&book, 0, refusal(10, 0, 0));
     check_refused(&book, 6, refusal(10, 6, 0));
     check_refused(&book, u32::MAX, refusal(10, u32::MAX, 0));
-    let early = book_after(PLAN_A, Rule::EarlyStart, &[], &REPORTS_A[..2]);
+    let early = after_drops(PLAN_A, Rule::EarlyStart, &[], &REPORTS_A[..2]);
     check_refused(&early, 4, refusal(11, 4, 0));
     check_refused(&Book::ZERO, 4, Answer::UNSOUND);
     // By the clash rule 4 clashes with 1 and 3 and started with the end of 3, 5 with the end of 3.
-    let clash = book_after(PLAN_A, Rule::Clash, &[], &[(2, 3), (1, 4), (3, 6)]);
+    let clash = after_drops(PLAN_A, Rule::Clash, &[], &[(2, 3), (1, 4), (3, 6)]);
     check_numbers(&clash, 4, &[4, 3, 2]);
     check_numbers(&clash, 5, &[5, 3, 2]);
 }
@@ -192,16 +188,16 @@ fn the_chains_of_plan_a() {
 /// Worked out by hand. Task 3 is dropped and passes at 3, when 2 ends; 4 starts when 1 ends.
 #[test]
 fn a_dropped_task_is_a_link_like_any_other() {
-    let book = book_after(PLAN_A, Rule::EarlyStart, &[3], &[(2, 3), (1, 4)]);
+    let book = after_drops(PLAN_A, Rule::EarlyStart, &[3], &[(2, 3), (1, 4)]);
     check_numbers(&book, 3, &[3, 2]);
     check_numbers(&book, 4, &[4, 1]);
     // The chain of the small plan: 4 waits for 3, 5 for 2, 3 and 4, and 1 for all of them.
-    let chain = book_after(CHAIN, Rule::EarlyStart, &[4, 5], &[(3, 1), (2, 1)]);
+    let chain = after_drops(CHAIN, Rule::EarlyStart, &[4, 5], &[(3, 1), (2, 1)]);
     check_numbers(&chain, 4, &[4, 3]);
     check_numbers(&chain, 5, &[5, 2]);
     check_numbers(&chain, 1, &[1, 2]);
     // By clash 5 waits for 2 and 4 alone, and 1 for 2 and 5.
-    let clash = book_after(CHAIN, Rule::Clash, &[4, 5], &[(2, 1), (3, 1)]);
+    let clash = after_drops(CHAIN, Rule::Clash, &[4, 5], &[(2, 1), (3, 1)]);
     check_numbers(&clash, 5, &[5, 2]);
     check_numbers(&clash, 4, &[4, 3]);
 }
@@ -210,20 +206,20 @@ fn a_dropped_task_is_a_link_like_any_other() {
 /// the end of 2 at 1; 4 is ready at 9, after all it waits for; 5 is ready at 0.
 #[test]
 fn a_chain_stops_where_a_class_was_awaited() {
-    let book = book_after(PLAN_B, Rule::EarlyStart, &[], &REPORTS_B);
+    let book = after_drops(PLAN_B, Rule::EarlyStart, &[], &REPORTS_B);
     check_numbers(&book, 1, &[1]);
     check_numbers(&book, 3, &[3]);
     check_numbers(&book, 4, &[4]);
     check_numbers(&book, 5, &[5, 4]);
     // Where 2 ends at 3, task 3 is ready just then, and the chain goes on.
-    let equal = book_after(PLAN_B, Rule::EarlyStart, &[], &[(2, 3)]);
+    let equal = after_drops(PLAN_B, Rule::EarlyStart, &[], &[(2, 3)]);
     check_numbers(&equal, 3, &[3, 2]);
     // Task 4, dropped, passes at the last end, its ready tick 9 ignored.
-    let dropped = book_after(PLAN_B, Rule::EarlyStart, &[4], &[(2, 1), (1, 3), (3, 5)]);
+    let dropped = after_drops(PLAN_B, Rule::EarlyStart, &[4], &[(2, 1), (1, 3), (3, 5)]);
     check_numbers(&dropped, 4, &[4, 3]);
     check_numbers(&dropped, 5, &[5, 3]);
     // At opening the start of 1 lies past the clock: its chain is itself alone, and not 11.
-    check_numbers(&book_after(PLAN_B, Rule::EarlyStart, &[], &[]), 1, &[1]);
+    check_numbers(&after_drops(PLAN_B, Rule::EarlyStart, &[], &[]), 1, &[1]);
 }
 
 /// All tasks follow each other, so the recursion is as deep as there are tasks.
@@ -233,7 +229,7 @@ fn a_chain_may_have_64_links() {
         let book = single_file_at_its_end(rule);
         let numbers: Vec<u8> = (1..=64).rev().collect();
         check_numbers(&book, 64, &numbers);
-        let (_, mut asking) = Asking::seeded("why, 64 links");
+        let (_, mut asking) = LengthsResult::seeded("why, 64 links");
         asking.compare_all(&book);
     }
 }
@@ -247,7 +243,7 @@ fn single_file_at_its_end(rule: Rule) -> Book {
 }
 
 /// Every task of every book of a morning, drops before and between the reports.
-fn ask_a_morning(rng: &mut Rng, asking: &mut Asking, plan: &Plan, every: usize) {
+fn ask_a_morning(rng: &mut Rng, asking: &mut LengthsResult, plan: &Plan, every: usize) {
     let mut book = open_book(plan, either_rule(rng)).book;
     for task in first_drops(rng, &book) {
         book = must_take(&book, Event::Drop(task));
@@ -267,7 +263,7 @@ fn ask_a_morning(rng: &mut Rng, asking: &mut Asking, plan: &Plan, every: usize) 
 
 #[test]
 fn every_task_of_random_mornings_is_answered_alike() {
-    let (mut rng, mut asking) = Asking::seeded("why");
+    let (mut rng, mut asking) = LengthsResult::seeded("why");
     for _ in 0..160 {
         let plan = random_plan(&mut rng);
         ask_a_morning(&mut rng, &mut asking, &plan, 1);
@@ -276,8 +272,7 @@ fn every_task_of_random_mornings_is_answered_alike() {
         .tally
         .finish_kind("tasks of every book of random mornings");
     for _ in 0..20 {
-        let plan = full_plan(&mut rng, 64);
-        let plan = in_either_edition(&mut rng, &plan);
+        let plan = full_plan_of_either(&mut rng, 64);
         ask_a_morning(&mut rng, &mut asking, &plan, 8);
     }
     asking
@@ -288,7 +283,7 @@ fn every_task_of_random_mornings_is_answered_alike() {
 
 #[test]
 fn every_task_of_every_book_of_small_plans_is_answered_alike() {
-    let (_, mut asking) = Asking::seeded("why, every book");
+    let (_, mut asking) = LengthsResult::seeded("why, every book");
     let by_both = |text| Rule::BOTH.map(|rule| (text, rule));
     let small = [CHAIN, AWAITED].into_iter().flat_map(by_both);
     for (text, rule) in small.chain([(PLAN_A, Rule::EarlyStart)]) {
@@ -304,7 +299,7 @@ fn every_task_of_every_book_of_small_plans_is_answered_alike() {
 
 #[test]
 fn changed_books_are_answered_alike() {
-    let (mut rng, mut asking) = Asking::seeded("why, changed books");
+    let (mut rng, mut asking) = LengthsResult::seeded("why, changed books");
     for _ in 0..1200 {
         let book = random_book(&mut rng);
         let started = (0..64).filter(|&i| is_started(&book, i));

@@ -4,8 +4,8 @@
 use dispatcher::sample::events::{accepted_event, first_drops, is_started, must_take, Event};
 use dispatcher::sample::plans::random_plan;
 use dispatcher::sample::waiting::{awaited, either_rule, rule_of};
-use dispatcher::sample::{announced_seed, Rng};
-use dispatcher::values::DROPPED;
+use dispatcher::sample::Rng;
+use dispatcher::second::values::DROPPED;
 use dispatcher::{open_book, read_plan, why, Book, Rule};
 
 /// The chain of a started task index, as an impostor would have it.
@@ -221,7 +221,7 @@ fn the_asked_tasks_run_time_is_left_out() {
 /// On random mornings the true chain always agrees, and each impostor is caught.
 #[test]
 fn random_mornings_catch_every_impostor() {
-    let mut rng = Rng::new(announced_seed("why_impostors"));
+    let mut rng = Rng::announced("why_impostors");
     let mut caught = [0; IMPOSTORS.len()];
     let mut wrong_sums = 0;
     for _ in 0..300 {

@@ -1,9 +1,11 @@
 //! The built program `year` on lists of folders: what is typed is what it prints, and what it says where it cannot.
 
+use crate::folders::{copy_command, copy_files, new_folder, put_script};
 use dispatcher::proved::EMULATED;
+use dispatcher::sample::lent::text;
 use dispatcher::sample::plan_a::{ENDS_A, PLAN_A};
 use dispatcher::sample::program::{
-    at_root, comes_true, contents, empty_folder, is_gone, make_unreadable, program_in,
+    at_root, comes_true, contents, is_gone, make_unreadable, on_terminal, program_in,
 };
 use dispatcher::sample::tally::say;
 use dispatcher::{run_log, year_text};
@@ -11,7 +13,7 @@ use std::ffi::OsStr;
 use std::fs::{self, File};
 use std::io::Write;
 use std::os::unix::ffi::OsStrExt;
-use std::os::unix::fs::{symlink, PermissionsExt};
+use std::os::unix::fs::symlink;
 use std::path::{Path, PathBuf};
 use std::process::{Command, Output, Stdio};
 use std::time::Instant;
@@ -88,7 +90,7 @@ fn script(folder: &Path, list: &Path) -> Output {
 
 /// A folder for the command to be called in, in which plan A and its log stand in folders of these names.
 fn folder_with(name: &str, names: &[&[u8]]) -> PathBuf {
-    let folder = empty_folder(env!("CARGO_TARGET_TMPDIR"), name);
+    let folder = new_folder(name);
     for name in names {
         put_plan_a(&folder.join(OsStr::from_bytes(name)));
     }
@@ -187,23 +189,6 @@ fn what_is_refused_is_counted_apart() {
     expect_report(&folder, b"empty\ngood\nunplanned\nlong\n", &report);
     let none = format!("logs\t0\t2\n{}{ALL_IDLE}", idle_from(1));
     expect_report(&folder, b"unplanned\nempty\n", &none);
-    // A log of the greatest length is read whole, and one of a byte more is refused.
-    let own = run_log(PLAN_A, ENDS_A);
-    let (lines, more) = ((32_768 - own.len()) / 10, (32_768 - own.len()) % 10);
-    let (clock, figure) = (
-        "1".repeat(1 + more.min(5)),
-        "1".repeat(1 + more - more.min(5)),
-    );
-    let mut log = [&own[..], &b"early\t0\t0\n".repeat(lines - 1)].concat();
-    log.extend(format!("early\t{clock}\t{figure}\n").bytes());
-    assert_eq!(log.len(), 32_768);
-    fs::write(folder.join("long/plan.txt"), PLAN_A).unwrap();
-    fs::write(folder.join("long/log.txt"), &log).unwrap();
-    let report = format!("logs\t1\t0\n{BOARDS_A}{}{ALL_A}", idle_from(3));
-    expect_report(&folder, b"long\n", &report);
-    fs::write(folder.join("long/log.txt"), [&log[..], b"\n"].concat()).unwrap();
-    let report = format!("logs\t0\t1\n{}{ALL_IDLE}", idle_from(1));
-    expect_report(&folder, b"long\n", &report);
 }
 
 #[test]
@@ -391,24 +376,6 @@ fn the_memory_is_the_same_for_one_log_and_for_ten_thousand() {
 }
 
 #[test]
-fn a_report_that_cannot_be_written_is_said() {
-    let folder = folder_with("year-full-device", &[]);
-    let full = || File::options().write(true).open("/dev/full").unwrap();
-    let output = program_in("year", &folder)
-        .stdin(Stdio::null())
-        .stdout(full())
-        .output()
-        .unwrap();
-    assert!(has(&output.stderr, b"standard output"));
-    let list = folder.join("list.txt");
-    fs::write(&list, b"").unwrap();
-    let mut command = Command::new(at_root("year"));
-    let output = command.arg(&list).stdout(full()).output().unwrap();
-    assert!(output.stderr.starts_with(b"year: standard output: "));
-    assert_eq!(output.status.code(), Some(2));
-}
-
-#[test]
 fn a_list_that_cannot_be_read_is_said() {
     let folder = folder_with("year-no-list", &[b"a"]);
     symlink("loop", folder.join("loop")).unwrap();
@@ -433,19 +400,15 @@ fn a_list_that_cannot_be_read_is_said() {
 
 /// A project with the command in it, whose program does what the script says.
 fn project(name: &str, program: &str) -> PathBuf {
-    let root = empty_folder(env!("CARGO_TARGET_TMPDIR"), name);
+    let root = new_folder(name);
     fs::create_dir_all(root.join("crates")).unwrap();
-    fs::create_dir_all(root.join("tools")).unwrap();
-    fs::create_dir_all(root.join("target/bin")).unwrap();
+    copy_files("tools/common", &root);
     fs::write(root.join("crates.txt"), "year:\n").unwrap();
     for file in ["year", "tools/year", "tools/run.bash", "tools/use.bash"] {
-        fs::copy(at_root(file), root.join(file)).unwrap();
+        copy_command(file, &root);
     }
-    for (file, script) in [("tools/program", program), ("target/bin/year", "")] {
-        let path = root.join(file);
-        fs::write(&path, format!("#!/bin/sh\n{script}\n")).unwrap();
-        fs::set_permissions(&path, fs::Permissions::from_mode(0o755)).unwrap();
-    }
+    put_script(&root.join("tools/program"), program);
+    put_script(&root.join("target/bin/year"), "");
     fs::write(root.join("list"), b"").unwrap();
     root
 }
@@ -492,30 +455,19 @@ fn a_note_is_no_failure() {
     );
 }
 
-/// Each pattern that is awaited, and the keys that are then pressed.
-fn on_terminal(root: &Path, steps: &[&str]) -> (String, Option<i32>) {
-    let mut command = Command::new("python3");
-    command
-        .arg(at_root("rust/tests/on_terminal.py").canonicalize().unwrap())
-        .args(steps)
-        .arg("--")
-        .arg(root.join("year"))
-        .arg("list")
-        .current_dir(root)
-        .env("TERM", "xterm");
+fn year_on_terminal(root: &Path, steps: &[&str]) -> (String, Option<i32>) {
+    let mut command = on_terminal(steps, &root.join("year"));
+    command.arg("list").current_dir(root).env("TERM", "xterm");
     let output = command.output().unwrap();
-    assert_eq!(String::from_utf8_lossy(&output.stderr), "");
-    (
-        String::from_utf8(output.stdout).unwrap(),
-        output.status.code(),
-    )
+    assert_eq!(text(&output.stderr), "");
+    (text(&output.stdout).to_owned(), output.status.code())
 }
 
 #[test]
 fn on_a_terminal_it_shows_how_many_logs_are_done() {
     let root = project("year-terminal", &format!("{NOTES}; echo report"));
-    let (shown, status) = on_terminal(&root, &[]);
-    assert_eq!(status, Some(0));
+    let (shown, status) = year_on_terminal(&root, &[]);
+    assert_eq!(status, Some(0), "{shown:?}");
     let wanted = "\r\x1b[Kyear: 100 logs done\r\x1b[Kyear: 200 logs done\r\x1b[Kreport\r\n";
     assert_eq!(shown, wanted);
 }
@@ -524,7 +476,7 @@ fn on_a_terminal_it_shows_how_many_logs_are_done() {
 fn ctrl_c_leaves_nothing_running() {
     let program = format!("echo $$ >child; {NOTES}; exec sleep 600");
     let root = project("year-ctrl-c", &program);
-    let (shown, status) = on_terminal(&root, &["200 logs done", "\x03"]);
+    let (shown, status) = year_on_terminal(&root, &["200 logs done", "\x03"]);
     assert_eq!(status, Some(130), "{shown:?}");
     let child = root.join("child");
     assert!(comes_true(|| is_gone(&child)), "the program runs on");

@@ -4,10 +4,10 @@
 use dispatcher::sample::plan_a::{ENDS_A, PLAN_A};
 use dispatcher::sample::tally::say;
 use dispatcher::sample::years::{any_folder, any_totals, broken_totals};
-use dispatcher::sample::{announced_seed, Rng};
-use dispatcher::values::refusal;
+use dispatcher::sample::Rng;
+use dispatcher::second::values::refusal;
 use dispatcher::{add_log, judge_log, proved, read_plan, run_log};
-use dispatcher::{Added, Answer, Judged, Plan, Totals};
+use dispatcher::{AddResult, Answer, JudgedLog, Plan, Totals};
 
 /// What an impostor does otherwise; with nothing of this it adds as it should.
 #[derive(Clone, Copy, PartialEq)]
@@ -88,10 +88,10 @@ impl Twist {
         }
     }
 
-    fn added(self, totals: &Totals, plan: &Plan, log: &[u8]) -> Added {
-        let mut added = Added {
+    fn added(self, totals: &Totals, plan: &Plan, log: &[u8]) -> AddResult {
+        let mut added = AddResult {
             answer: Answer::ACCEPTED,
-            judged: Judged::nothing(Answer::ACCEPTED),
+            judged: JudgedLog::nothing(Answer::ACCEPTED),
             totals: *totals,
         };
         if self.is_refused(totals) {
@@ -213,7 +213,7 @@ fn logs_worked_out_by_hand_tell_them() {
 
 #[test]
 fn the_totals_of_the_comparison_tell_them_all() {
-    let mut rng = Rng::new(announced_seed("year_impostors"));
+    let mut rng = Rng::announced("year_impostors");
     let mut told = [0; IMPOSTORS.len()];
     for round in 0..4_000 {
         let (plan, log) = any_folder(&mut rng);

@@ -1,14 +1,30 @@
-"""Who says something: the functions of src/, those that a customer calls among them, and the statements of the promises."""
+"""What says something: the functions of src/, those that a customer calls among them, and the statements of the promises."""
 import collections
+import fnmatch
 import os
 import re
 
 from belief.house import Source
 from belief.rooms import WORDS, is_promises
-from belief.texts import cited, imports_of, read
+from belief.texts import cited, imports_of
+from blocks import read
 
 EXPORTS = "cloverdusk"
 STATEMENTS = tuple("crates/promises/proofs/%s.antt" % name for name in ("Demand1", "Demand2", "Demand3", "Claims", "Edition1", "Conversion"))
+OTHER_STATEMENTS = "Promises*.antt"
+
+# What one may want to trust: a name for --most-for, its words, and the programs and functions that it is counted from.
+TRUSTED = (
+    ("runlog", "the log that `runlog` prints", ("runlog",)),
+    ("plan", "a plan text alone: read, judged, written", (
+        "plan_read::read_plan", "plan_judge::value::judge_plan", "plan_judge::value::is_accepted", "plan_write::write::write_plan")),
+    ("convert", "the plan that `convert` prints", ("convert",)),
+    ("desk", "what `desk` answers and keeps", ("desk",)),
+    ("timetable", "the timetable that `timetable` prints", ("timetable",)),
+    ("judgelog", "the figures and the verdict that `judgelog` prints", ("judgelog",)),
+    ("year", "the report that `year` prints", ("year", "year_totals::add_texts")),
+    ("library", "all calls of the library", (EXPORTS,)),
+)
 
 FUNCTION = re.compile(r'(?:\b(pub)\s+)?(?:extern\s+"C"\s+|const\s+|unsafe\s+)*\bfn\s+(\w+)')
 METHODS = re.compile(r"\bimpl\b(?:<[^>]*>)?\s+(\w+)[^{]*\{")
@@ -101,6 +117,27 @@ def called(house):
     yield from (f for crate in house.crates() if house.is_program(crate) for f in functions_in(house, crate))
 
 
+def meant(house, path):
+    """the functions that a path of TRUSTED means: all of a program or of the library, or a public one"""
+    crate = path.partition("::")[0]
+    if path == crate:
+        return [f for f in functions_in(house, crate) if f.public or house.is_program(crate)]
+    return named(house, path, crate)
+
+
+def trusted(house):
+    """(name, words, functions) of what one may want to trust; a program that has no words yet is named by itself"""
+    known = {path for _, _, paths in TRUSTED for path in paths}
+    new = [crate for crate in house.crates() if house.is_program(crate) and crate not in known]
+    for name, words, paths in TRUSTED + tuple((crate, "what `%s` prints" % crate, (crate,)) for crate in new):
+        if not all(path.partition("::")[0] in house.crates() for path in paths):
+            continue
+        for path in paths:
+            if not meant(house, path):
+                house.lost.append("%s is counted from %s, and there is no such public function" % (name, path))
+        yield name, words, [f for path in paths for f in meant(house, path)]
+
+
 # ---- what is said
 
 def contracts(house, functions, kinds=("ensures",)):
@@ -113,9 +150,13 @@ def contracts(house, functions, kinds=("ensures",)):
 
 
 def statement_files(house):
-    """those of the demands, and of each request that has a crate of promises of its own"""
-    own = (crate for crate in house.crates() if is_promises(crate) and crate != WORDS)
-    return [*STATEMENTS, *("crates/%s/proofs/Promises.antt" % crate for crate in own)]
+    """those of the demands, and of each further crate of promises"""
+    yield from STATEMENTS
+    for crate in (c for c in house.crates() if is_promises(c) and c != WORDS):
+        proofs = "crates/%s/proofs" % crate
+        names = os.listdir(house.path(proofs)) if os.path.isdir(house.path(proofs)) else []
+        own = sorted(name for name in names if fnmatch.fnmatchcase(name, OTHER_STATEMENTS))
+        yield from ("%s/%s" % (proofs, name) for name in own or [OTHER_STATEMENTS])
 
 
 def statements(house):

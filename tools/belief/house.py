@@ -2,7 +2,8 @@
 import collections
 import os
 
-from belief.texts import PLACE, cited, cited_in_clause, definitions_of, imports_of, owners_of, read, spoken, without_comments
+from belief.texts import PLACE, cited, cited_in_clause, definitions_of, imports_of, owners_of, spoken, without_comments
+from blocks import read
 
 Source = collections.namedtuple("Source", "definitions imports aliases owners")
 
@@ -12,6 +13,7 @@ class House:
 
     def __init__(self, root):
         self.root, self.sources, self.lost = root, {}, []
+        self.below = {}
 
     def path(self, *parts):
         return os.path.join(self.root, *parts)
@@ -77,6 +79,12 @@ class House:
         return []
 
     def rests_on(self, definition):
+        key = (definition.place, definition.name)
+        if key not in self.below:
+            self.below[key] = self.looked_up(definition)
+        return self.below[key]
+
+    def looked_up(self, definition):
         source = self.source(definition.place)
         by = "%s of %s" % (definition.name, definition.place)
         signature, *clauses = ("\n".join(entry) for entry in definition.entries)

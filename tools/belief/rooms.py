@@ -2,14 +2,14 @@
 
 `specs/` has what public contracts rest on, `specs/words/` what only the statements of the promises add, `specs/private/` what
 only private functions say and ask. What proofs alone use stands in `proofs/`. Some crates have no function: the specs/ of
-`promises`, and of a request's own `NAME_promises`, are words as a whole, and those of `tables` and of a `NAME_tables` are the rows
-of its own theorems.
+`promises` and of each `promises_NAME` are words as a whole, and those of `tables` and of each `tables_NAME` are the rows of their
+own theorems.
 """
 WORDS, ROWS = "promises", "tables"
 
 
 def is_named(crate, kind):
-    return crate == kind or crate.endswith("_" + kind)
+    return crate == kind or crate.startswith(kind + "_")
 
 
 def is_promises(crate):

@@ -1,12 +1,7 @@
-"""What was found as tables, and the block of a document that holds them."""
+"""What was found, as tables."""
 import collections
-import difflib
-import sys
-
-from belief.texts import read
 
 BASIC = "laws"
-MARKS = ("<!-- believed -->", "<!-- /believed -->")
 HEAD = ["| Crate | Files of `specs/` | Definitions | Lines |", "|---|---|---|---|"]
 
 
@@ -52,41 +47,22 @@ def names_of(definitions):
     return ", ".join("`%s`" % name for name in sorted(d.name for d in definitions))
 
 
-def tables(house, called, inner, words):
-    out = table(house, but_basic(called))
-    out += ["Cited by inner public functions alone, and read by nobody who only calls:", ""]
+def short_table(trusted):
+    """a row for each thing that one may want to trust: (words, definitions)"""
+    rows = ["| %s | %d | %d |" % (words, len(but_basic(ones)), size(but_basic(ones))) for words, ones in trusted]
+    return ["| What you trust | Definitions | Lines |", "|---|---|---|"] + rows + [""]
+
+
+def tables(house, trusted, called, inner, words):
+    out = short_table(trusted)
+    out += ["All of these together, and the functions that the README lists, by crate:", ""]
+    out += table(house, but_basic(called))
+    out += ["Cited only by inner public functions. A caller does not need to read them:", ""]
     out += table(house, but_basic(inner))
     out += ["Apart from these, the basic definitions of `%s`:" % BASIC, ""]
-    out += ["| Who leans on them | Definitions | Lines |", "|---|---|---|"]
-    for who, ones in (("the first table", called), ("inner functions alone", inner), ("the words below alone", words)):
+    out += ["| Used by | Definitions | Lines |", "|---|---|---|"]
+    for user, ones in (("the table by crate", called), ("inner functions only", inner), ("the words below only", words)):
         if basic(ones):
-            out += ["| %s | %s | %d |" % (who, names_of(basic(ones)), size(basic(ones)))]
+            out += ["| %s | %s | %d |" % (user, names_of(basic(ones)), size(basic(ones)))]
     out += ["", "And the words that the statements of the promises add:", ""]
     return "\n".join(out + table(house, but_basic(words))).strip("\n")
-
-
-# ---- the block of a document
-
-def between_marks(text, path):
-    begin, end = (text.find(mark) for mark in MARKS)
-    if begin < 0 or end < begin:
-        sys.exit("believed: %s has no block between %s and %s" % (path, *MARKS))
-    return begin + len(MARKS[0]) + 1, end
-
-
-def check(path, block):
-    text = read(path)
-    begin, end = between_marks(text, path)
-    old, new = text[begin:end].strip("\n").split("\n"), block.split("\n")
-    if old == new:
-        return 0
-    print("\n".join(difflib.unified_diff(old, new, path, "counted", lineterm="")))
-    print("believed: %s is not what was counted: tools/believed --write %s" % (path, path))
-    return 1
-
-
-def write(path, block):
-    text = read(path)
-    begin, end = between_marks(text, path)
-    with open(path, "w", encoding="utf-8") as f:
-        f.write(text[:begin] + block + "\n" + text[end:])

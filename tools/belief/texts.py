@@ -10,11 +10,6 @@ SIGNATURE = re.compile(r"^\s*((?:(?:pub|abbrev|unfoldable|opaque)\s+)*)(?:(data|
 Definition = collections.namedtuple("Definition", "place name public entries lines above")
 
 
-def read(path):
-    with open(path, encoding="utf-8") as f:
-        return f.read()
-
-
 # ---- the names of a text
 
 def bare(text):

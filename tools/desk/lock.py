@@ -8,10 +8,8 @@ PATIENCE = 3
 
 
 def take_lock():
-    """A descriptor of the working directory that holds its lock as long as it is open here or in a child; None where another desk has it.
-
-    The folder itself is locked, and only read, so that a folder that may not be written has a lock too.
-    """
+    """A descriptor that holds the working directory's lock as long as it is open here or in a child; None if another desk has it."""
+    # The folder itself is locked, and only read, so that a folder that may not be written has a lock too.
     folder = os.open(".", os.O_RDONLY | os.O_DIRECTORY)
     until = time.monotonic() + PATIENCE
     while True:

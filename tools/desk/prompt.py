@@ -8,7 +8,7 @@ LONGEST_UNSEEN = 0.05
 
 
 def edit_lines():
-    """Lines can be edited and called back, where Python has the means."""
+    """Lines can be edited and called back, if Python has the means."""
     try:
         import readline
     except ImportError:
@@ -25,6 +25,8 @@ class Prompt:
         self.is_asking = False
         signal.signal(signal.SIGINT, self.interrupt)
         signal.signal(signal.SIGALRM, lambda number, frame: None)
+        # A write that the timer breaks off is taken up again: else what was to be shown would be lost.
+        signal.siginterrupt(signal.SIGALRM, False)
         edit_lines()
 
     def interrupt(self, number, frame):
@@ -45,7 +47,7 @@ class Prompt:
         return line
 
     def line(self):
-        """The next line; None at the end of input, nothing where the line was given up."""
+        """The next line; None at the end of input, nothing if the line was given up."""
         try:
             line = self.typed()
         except KeyboardInterrupt:

@@ -24,7 +24,7 @@ Ctrl-C gives up a line that is being typed, Ctrl-D ends the desk. What was kept 
 
 
 def answers_in_log():
-    """How many answers the log of the folder has, where it is not stopped: the opening, and one for each line of ends.txt but the rule's."""
+    """How many answers a log that is not stopped has: the opening, and one for each line of ends.txt but the rule's."""
     try:
         with open("ends.txt", "rb") as file:
             text = file.read()
@@ -34,7 +34,7 @@ def answers_in_log():
 
 
 def show_answer(program):
-    """The fields of the answer's last line; none where the program has ended."""
+    """The fields of the answer's last line; none if the program has ended."""
     for line in program.process.stdout:
         sys.stdout.buffer.write(line)
         sys.stdout.buffer.flush()
@@ -45,7 +45,7 @@ def show_answer(program):
 
 
 def show_log(program):
-    """Whether lines are read behind the log: not where the plan is refused, which is all of the log then, or the log is stopped."""
+    """Whether lines are read behind the log: not if the plan is refused, or the log is stopped."""
     for k in range(answers_in_log()):
         last = show_answer(program)
         if not last or (last[0] == b"refused" and (k == 0 or last[1] in STOPPING)):

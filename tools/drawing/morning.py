@@ -1,6 +1,9 @@
 """A plan and its log or timetable as rows of bars, boards or drives, and the figure M of a log."""
+from common.plans import read_plan
+from common.words import many
+
+from .logs import Log, Task, read_log, rows_in
 from .svg import ALONE, BAR, FIGURE, INK, LANE, LEFT, LINE, MARK, QUIET, RIGHT, SHARED, TOP, WIDTH, Picture
-from .texts import Log, read_log, read_plan
 
 
 class Row:
@@ -23,7 +26,7 @@ class Row:
         return [task for task in self.tasks if task.marked]
 
     def overlap(self):
-        """The time in which a marked pair is planned in this row; none where it is not."""
+        """The time in which a marked pair is planned in this row; None if it is not."""
         begin, end = max((task.begin for task in self.pair()), default=0), min((task.finish for task in self.pair()), default=0)
         return (begin, end) if len(self.pair()) == 2 and begin < end else None
 
@@ -48,7 +51,8 @@ def rows_of(boards, tasks, by_drive, clock):
         return [Row(f"board {board}", [task for task in tasks if task.board == board], {}, clock) for board in range(1, boards + 1)]
     held = sorted({drive for task in tasks for drive in task.drives()})
     holders = {drive: [task for task in tasks if drive in task.drives()] for drive in held}
-    return [Row(f"drive {drive}", holders[drive], {task.number: task.drives()[drive] for task in holders[drive]}, clock) for drive in held]
+    shares = {drive: {task.number: task.drives()[drive] == "s" for task in holders[drive]} for drive in held}
+    return [Row(f"drive {drive}", holders[drive], shares[drive], clock) for drive in held]
 
 
 def step_of(last, most):
@@ -64,11 +68,11 @@ def step_of(last, most):
 def draw_legend(picture, title, by_drive, log):
     picture.text(LEFT, 26, title, 16, INK, "start")
     has_actual = log.clock is not None
-    many = 2 if has_actual else 1
+    colours = 2 if has_actual else 1
     if by_drive:
         words = ", planned and actual" if has_actual else ", planned"
-        x = picture.swatch(LEFT, ALONE[:many], "exclusive" + words)
-        x = picture.swatch(x, SHARED[:many], "shared" + words)
+        x = picture.swatch(LEFT, ALONE[:colours], "exclusive" + words)
+        x = picture.swatch(x, SHARED[:colours], "shared" + words)
     else:
         x = picture.swatch(LEFT, ALONE[:1], "planned")
         x = picture.swatch(x, ALONE[1:], "actual") if has_actual else x
@@ -96,7 +100,7 @@ def draw_task(picture, row, task, y, clock):
     if task.start is not None:
         place = below + LANE * row.actual[task.number]
         picture.bar(task, task.start, end_of(task, clock), place, solid, "#fff", task.end is None)
-        # Ahead of the clock a start is known only where the task's class is awaited.
+        # Ahead of the clock a start is known only if the task's class is awaited.
         if task.known < task.start == task.ready:
             picture.known(task, place + BAR / 2, solid)
     if task.ready > 0:
@@ -104,7 +108,7 @@ def draw_task(picture, row, task, y, clock):
 
 
 def draw_pair(picture, row, y):
-    """A band where the two that are marked are planned in one row at the same time."""
+    """A band if the two that are marked are planned in one row at the same time."""
     if row.overlap():
         begin, end = row.overlap()
         says = f"{row.name}: {' and '.join(f'task {task.number}' for task in row.pair())} overlap from {begin} to {end}"
@@ -162,7 +166,7 @@ def legends_of(tasks, by_drive):
         yield "a triangle: ready, dotted: a start known before its tick"
     idle = sum(task.holds == "-" for task in tasks)
     if by_drive and idle:
-        yield f"not drawn: {idle} task{'' if idle == 1 else 's'} without a drive"
+        yield f"not drawn: {many(idle, 'task')} without a drive"
 
 
 def title_of(boards, tasks, log, by_drive):
@@ -170,12 +174,13 @@ def title_of(boards, tasks, log, by_drive):
     went = f"the plan, {log.refused}" if log.refused else "the plan and how it went" if has_log else "the plan"
     went += " and its timetable" if log.is_timetable else ""
     rule = " by the clash rule" if log.by_clash else ""
-    many = f"{len(tasks)} task{'' if len(tasks) == 1 else 's'} on {boards} board{'' if boards == 1 else 's'}"
-    return f"{many}{', by drive' if by_drive else ''}: {went}{rule}"
+    by = ", by drive" if by_drive else ""
+    return f"{many(len(tasks), 'task')} on {many(boards, 'board')}{by}: {went}{rule}"
 
 
 def draw(plan_path, log_path, by_drive):
-    boards, tasks = read_plan(plan_path)
+    plan = read_plan(plan_path, rows_in(plan_path), Task)
+    boards, tasks = plan.boards, plan.tasks
     log = read_log(log_path, boards, tasks) if log_path else Log()
     rows = rows_of(boards, tasks, by_drive, log.clock)
     last = max([log.clock or 0] + [max(task.finish, task.start or 0) for task in tasks])

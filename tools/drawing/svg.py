@@ -33,7 +33,7 @@ class Picture:
         self.lines.append(f'<line x1="{x1:.1f}" y1="{y1:.1f}" x2="{x2:.1f}" y2="{y2:.1f}" stroke="{stroke}"/>')
 
     def shape(self, start, says):
-        """A shape that tells something where it is hovered."""
+        """A shape that tells something when it is hovered."""
         name = start.split(" ", 1)[0]
         self.lines.append(f"<{start}><title>{escape(says)}</title></{name}>")
 
@@ -49,7 +49,7 @@ class Picture:
             self.text(x + width / 2, y + 13, task.number, 11, ink)
 
     def planned(self, task, y, fill):
-        """A pale bar, hollow where the task is dropped."""
+        """A pale bar, hollow if the task is dropped."""
         self.bar(task, task.begin, task.finish, y, "#fff" if task.dropped else fill, INK)
         if task.dropped:
             x, width = self.x(task.begin), self.x(task.finish) - self.x(task.begin)

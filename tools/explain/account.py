@@ -1,5 +1,8 @@
 """What is told of one refusal, and the folder that it is told of."""
-from .morning import Plan
+from common.plans import read_first_line
+from common.texts import fields_of
+
+from .morning import plan_of
 from .texts import Text, shown
 
 
@@ -11,14 +14,18 @@ class Account:
 
 
 class Case:
-    """The folder, and how far its log has come when a line is refused; the morning is none while the plan is not accepted."""
+    """The folder, and how far its log has come when a line is refused; there is no morning before the plan is accepted."""
 
     def __init__(self, folder):
         self.folder, self.plan_text, self.ends_text = folder, Text(folder, "plan.txt"), Text(folder, "ends.txt")
         self.morning = None
 
     def plan(self):
-        return self.morning.plan if self.morning else Plan(self.plan_text)
+        return self.morning.plan if self.morning else plan_of(self.plan_text)
+
+    def first_line(self):
+        """The edition, and how many boards and tasks, of a plan whose first line was not refused."""
+        return read_first_line((self.plan_text.name, fields_of(self.plan_text.line(1))))
 
     def refused_text(self):
         """A line of the plan is refused before the morning begins."""
@@ -28,10 +35,6 @@ class Case:
 def listed(numbers, one="task", several="tasks"):
     words = [str(number) for number in numbers]
     return f"{one} {words[0]}" if len(words) == 1 else f"{several} {', '.join(words[:-1])} and {words[-1]}"
-
-
-def many(count, word):
-    return f"{count} {word}" + ("" if count == 1 else "s")
 
 
 def at_line(text, k, column):

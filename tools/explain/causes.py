@@ -1,7 +1,9 @@
 """The usual causes of a malformed line, refusals 2 and 3: pairs of what is wrong and what to do."""
 import re
 
-from .texts import fields_of, visible
+from common.texts import fields_of
+
+from .texts import visible
 
 NUMBER = r"(?:0|[1-9][0-9]*)"
 SPELT = {
@@ -23,7 +25,7 @@ END, DROP, RULE = ("word", "task", "tick"), ("word", "task"), ("word", "rule")
 
 
 def saved_otherwise(text, k):
-    """How an editor saved the text, where that shows in line k."""
+    """How an editor saved the text, if that shows in line k."""
     line = text.line(k)
     if text.bytes[:2] in UTF_16:
         wrong = f"{text.name} is saved as UTF-16, two bytes a sign."
@@ -48,6 +50,10 @@ def cleaned(text, k):
 
 def is_spelt(name, value):
     return bool(re.fullmatch(SPELT.get(name, NUMBER), value))
+
+
+def has_space(value):
+    return " " in value or "\u00a0" in value
 
 
 def quoted(value):
@@ -81,13 +87,13 @@ def number_fault(name, value):
         return f"The {name} {quoted(value)} has a sign.", "Write a number from 0 on, without a sign."
     if re.fullmatch("[0-9][0-9.,']*", value):
         return f"The {name} {quoted(value)} has more in it than digits.", "Write digits alone: no point, no comma."
-    if " " in value or "\u00a0" in value:
+    if has_space(value):
         return f"The {name} {quoted(value)} has a space in it.", "Remove the space: a tab alone parts two fields."
     return f"The {name} {quoted(value)} is no number.", "Write decimal digits alone."
 
 
 def list_fault(name, value):
-    if " " in value or "\u00a0" in value:
+    if has_space(value):
         return f"The {name} list {quoted(value)} has a space in it.", f"Join the items by commas alone, as in {EXAMPLES[name]}."
     if re.search("(^|,)[es]?0[0-9]", value):
         return f"The {name} list {quoted(value)} has a leading zero.", "Write the numbers without it."
@@ -128,7 +134,7 @@ def end_fault(names, fields, line):
 
 
 def of_other_edition(names, fields):
-    """The edition whose task line this would be; none where it is of neither."""
+    """The edition whose task line this would be; none if it is of neither."""
     for edition, others in TASK.items():
         if names in TASK.values() and others != names and len(fields) == len(others) and all(map(is_spelt, others[1:], fields[1:])):
             return edition
@@ -137,11 +143,11 @@ def of_other_edition(names, fields):
 
 def has_spaces_for_tabs(names, line):
     is_comment = line.startswith((b"#", b"//"))
-    return (b" " in line or b"\xc2\xa0" in line) and line.count(b"\t") + 1 < len(names) and not is_comment
+    return has_space(line.decode("utf-8", "replace")) and line.count(b"\t") + 1 < len(names) and not is_comment
 
 
 def fault_of_line(line, k, names, words, field):
-    """The cause in a line that was saved as it must be; none where that alone was its fault."""
+    """The cause in a line that was saved as it must be; none if that alone was its fault."""
     fields = fields_of(line)
     edition = of_other_edition(names, fields)
     if has_spaces_for_tabs(names, line):

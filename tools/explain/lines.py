@@ -1,9 +1,14 @@
 """Words for 1 to 5, 18 and 20: a text, or a line of it, that is not as it must be."""
-from .account import Account, at_line, joined, listed, many
-from .causes import DROP, END, FIRST, RULE, TASK, is_spelt, malformed, quoted
-from .texts import MOST_BYTES, column_of, fields_of, folders_with, near_names
+from common.plans import MOST_BOARDS, MOST_DRIVES, MOST_TASKS
+from common.texts import MOST_NUMBER, fields_of
+from common.words import many
 
-MOST = 1_000_000
+from .account import Account, at_line, joined, listed
+from .causes import DROP, END, FIRST, RULE, TASK, is_spelt, malformed, quoted
+from .texts import MOST_BYTES, column_of, folders_with, near_names
+
+# The numbers of the first line, by their places, from 1 to these.
+RANGES = {2: (MOST_BOARDS, "boards"), 3: (MOST_TASKS, "tasks")}
 
 
 def too_long(case, _first, _second):
@@ -28,14 +33,13 @@ def number_of(value):
     return int(value[:8])
 
 
-def in_range(field, value):
+def in_range(place, value):
     """Whether a well spelt field of the first line may have this value."""
-    most = {2: 8, 3: 64}.get(field)
-    return most is None or 1 <= number_of(value) <= most
+    return place not in RANGES or 1 <= number_of(value) <= RANGES[place][0]
 
 
 def first_bad_field(fields):
-    """Its place among the four of the first line; 4 or less where the fault lies behind those that are there."""
+    """Its place among the four of the first line; 4 or less if the fault lies behind those that are there."""
     for place, (name, value) in enumerate(zip(FIRST, fields)):
         is_right = value == "plan" if place == 0 else is_spelt(name, value) and in_range(place, value)
         if not is_right:
@@ -44,7 +48,7 @@ def first_bad_field(fields):
 
 
 def out_of_first_range(place, value, look):
-    most, what = (8, "boards") if place == 2 else (64, "tasks")
+    most, what = RANGES[place]
     wrong = f"The first line says {quoted(value)} {what}, and a plan has 1 to {most}."
     return Account(wrong, "Correct the number, or make a second plan of what is too much.", look)
 
@@ -59,7 +63,7 @@ def first_line(case, _first, _second):
     fields = fields_of(line)
     bad = first_bad_field(fields)
     look = at_line(text, 1, min(column_of(line, bad), len(line.rstrip(b"\n")) + 1))
-    if bad in (2, 3) and len(fields) > bad and is_spelt(FIRST[bad], fields[bad]):
+    if bad in RANGES and len(fields) > bad and is_spelt(FIRST[bad], fields[bad]):
         return out_of_first_range(bad, fields[bad], look)
     causes = malformed(text, 1, FIRST, ("plan",), bad)
     later = next((k for k, other in enumerate(text.lines, 1) if other.startswith(b"plan\t")), 1)
@@ -74,7 +78,8 @@ def form_of(case, k):
     """The names of the fields that line k of the refused text must have, and the words that may begin it."""
     fields = fields_of(case.refused_text().line(k))
     if not case.morning:
-        return TASK[int(fields_of(case.plan_text.line(1))[1])], ("task",)
+        edition, _, _ = case.first_line()
+        return TASK[edition], ("task",)
     if k == 1 and fields[0] == "rule":
         return RULE, ("rule",)
     return (DROP if fields[0] == "drop" else END), ("end", "drop", "rule") if k == 1 else ("end", "drop")
@@ -89,7 +94,7 @@ def rest_unread(case, k, account):
 
 
 def missing_line(case, k):
-    tasks = int(fields_of(case.plan_text.line(1))[3])
+    _, _, tasks = case.first_line()
     wrong = f"plan.txt ends before line {k}: its first line says {many(tasks, 'task')}, and it has {many(k - 2, 'task line')}."
     return Account(wrong, "Add the lines that are missing, or correct the number of tasks in line 1.", at_line(case.plan_text, 1, None))
 
@@ -115,18 +120,18 @@ def list_out_of_range(name, value, most):
 def field_out_of_range(case, k, name, fields):
     """What is wrong with a field that is well spelt, and what to do."""
     value = dict(zip(form_of(case, k)[0], fields))
-    _, _, boards, tasks = fields_of(case.plan_text.line(1))
+    _, boards, tasks = case.first_line()
     if name in ("holds", "after"):
-        return list_out_of_range(name, value[name], 32 if name == "holds" else int(tasks))
+        return list_out_of_range(name, value[name], MOST_DRIVES if name == "holds" else tasks)
     if name == "task number":
         wrong = f"Line {k} is that of task {k - 1}, and says task {quoted(value[name])}."
         return wrong, "Number the task lines 1, 2, 3, … in their order."
     if name == "board":
         wrong = f"The board is {quoted(value[name])}, and the first line says boards 1 to {boards}."
         return wrong, "Correct the board, or the number of boards in line 1."
-    if number_of(value[name]) > MOST:
+    if number_of(value[name]) > MOST_NUMBER:
         to_do = "Correct it." if case.morning else "Correct it; where the plan is longer, take larger ticks."
-        return f"The {name} {quoted(value[name])} is over {MOST:,}, the greatest number of a text.", to_do
+        return f"The {name} {quoted(value[name])} is over {MOST_NUMBER:,}, the greatest number of a text.", to_do
     wrong = f"The planned finish {value[name]} is not after the planned start {value['planned start']}."
     return wrong, "A task takes at least one tick: correct one of the two."
 
@@ -140,15 +145,15 @@ def out_of_range(case, k, column):
 
 
 def bytes_follow(case, k, _second):
-    rest, tasks = case.plan_text.lines[k - 1:], fields_of(case.plan_text.line(1))[3]
+    rest, (_, _, tasks) = case.plan_text.lines[k - 1:], case.first_line()
     look = at_line(case.plan_text, k, None)
     if not b"".join(rest).strip():
         to_do = "Remove them: the text ends with the LF of the last task line."
         return Account("Empty lines stand behind the last task line.", to_do, look)
     more = sum(line.startswith(b"task\t") for line in rest)
     if more:
-        wrong = f"The first line says {many(int(tasks), 'task')}, and there are {int(tasks) + more} task lines."
-        return Account(wrong, f"Write {int(tasks) + more} in line 1 (at most 64), or remove what is too much.", look)
+        wrong = f"The first line says {many(tasks, 'task')}, and there are {tasks + more} task lines."
+        return Account(wrong, f"Write {tasks + more} in line 1 (at most {MOST_TASKS}), or remove what is too much.", look)
     return Account("Something stands behind the last task line.", "Remove it: a plan ends with its last task.", look)
 
 

@@ -1,45 +1,30 @@
-"""A plan that could be read, and how far its morning has come by the lines of the log."""
-from .texts import fields_of
+"""The plan of a folder, and how far its morning has come by the lines of the log."""
+from common.plans import Task as PlannedTask, read_plan
+from common.texts import rows_of
 
 
-class Task:
-    """A task line of a plan that was read; in edition 1 a task is ready at 0."""
-
-    def __init__(self, edition, fields):
-        if edition == 1:
-            fields = fields[:3] + ["0"] + fields[3:]
-        self.number, self.board, self.ready, self.begin, self.finish = map(int, fields[1:6])
-        self.holds = {} if fields[6] == "-" else {int(item[1:]): item[0] for item in fields[6].split(",")}
-        self.after = [] if fields[7] == "-" else [int(item) for item in fields[7].split(",")]
-        self.edition, self.fields = edition, fields
+class Task(PlannedTask):
+    """A task line, and its words."""
 
     def __str__(self):
         ready = f", ready {self.ready}" if self.edition == 2 else ""
         times = f"{ready}, planned {self.begin} to {self.finish}"
-        return f"task {self.number}: board {self.board}{times}, holds {self.fields[6]}, after {self.fields[7]}"
+        return f"task {self.number}: board {self.board}{times}, holds {self.holds}, after {self.after}"
 
 
-class Plan:
-    """The tasks of a plan text whose lines were not refused."""
-
-    def __init__(self, text):
-        self.edition = int(fields_of(text.line(1))[1])
-        self.tasks = [Task(self.edition, fields_of(line)) for line in text.lines[1:]]
-
-    def task(self, number):
-        return self.tasks[number - 1]
-
-    def last_finish(self):
-        return max(task.finish for task in self.tasks)
+def plan_of(text):
+    """The plan of a text of which no line was refused."""
+    return read_plan(text.name, rows_of(text.name, text.bytes), Task)
 
 
 def contested(a, b):
     """The drives that both hold, at least one of them exclusively."""
-    return [drive for drive in sorted(a.holds.keys() & b.holds.keys()) if "e" in (a.holds[drive], b.holds[drive])]
+    of_a, of_b = a.drives(), b.drives()
+    return [drive for drive in sorted(of_a.keys() & of_b.keys()) if "e" in (of_a[drive], of_b[drive])]
 
 
 def clash(a, b):
-    return a.board == b.board or bool(contested(a, b)) or a.number in b.after or b.number in a.after
+    return a.board == b.board or bool(contested(a, b)) or a.number in b.tasks_before() or b.number in a.tasks_before()
 
 
 class Morning:

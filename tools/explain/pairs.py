@@ -12,7 +12,7 @@ def overlap(a, b):
 
 
 def apart(a, b):
-    """The later one moved behind the other, or where they do not begin together the sooner one cut."""
+    """The later one moved behind the other, or, if they do not begin together, the sooner one cut."""
     first, second = sorted((a, b), key=lambda task: (task.begin, task.number))
     sooner = f", or task {first.number} to finish by {second.begin}" if first.begin < second.begin else ""
     return f"Plan task {second.number} to start at {first.finish} or later{sooner}"
@@ -27,7 +27,7 @@ def one_board(case, first, second):
 def one_drive(case, first, second):
     a, b = case.plan().task(first), case.plan().task(second)
     drives = contested(a, b)
-    holds = [f"task {task.number} as {','.join(task.holds[drive] + str(drive) for drive in drives)}" for task in (a, b)]
+    holds = [f"task {task.number} as {','.join(task.drives()[drive] + str(drive) for drive in drives)}" for task in (a, b)]
     wrong = f"Tasks {first} and {second} both hold {listed(drives, 'drive', 'drives')} {overlap(a, b)}: {', '.join(holds)}."
     share = "; or share it in both (`s`)" if case.plan().edition == 1 else ""
     return Account(wrong, f"{apart(a, b)}; or take the drive{'s' if drives[1:] else ''} out of the holds of one{share}.", both(a, b))
@@ -38,7 +38,7 @@ def order_broken(case, first, second):
         to_do = "Take it out of its own list; write `-` where nothing is left."
         return Account(f"Task {first} lists itself under after.", to_do, planned(case, first))
     a, b = case.plan().task(first), case.plan().task(second)
-    later, sooner = (a, b) if second in a.after and b.finish > a.begin else (b, a)
+    later, sooner = (a, b) if second in a.tasks_before() and b.finish > a.begin else (b, a)
     is_planned = f"is planned to start at {later.begin}, before that one's planned finish {sooner.finish}"
     to_do = f"Plan task {later.number} to start at {sooner.finish} or later, or take {sooner.number} out of its after list."
     return Account(f"Task {later.number} comes after task {sooner.number}, and {is_planned}.", to_do, both(a, b))

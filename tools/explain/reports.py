@@ -1,5 +1,7 @@
 """Words for 10 to 15 and 19: a line of ends.txt that does not fit the morning as it stands."""
-from .account import Account, at_line, listed, many, planned
+from common.words import many
+
+from .account import Account, at_line, listed, planned
 from .texts import column_of
 
 
@@ -8,13 +10,22 @@ def at_entry(case, field):
     return at_line(case.ends_text, k, column_of(case.ends_text.line(k), field))
 
 
+def at_task(case, number):
+    """The line that names the task, and the task."""
+    return at_entry(case, 1) + planned(case, number)
+
+
+def wrong_tick(case, number, wrong, to_do):
+    return Account(wrong, to_do, at_entry(case, 2) + planned(case, number))
+
+
 def unknown_task(case, number, _tick):
     tasks = len(case.plan().tasks)
     return Account(f"There is no task {number}: the plan has tasks 1 to {tasks}.", "Correct the task's number.", at_entry(case, 1))
 
 
 def past(morning, number):
-    """What has become of a task that has ended or passed; none where it has not."""
+    """What has become of a task that has ended or passed; none if it has not."""
     if number in morning.ended:
         return f"Task {number} has ended already, at {morning.ended[number]}."
     if number in morning.skipped:
@@ -23,7 +34,7 @@ def past(morning, number):
 
 
 def not_running(case, number, _tick):
-    look = at_entry(case, 1) + planned(case, number)
+    look = at_task(case, number)
     done = past(case.morning, number)
     if done:
         return Account(done, "Nothing is to be reported of it: remove the line, or correct the task's number.", look)
@@ -36,14 +47,14 @@ def before_clock(case, number, tick):
     clock = case.morning.clock
     wrong = f"Tick {tick} is before the clock: the last report that was accepted is of tick {clock}."
     to_do = f"Put the lines of ends.txt in order of time, or correct the tick: {clock} or later."
-    return Account(wrong, to_do, at_entry(case, 2) + planned(case, number))
+    return wrong_tick(case, number, wrong, to_do)
 
 
 def at_start(case, number, tick):
     start = case.morning.started[number]
     wrong = f"Task {number} starts at {start}, and a task takes at least one tick, so it cannot have ended at {tick}."
     to_do = f"Correct the tick: it is {start + 1} to {case.morning.limit(number)}."
-    return Account(wrong, to_do, at_entry(case, 2) + planned(case, number))
+    return wrong_tick(case, number, wrong, to_do)
 
 
 def overran(case, number, tick):
@@ -52,7 +63,7 @@ def overran(case, number, tick):
     wrong = f"Task {number} started at {start} and may take {may_take}, so its limit is {limit}, and tick {tick} is after it."
     in_time = f"Where it ended in time, correct the tick: {limit} at the latest."
     longer = f"Where it truly took longer, plan it longer in plan.txt; no report past {limit} is accepted until it has ended."
-    return Account(wrong, f"{in_time} {longer}", at_entry(case, 2) + planned(case, number))
+    return wrong_tick(case, number, wrong, f"{in_time} {longer}")
 
 
 def other_overdue(case, number, tick):
@@ -66,7 +77,7 @@ def other_overdue(case, number, tick):
 
 
 def no_drop(case, number, _second):
-    look, morning = at_entry(case, 1) + planned(case, number), case.morning
+    look, morning = at_task(case, number), case.morning
     if number in morning.ended or number in morning.dropped:
         return Account(past(morning, number), "Nothing is to be done: remove the line, or correct the task's number.", look)
     wrong = f"The start of task {number} is known ({morning.started[number]}), so it can no longer be dropped."

@@ -2,6 +2,8 @@
 import difflib
 import os
 
+from common.texts import lines_of
+
 MOST_BYTES = 32_768
 # What stands for a sign that cannot be seen, and what it is called.
 MARKS = {
@@ -28,22 +30,11 @@ class Text:
         if self.is_there:
             with open(path, "rb") as file:
                 self.bytes = file.read(MOST_BYTES + 1)
-        self.lines = split_lines(self.bytes)
+        self.lines = lines_of(self.bytes)
 
     def line(self, k):
-        """Line k with its end; empty where there is none."""
+        """Line k with its end; empty if there is none."""
         return self.lines[k - 1] if 1 <= k <= len(self.lines) else b""
-
-
-def split_lines(text):
-    """The lines with their LF; only an LF ends one."""
-    lines = [line + b"\n" for line in text.split(b"\n")]
-    return lines[:-1] + ([lines[-1][:-1]] if lines[-1] != b"\n" else [])
-
-
-def fields_of(line):
-    """The fields of a line as words; what is no UTF-8 shows as such."""
-    return [field.decode("utf-8", "replace") for field in line.removesuffix(b"\n").split(b"\t")]
 
 
 def column_of(line, field):

@@ -1,7 +1,9 @@
 """All that is told of a folder's log."""
-from .account import Account, Case, many
+from common.words import many
+
+from .account import Account, Case
 from .lines import bytes_follow, first_line, misspelt, out_of_range, ready_late, shared_hold, too_long
-from .morning import Morning, Plan
+from .morning import Morning, plan_of
 from .pairs import begins_late, one_board, one_drive, order_broken
 from .reports import at_start, before_clock, no_drop, not_running, other_overdue, overran, unknown_task
 from .texts import legend, near_names
@@ -47,7 +49,7 @@ def told(folder, log):
     case, blocks = Case(folder), []
     for word, *rest in log:
         if word == "run":
-            case.morning = Morning(Plan(case.plan_text), rest[-1] == "clash")
+            case.morning = Morning(plan_of(case.plan_text), rest[-1] == "clash")
             continue
         numbers = [int(number) for number in rest]
         if case.morning:

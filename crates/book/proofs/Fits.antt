@@ -18,18 +18,18 @@ use Rattle.theory.proofs.Reflect.{all-ended-at}
 use Rattle.theory.proofs.Task.{started-all}
 use Rattle.plan.specs.Value.{at, isAccepted}
 use Rattle.plan.specs.declared.Plan.{Plan}
-use Rattle.view.specs.View.{planFor}
-use Rattle.view.proofs.Accepted.{plan-facts, plan-lawful, clash-waits}
-use Rattle.view.proofs.Laid.{laid-past}
+use Rattle.book_view.specs.View.{planFor}
+use Rattle.book_view.proofs.Accepted.{plan-facts, plan-lawful, clash-waits}
+use Rattle.book_view.proofs.Laid.{laid-past}
 use Rattle.book.specs.View.{planIn, planView, bookView}
 use Rattle.book.specs.private.Table.{seenAs, movedTo, OnEight, InTurn, Onward, Closed, Past, Fit}
 use Rattle.book.specs.declared.Book.{Book}
-use Rattle.book.specs.declared.Moved.{Moved}
+use Rattle.book.specs.declared.StepArrays.{StepArrays}
 use Rattle.book.proofs.Views.{past-by, past-blank, set-put}
 use Rattle.book.proofs.Soundness.{SoundFacts}
 
 -- nobody has started on a blank book
-pub blank-seen : (none : List ℕ) {empty : Moved} → empty ≡ movedTo 0 blank → ((j : ℕ) → at none j ≡ 0) → seenAs empty none 0 ≡ blank
+pub blank-seen : (none : List ℕ) {empty : StepArrays} → empty ≡ movedTo 0 blank → ((j : ℕ) → at none j ≡ 0) → seenAs empty none 0 ≡ blank
 blank-seen none e z =
     rw e
     (λ i. record {
@@ -63,7 +63,7 @@ module _ (rule : ℕ) (plan : Plan) (ok : isAccepted plan ≡ true) where
   }
 
   pub fit-blank :
-      (none : List ℕ) {empty : Moved} → empty ≡ movedTo 0 blank → ((j : ℕ) → at none j ≡ 0)
+      (none : List ℕ) {empty : StepArrays} → empty ≡ movedTo 0 blank → ((j : ℕ) → at none j ≡ 0)
       → Fit (planFor rule plan) (at (plan .board)) (seenAs empty none 0)
   fit-blank none e z = rw (blank-seen none e z) (fit-on blank (λ i j li lj n w. absurd (n refl)) (past-blank (plan .tasks)))
 
@@ -82,7 +82,7 @@ closed-ended plan book k tick sound ok i j li lj n w =
     rw (ne-eqb j k e) (all-ended-at plan (book .mark) i (started-all (sound .task i li) started) j lj w))
 
 module _ (book : Book) (k tick : ℕ) (size-mark : length (book .mark) ≡ 64) (size-end : length (book .end) ≡ 64) (place : k < 64)
-    {ended : Moved} (e : ended ≡ record { mark = set (book .mark) k 2; start = book .start; end = set (book .end) k tick }) where
+    {ended : StepArrays} (e : ended ≡ record { mark = set (book .mark) k 2; start = book .start; end = set (book .end) k tick }) where
   pub ended-seen : seenAs ended (book .dropped) tick ≡ endIt (bookView book) k tick
   ended-seen =
       rw e

@@ -13,16 +13,16 @@ use Rattle.laws.specs.Each.{each, rows}
 use native.Mathlib.Omega.{arith}
 use Rattle.plan.specs.Value.{at, planWith, planOf, zeroPlan}
 use Rattle.plan.specs.declared.Plan.{Plan}
-use Rattle.view.specs.View.{planFor, laid}
-use Rattle.view.proofs.Accepted.{plan-facts}
-use Rattle.view.proofs.Laid.{zeros-laid, laid-past}
+use Rattle.book_view.specs.View.{planFor, laid}
+use Rattle.book_view.proofs.Accepted.{plan-facts}
+use Rattle.book_view.proofs.Laid.{zeros-laid, laid-past}
 use Rattle.book.specs.View.{planIn, planView, bookView, layOut}
 use Rattle.book.specs.Open.{ruleNumber, blankBook, openedOn}
 use Rattle.book.specs.Report.{nextBook}
 use Rattle.book.specs.Drop.{droppedIn}
 use Rattle.book.specs.private.Table.{seenAs, movedTo}
 use Rattle.book.specs.declared.Book.{Book}
-use Rattle.book.specs.declared.Moved.{Moved}
+use Rattle.book.specs.declared.StepArrays.{StepArrays}
 use Rattle.book.specs.declared.Rule.{Rule}
 use Rattle.book.proofs.Views.{own-laid, set-laid}
 use Rattle.book.proofs.Soundness.{SoundFacts}
@@ -96,7 +96,7 @@ module _ (plan : Plan) (rule : Rule) {book : Book} (b : book ≡ blankBook (rule
   pub none-dropped : (j : ℕ) → at (book .dropped) j ≡ 0
   none-dropped j = ap (λ (x : Book). at (x .dropped) j) blank-none ∙ laid-past 0 (λ i. 0) j (omega arith)
 
-  module _ {empty moved : Moved} (e : empty ≡ movedTo 0 blank)
+  module _ {empty moved : StepArrays} (e : empty ≡ movedTo 0 blank)
       (m : moved ≡ movedTo (book .tasks) (letGo (planView book) (skipTimes (book .tasks) (planView book) (seenAs empty (book .dropped) 0)))) where
     moved-is : moved ≡ movedTo (plan .tasks) (letGo (planFor (ruleNumber rule) plan) blank)
     moved-is =
@@ -114,7 +114,7 @@ module _ (book : Book) (f : SoundFacts book) (size-dropped : length (book .dropp
   few = plan-facts (planIn book) (f .accepted) .tasks-to
 
   module _ (k tick : ℕ) (size-mark : length (book .mark) ≡ 64) (size-end : length (book .end) ≡ 64) (place : k < 64)
-      {ended moved : Moved} (e : ended ≡ record { mark = set (book .mark) k 2; start = book .start; end = set (book .end) k tick })
+      {ended moved : StepArrays} (e : ended ≡ record { mark = set (book .mark) k 2; start = book .start; end = set (book .end) k tick })
       (m : moved ≡ movedTo (book .tasks) (letGo (planView book) (skipTimes (book .tasks) (planView book) (seenAs ended (book .dropped) tick)))) where
     next-is : moved ≡ movedTo (book .tasks) (next (planView book) (bookView book) k tick)
     unfolding next

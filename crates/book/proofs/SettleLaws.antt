@@ -14,9 +14,9 @@ use Rattle.theory.proofs.Past.{past-skip, past-let-go}
 use Rattle.theory.proofs.Reflect.{all-ended-at}
 use Rattle.theory.proofs.Skip.{goes-at}
 use Rattle.plan.specs.Value.{at}
-use Rattle.view.specs.View.{planSeen}
+use Rattle.book_view.specs.View.{planSeen}
 use Rattle.book.specs.private.Table.{SmallTable, goesByRow, skipsByRow, roundBy, roundsBy, startsBy, seenAs, movedTo, TableTo, Closed, Past, Fit}
-use Rattle.book.specs.declared.Moved.{Moved}
+use Rattle.book.specs.declared.StepArrays.{StepArrays}
 use Rattle.book.proofs.StartLaws.{put-at, length-put, go-by-row}
 use Rattle.book.proofs.SkipLaws.{waits-back}
 use Rattle.book.proofs.TableLaws.{row-small}
@@ -43,17 +43,17 @@ seen-rows tasks ready finish waits board mark n table t = record { rows = λ i l
 
 module _ (plan : Plan) (board : ℕ → ℕ) (dropped : List ℕ) (clock : ℕ) (table : List (List ℕ)) where
   -- what the rounds and the starts keep
-  pub record Ready (moved : Moved) : Type 0 where
+  pub record Ready (moved : StepArrays) : Type 0 where
     pub fit : Fit plan board (seenAs moved dropped clock)
     pub rows : TableTo plan board (at (moved .mark)) (plan .tasks) table
     pub size-mark : length (moved .mark) ≡ 64
     pub size-start : length (moved .start) ≡ 64
     pub size-end : length (moved .end) ≡ 64
 
-  pub ready-small : (moved : Moved) → Ready moved → (plan .tasks ≤ 64) × SmallTable (at (moved .mark)) (plan .tasks) table
+  pub ready-small : (moved : StepArrays) → Ready moved → (plan .tasks ≤ 64) × SmallTable (at (moved .mark)) (plan .tasks) table
   ready-small moved r = (r .fit .few, λ i l z. row-small plan board i _ _ (r .fit .few) (r .rows .rows i l z))
 
-  module _ (moved : Moved) (r : Ready moved) where
+  module _ (moved : StepArrays) (r : Ready moved) where
     abbrev seen : Book
     seen = seenAs moved dropped clock
 
@@ -131,27 +131,27 @@ module _ (plan : Plan) (board : ℕ → ℕ) (dropped : List ℕ) (clock : ℕ) 
               end = own-laid (plan .tasks) (moved .end) (r .fit .few) (r .size-end) (past .end) i;
             }
 
-  rounds-ready : (k : ℕ) (moved : Moved) → Ready moved → Ready (roundsBy k dropped table clock (plan .tasks) moved)
+  rounds-ready : (k : ℕ) (moved : StepArrays) → Ready moved → Ready (roundsBy k dropped table clock (plan .tasks) moved)
   unfolding roundsBy
   rounds-ready zero moved r = r
   rounds-ready (suc k) moved r = rounds-ready k (roundBy dropped table clock (plan .tasks) moved) (sizes moved r)
 
   rounds-view :
-      (k : ℕ) (moved : Moved) → Ready moved
+      (k : ℕ) (moved : StepArrays) → Ready moved
       → seenAs (roundsBy k dropped table clock (plan .tasks) moved) dropped clock ≡ skipTimes k plan (seenAs moved dropped clock)
   unfolding roundsBy skipTimes
   rounds-view zero moved r = refl
   rounds-view (suc k) moved r =
       rounds-view k (roundBy dropped table clock (plan .tasks) moved) (sizes moved r) ∙ ap (skipTimes k plan) (view-round moved r)
 
-  module _ (moved : Moved) (r : Ready moved) {skipped : Moved} (s : skipped ≡ roundsBy (plan .tasks) dropped table clock (plan .tasks) moved) where
+  module _ (moved : StepArrays) (r : Ready moved) {skipped : StepArrays} (s : skipped ≡ roundsBy (plan .tasks) dropped table clock (plan .tasks) moved) where
     pub skipped-ready : Ready skipped
     skipped-ready = rw s (rounds-ready (plan .tasks) moved r)
 
     pub settled-is :
-        {settled : Moved} → settled ≡ startsBy (plan .ready) table clock (plan .tasks) skipped
+        {settled : StepArrays} → settled ≡ startsBy (plan .ready) table clock (plan .tasks) skipped
         → settled ≡ movedTo (plan .tasks) (letGo plan (skipTimes (plan .tasks) plan (seenAs moved dropped clock)))
     settled-is e =
         e ∙ starts-laid skipped skipped-ready
         ∙ ap (λ (b : Book). movedTo (plan .tasks) (letGo plan b))
-        (ap (λ (m : Moved). seenAs m dropped clock) s ∙ rounds-view (plan .tasks) moved r)
+        (ap (λ (m : StepArrays). seenAs m dropped clock) s ∙ rounds-view (plan .tasks) moved r)

@@ -3,7 +3,7 @@ use Prim.Native.Nat.{ℕ}
 use mathlib.Core.Path.{_≡_, refl}
 use Rattle.theory.specs.Book as theory-book
 use Rattle.plan.specs.declared.Plan.{Plan}
-use Rattle.view.proofs.Laid.{length-laid}
+use Rattle.book_view.proofs.Laid.{length-laid}
 use Rattle.book.specs.View.{planIn, layOut}
 use Rattle.book.specs.Open.{ruleNumber, openedOn}
 use Rattle.book.specs.Report.{nextBook}

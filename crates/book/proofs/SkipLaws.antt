@@ -11,7 +11,7 @@ use Rattle.laws.specs.Every.{any}
 use Rattle.laws.proofs.Every.{any-turn, any-not}
 use Rattle.plan.specs.Value.{at}
 use Rattle.book.specs.private.Table.{SmallTable, skipsByRow, roundBy, roundsBy}
-use Rattle.book.specs.declared.Moved.{Moved}
+use Rattle.book.specs.declared.StepArrays.{StepArrays}
 use Rattle.book.proofs.StartLaws.{put-turn, put-stay, put-idle, put-back}
 
 -- whether somebody was picked, task by task
@@ -24,7 +24,7 @@ module _ (pick : ℕ → Bool) (i : ℕ) where
 
 module _ (dropped : List ℕ) (table : List (List ℕ)) (clock : ℕ) where
   -- one round, task by task
-  module _ (old : Moved) where
+  module _ (old : StepArrays) where
     abbrev pick : ℕ → Bool
     pick = skipsByRow (old .mark) dropped table
 
@@ -32,10 +32,10 @@ module _ (dropped : List ℕ) (table : List (List ℕ)) (clock : ℕ) where
     unfolding roundBy each
     round-none = refl
 
-    module _ (i : ℕ) {next : Moved} (h : next ≡ roundBy dropped table clock i old) where
+    module _ (i : ℕ) {next : StepArrays} (h : next ≡ roundBy dropped table clock i old) where
       pub round-skips :
           skipsByRow (old .mark) dropped table i ≡ true
-          → _≡_ {A = Moved} (record { mark = set (next .mark) i 2; start = set (next .start) i clock; end = set (next .end) i clock })
+          → _≡_ {A = StepArrays} (record { mark = set (next .mark) i 2; start = set (next .start) i clock; end = set (next .end) i clock })
           (roundBy dropped table clock (i + 1) old)
       unfolding roundBy
       round-skips g = rw (h, put-turn pick (λ j. 2) (old .mark) i g, put-turn pick (λ j. clock) (old .start) i g, put-turn pick (λ j. clock) (old .end) i g)
@@ -46,7 +46,7 @@ module _ (dropped : List ℕ) (table : List (List ℕ)) (clock : ℕ) where
 
   module _ (n : ℕ) where
     -- a round that skips nobody changes nothing, and so do all after it
-    idle : (old : Moved) → any n (skipsByRow (old .mark) dropped table) ≡ false → roundBy dropped table clock n old ≡ old
+    idle : (old : StepArrays) → any n (skipsByRow (old .mark) dropped table) ≡ false → roundBy dropped table clock n old ≡ old
     unfolding roundBy
     idle old h =
         let none = any-not n (skipsByRow (old .mark) dropped table) h in
@@ -57,26 +57,26 @@ module _ (dropped : List ℕ) (table : List (List ℕ)) (clock : ℕ) where
         )
 
     idle-rounds :
-        (k : ℕ) (old : Moved) → any n (skipsByRow (old .mark) dropped table) ≡ false → roundsBy k dropped table clock n old ≡ old
+        (k : ℕ) (old : StepArrays) → any n (skipsByRow (old .mark) dropped table) ≡ false → roundsBy k dropped table clock n old ≡ old
     unfolding roundsBy
     idle-rounds zero old h = refl
     idle-rounds (suc k) old h = rw (idle old h) (idle-rounds k old h)
 
     -- whoever waits after a round waited before it
-    pub waits-back : (old : Moved) (i : ℕ) → at ((roundBy dropped table clock n old) .mark) i ≡ 0 → at (old .mark) i ≡ 0
+    pub waits-back : (old : StepArrays) (i : ℕ) → at ((roundBy dropped table clock n old) .mark) i ≡ 0 → at (old .mark) i ≡ 0
     unfolding roundBy
     waits-back old i z = put-back (skipsByRow (old .mark) dropped table) (λ j. 2) (old .mark) n (λ j e. omega arith) i z
 
     -- the rounds done so far
-    pub record SkipTo (old : Moved) (k : ℕ) (next : Moved) : Type 0 where
+    pub record SkipTo (old : StepArrays) (k : ℕ) (next : StepArrays) : Type 0 where
       pub small : k ≤ n
       pub table-small : SmallTable (at (next .mark)) n table
       pub rest : roundsBy (n - k) dropped table clock n next ≡ roundsBy n dropped table clock n old
 
-    pub skip-begin : (old : Moved) → SmallTable (at (old .mark)) n table → SkipTo old 0 old
+    pub skip-begin : (old : StepArrays) → SmallTable (at (old .mark)) n table → SkipTo old 0 old
     skip-begin old s = record { small = omega arith; table-small = s; rest = ap (λ (m : ℕ). roundsBy m dropped table clock n old) (omega arith) }
 
-    module _ (old : Moved) (k : ℕ) {next : Moved} (so-far : SkipTo old k next) where
+    module _ (old : StepArrays) (k : ℕ) {next : StepArrays} (so-far : SkipTo old k next) where
       pub skip-end : n ≤ k → next ≡ roundsBy n dropped table clock n old
       unfolding roundsBy
       skip-end l = let z : n - k ≡ 0 = omega arith in let r = so-far .rest in rw z at r
@@ -84,11 +84,11 @@ module _ (dropped : List ℕ) (table : List (List ℕ)) (clock : ℕ) where
       pub skip-idle : {some : Bool} → some ≡ any n (skipsByRow (next .mark) dropped table) → not some ≡ true → next ≡ roundsBy n dropped table clock n old
       skip-idle {some} e h = sym (idle-rounds (n - k) next (sym e ∙ not-true some h)) ∙ so-far .rest
 
-      more : (m j : ℕ) (from : Moved) → m ≡ suc j → roundsBy m dropped table clock n from ≡ roundsBy j dropped table clock n (roundBy dropped table clock n from)
+      more : (m j : ℕ) (from : StepArrays) → m ≡ suc j → roundsBy m dropped table clock n from ≡ roundsBy j dropped table clock n (roundBy dropped table clock n from)
       unfolding roundsBy
       more m j from e = rw e
 
-      pub skip-more : {after : Moved} → after ≡ roundBy dropped table clock n next → k < n → SkipTo old (k + 1) after
+      pub skip-more : {after : StepArrays} → after ≡ roundBy dropped table clock n next → k < n → SkipTo old (k + 1) after
       skip-more e l =
           rw e
           (record {

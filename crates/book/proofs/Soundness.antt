@@ -12,9 +12,9 @@ use Rattle.theory.proofs.Reflect.{sound-test}
 use Rattle.theory.proofs.Step.{sound-next, sound-drop, sound-opened}
 use Rattle.plan.specs.Value.{isAccepted}
 use Rattle.plan.specs.declared.Plan.{Plan}
-use Rattle.view.specs.View.{isRule, planFor}
-use Rattle.view.proofs.Accepted.{plan-facts}
-use Rattle.sound.specs.Sound.{soundOn}
+use Rattle.book_view.specs.View.{isRule, planFor}
+use Rattle.book_view.proofs.Accepted.{plan-facts}
+use Rattle.book_sound.specs.Sound.{soundOn}
 use Rattle.book.specs.View.{planIn, planView, bookView, layOut}
 use Rattle.book.specs.Sound.{isSound}
 use Rattle.book.specs.Open.{ruleNumber, openedOn}

@@ -14,7 +14,7 @@ use Rattle.theory.specs.Plan.{Plan}
 use Rattle.theory.specs.Report.{goes}
 use Rattle.plan.specs.Value.{at}
 use Rattle.book.specs.private.Table.{goesByRow, putEach, startsBy, seenAs, TableTo, Fit}
-use Rattle.book.specs.declared.Moved.{Moved}
+use Rattle.book.specs.declared.StepArrays.{StepArrays}
 use Rattle.book.proofs.TableLaws.{row-rule}
 
 module _ (pick : ℕ → Bool) (v : ℕ → ℕ) (l : List ℕ) where
@@ -58,7 +58,7 @@ module _ (pick : ℕ → Bool) (v : ℕ → ℕ) (l : List ℕ) where
       (λ p. rw p at e)))
 
 -- by its row a task goes when it may
-module _ (plan : Plan) (board : ℕ → ℕ) (old : Moved) (dropped : List ℕ) (clock : ℕ) (table : List (List ℕ))
+module _ (plan : Plan) (board : ℕ → ℕ) (old : StepArrays) (dropped : List ℕ) (clock : ℕ) (table : List (List ℕ))
     (fit : Fit plan board (seenAs old dropped clock)) (rows : TableTo plan board (at (old .mark)) (plan .tasks) table) where
   pub go-by-row : (i : ℕ) → i < plan .tasks → goesByRow (old .mark) table i ≡ goes plan (seenAs old dropped clock) i
   unfolding goes
@@ -70,15 +70,15 @@ module _ (plan : Plan) (board : ℕ → ℕ) (old : Moved) (dropped : List ℕ) 
       (λ n. rw (ne-eqb (at (old .mark) i) 0 n)))
 
 -- the starts, task by task
-module _ (ready : ℕ → ℕ) (table : List (List ℕ)) (clock : ℕ) (old : Moved) where
+module _ (ready : ℕ → ℕ) (table : List (List ℕ)) (clock : ℕ) (old : StepArrays) where
   pub starts-none : old ≡ startsBy ready table clock 0 old
   unfolding startsBy each
   starts-none = refl
 
-  module _ (i : ℕ) {next : Moved} (h : next ≡ startsBy ready table clock i old) where
+  module _ (i : ℕ) {next : StepArrays} (h : next ≡ startsBy ready table clock i old) where
     pub starts-go :
         {from : ℕ} → from ≡ max (ready i) clock → goesByRow (old .mark) table i ≡ true
-        → _≡_ {A = Moved} (record { mark = set (next .mark) i 1; start = set (next .start) i from; end = next .end })
+        → _≡_ {A = StepArrays} (record { mark = set (next .mark) i 1; start = set (next .start) i from; end = next .end })
         (startsBy ready table clock (i + 1) old)
     unfolding startsBy
     starts-go e g = rw (h, e, put-turn (goesByRow (old .mark) table) (λ j. 1) (old .mark) i g, put-turn (goesByRow (old .mark) table) (λ j. max (ready j) clock) (old .start) i g)

@@ -15,10 +15,10 @@ use Rattle.theory.specs.Report.{putAt, next, dropIt, blank, opened}
 use Rattle.theory.proofs.Past.{SamePast, past-next, past-drop, past-opened}
 use Rattle.plan.specs.Value.{at, blankFrom}
 use Rattle.plan.specs.declared.Plan.{Plan}
-use Rattle.view.specs.View.{planFor, laid}
-use Rattle.view.proofs.Blank.{blank-at, blank-of}
-use Rattle.view.proofs.Laid.{laid-own, laid-is, laid-past}
-use Rattle.sound.specs.Sound.{nothingPast}
+use Rattle.book_view.specs.View.{planFor, laid}
+use Rattle.book_view.proofs.Blank.{blank-at, blank-of}
+use Rattle.book_view.proofs.Laid.{laid-own, laid-is, laid-past}
+use Rattle.book_sound.specs.Sound.{nothingPast}
 use Rattle.book.specs.View.{planIn, planView, bookView, layOut}
 use Rattle.book.specs.Open.{ruleNumber, openedOn}
 use Rattle.book.specs.Report.{nextBook}

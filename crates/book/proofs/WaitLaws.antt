@@ -1,8 +1,8 @@
 -- The wait sets that the functions lend say what the book's rule says, and so do the functions that go by them.
 use Prim.Native.Nat.{ℕ, _-_, _<_}
-use mathlib.Core.Bool.{Bool, true, not, cond, _&&_}
+use mathlib.Core.Bool.{Bool, true, not, cond, _&&_, and-true}
 use mathlib.Core.List.{List, []}
-use mathlib.Core.Path.{_≡_, sym, ap, _∙_}
+use mathlib.Core.Path.{_≡_, refl, sym, ap, _∙_}
 use mathlib.Core.Logic.{⊎-elim, inl, inr}
 use lib.Dec.{eqb}
 use Rattle.laws.proofs.Cases.{and-l}
@@ -11,20 +11,21 @@ use Rattle.theory.specs.Book as theory-book
 use Rattle.theory.specs.Report.{skipTimes, letGo, nonePast, reportCode, dropCode}
 use Rattle.theory.proofs.Alike.{skips-alike, let-go-alike}
 use Rattle.plan.specs.Value.{at, isAccepted}
-use Rattle.view.specs.View.{isRule, planSeen, bookSeen}
-use Rattle.waits.specs.Waits.{waitsOf}
-use Rattle.waits.specs.declared.Waits.{Waits}
-use Rattle.sound.specs.Sound.{soundWaits}
-use Rattle.sound.proofs.WaitLaws.{agree}
+use Rattle.book_view.specs.View.{isRule, planSeen, bookSeen}
+use Rattle.book_waits.specs.Waits.{waitsOf}
+use Rattle.book_waits.specs.declared.Waits.{Waits}
+use Rattle.book_sound.specs.Sound.{soundWaits}
+use Rattle.book_sound.proofs.WaitLaws.{agree}
 use Rattle.book.specs.View.{planIn, planView, bookView}
-use Rattle.book.specs.Sound.{isSound}
+use Rattle.book.specs.Sound.{isSound, judgedIn}
 use Rattle.book.specs.Report.{codeOf}
 use Rattle.book.specs.Drop.{dropCodeOf}
+use Rattle.book.specs.Coded.{codedDrop}
 use Rattle.book.specs.private.Coded.{codedReport}
 use Rattle.book.specs.private.Table.{movedTo, Fit}
 use Rattle.book.specs.declared.Book.{Book}
-use Rattle.book.specs.declared.Coded.{Coded}
-use Rattle.book.specs.declared.Moved.{Moved}
+use Rattle.book.specs.declared.StepCheck.{StepCheck}
+use Rattle.book.specs.declared.StepArrays.{StepArrays}
 
 -- a book that is judged
 module _ (book : Book) {judged : Waits} (w : judged ≡ soundWaits (book .rule) (planIn book) (book .mark) (book .start) (book .end) (book .dropped) (book .clock)) where
@@ -40,16 +41,23 @@ module _ (book : Book) {judged : Waits} (w : judged ≡ soundWaits (book .rule) 
   unfolding dropCodeOf dropCode
   drop-seen task c = c ∙ ap (λ (b : Bool). cond (not b) 9 (dropCodeOf book task)) its-soundness
 
+-- a drop that is judged
+pub drop-judged :
+    (book : Book) (task : ℕ) {code : ℕ}
+    → code ≡ codedDrop true (book .rule) (planIn book) (book .mark) (book .start) (book .end) (book .dropped) (book .clock) task
+    → code ≡ cond (not (isSound book)) 9 (dropCodeOf book task)
+drop-judged book task c = drop-seen book {judged = judgedIn book} refl task (c ∙ rw and-true)
+
 -- a report that is judged
-module _ (book : Book) (task tick : ℕ) {coded : Coded}
+module _ (book : Book) (task tick : ℕ) {coded : StepCheck}
     (w : coded ≡ codedReport (book .rule) (planIn book) (book .mark) (book .start) (book .end) (book .dropped) (book .clock) task tick) where
   pub its-code : coded .code ≡ cond (not (isSound book)) 9 (codeOf book task tick)
   unfolding codedReport soundWaits codeOf reportCode nonePast
-  its-code = ap (λ (x : Coded). x .code) w
+  its-code = ap (λ (x : StepCheck). x .code) w
 
   pub its-sets : coded .sets ≡ waitsOf (book .rule) (planIn book) .sets
   unfolding codedReport soundWaits
-  its-sets = ap (λ (x : Coded). x .sets) w
+  its-sets = ap (λ (x : StepCheck). x .sets) w
 
 -- a sound book's plan is accepted and its rule is one of the two
 pub good-of : (book : Book) → isSound book ≡ true → (isAccepted (planIn book) && isRule (book .rule)) ≡ true
@@ -74,7 +82,7 @@ module _ (book : Book) (good : (isAccepted (planIn book) && isRule (book .rule))
   }
 
   pub settled-seen :
-      (seen : theory-book.Book) {moved : Moved} → moved ≡ movedTo (book .tasks) (letGo by-sets (skipTimes (book .tasks) by-sets seen))
+      (seen : theory-book.Book) {moved : StepArrays} → moved ≡ movedTo (book .tasks) (letGo by-sets (skipTimes (book .tasks) by-sets seen))
       → moved ≡ movedTo (book .tasks) (letGo (planView book) (skipTimes (book .tasks) (planView book) seen))
   settled-seen seen e =
       let tasks = book .tasks in

@@ -5,4 +5,5 @@ pub mod Report
 pub mod Drop
 pub mod Early
 pub mod words
+pub mod Coded
 pub mod private

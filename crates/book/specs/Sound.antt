@@ -1,9 +1,9 @@
 -- When a book is sound, whatever its arrays hold.
 use mathlib.Core.Bool.{Bool, _&&_}
 use Rattle.plan.specs.Value.{isAccepted}
-use Rattle.view.specs.View.{isRule}
-use Rattle.sound.specs.Sound.{soundOn, soundWaits}
-use Rattle.waits.specs.declared.Waits.{Waits}
+use Rattle.book_view.specs.View.{isRule}
+use Rattle.book_sound.specs.Sound.{soundOn, soundWaits}
+use Rattle.book_waits.specs.declared.Waits.{Waits}
 use Rattle.book.specs.View.{planIn, planView}
 use Rattle.book.specs.declared.Book.{Book}
 

@@ -4,7 +4,7 @@ use Rattle.theory.specs.Plan as theory-plan
 use Rattle.theory.specs.Book as theory-book
 use Rattle.plan.specs.Value.{planWith}
 use Rattle.plan.specs.declared.Plan.{Plan}
-use Rattle.view.specs.View.{planFor, bookSeen, laid}
+use Rattle.book_view.specs.View.{planFor, bookSeen, laid}
 use Rattle.book.specs.declared.Book.{Book}
 
 -- the plan that the book is on

@@ -1,14 +1,26 @@
 // A book on a plan: planned times, starts, ends and marks beside the clock, and the rest of its plan.
-mod judge;
+pub mod judge;
 mod open;
 mod settle;
 mod skip;
 mod start;
 mod table;
 
+ghost use mathlib.Core.Path.{_≡_};
+ghost use mathlib.Core.Bool.{cond, _||_};
+ghost use lib.Dec.{eqb};
+ghost use Rattle.plan.specs.Answer.{refuse};
+ghost use Rattle.book.specs.Sound.{isSound, judgedIn};
+ghost use Rattle.book.specs.Open.{ruleNumber, openingOf};
+ghost use Rattle.book.specs.Report.{reportedOf};
+ghost use Rattle.book.specs.Drop.{droppedOf};
+ghost use Rattle.book.specs.Early.{figureOf};
+use book_sound::sound_waits;
+use book_waits::Waits;
+use book_waits::wait_sets;
+use judge::judge_drop;
 use judge::judge_report;
 use open::blank_book;
-use open::number_of;
 use open::zero_book;
 use plan::Answer;
 use plan::Plan;
@@ -16,23 +28,21 @@ use plan::refuse;
 use settle::ended_at;
 use settle::settle;
 use settle::unmoved;
-use sound::sound_waits;
-use waits::Waits;
-use waits::wait_sets;
-ghost use mathlib.Core.Path.{_≡_};
-ghost use mathlib.Core.Bool.{cond, _||_};
-ghost use lib.Dec.{eqb};
-ghost use Rattle.plan.specs.Answer.{refuse};
-ghost use Rattle.book.specs.Sound.{isSound, judgedIn};
-ghost use Rattle.book.specs.Open.{openingOf};
-ghost use Rattle.book.specs.Report.{reportedOf};
-ghost use Rattle.book.specs.Drop.{droppedOf};
-ghost use Rattle.book.specs.Early.{figureOf};
 
 // Whom a task waits for: all that are planned to finish by its planned start, or those of them that clash with it.
 pub enum Rule {
     EarlyStart,
     Clash,
+}
+
+// The number of a rule, which a book keeps.
+pub fn number_of(rule: Rule) -> u8
+    ensures { λ r. ⌜ r ≡ ruleNumber rule ⌝ }
+{
+    match rule {
+        Rule::EarlyStart => 0,
+        Rule::Clash => 1,
+    }
 }
 
 // rule: 0 Early Start, 1 clash; mark: 0 waiting, 1 running, 2 ended; dropped: 1 for a dropped task, 0 for any other.
@@ -57,7 +67,7 @@ pub struct Book {
 
 // An answer, and the book after it.
 #[repr(C)]
-pub struct Handed {
+pub struct BookResult {
     pub answer: Answer,
     pub book: Book,
 }
@@ -69,20 +79,20 @@ pub struct Figure {
 }
 
 // The arrays that a step changes.
-pub(crate) struct Moved {
+pub(crate) struct StepArrays {
     pub mark: [u8; 64],
     pub start: [u32; 64],
     pub end: [u32; 64],
 }
 
 // The code of a report, and the wait sets of the book's tasks.
-pub(crate) struct Coded {
+pub(crate) struct StepCheck {
     pub code: u32,
     pub sets: [u64; 64],
 }
 
 // 0 and 9 say 0 and 0 besides.
-fn answer_of(code: u32, first: u32, second: u32) -> Answer
+pub fn answer_of(code: u32, first: u32, second: u32) -> Answer
     ensures { λ r. ⌜ r ≡ cond (eqb code 0 || eqb code 9) (refuse code 0 0) (refuse code first second) ⌝ }
 {
     if (code == 0) | (code == 9) {
@@ -122,7 +132,7 @@ pub fn is_sound(book: Book) -> bool
 }
 
 // The book's own arrays are lent, and there is one way out, so that the stack holds one copy of it.
-pub fn open_book(plan: Plan, rule: Rule) -> Handed
+pub fn open_book(plan: Plan, rule: Rule) -> BookResult
     ensures { λ r. ⌜ r ≡ openingOf plan rule ⌝ }
 {
     let mut book = blank_book(number_of(rule), plan);
@@ -160,14 +170,14 @@ pub fn open_book(plan: Plan, rule: Rule) -> Handed
     } else {
         book = zero_book();
     }
-    Handed {
+    BookResult {
         answer: answer_of(code, 0, 0),
         book,
     }
 }
 
 impl Book {
-    pub fn report(mut self, task: u32, tick: u32) -> Handed
+    pub fn report(mut self, task: u32, tick: u32) -> BookResult
         ensures { λ r. ⌜ r ≡ reportedOf self task tick ⌝ }
     {
         let tasks = self.tasks as usize;
@@ -212,14 +222,16 @@ impl Book {
             self.end = end;
         }
         let answer = answer_of(judged.code, task, tick);
-        Handed { answer, book: self }
+        BookResult { answer, book: self }
     }
 
     // A dropped task takes no time, but only once all it waits for have ended.
-    pub fn drop(mut self, task: u32) -> Handed
+    pub fn drop(mut self, task: u32) -> BookResult
         ensures { λ r. ⌜ r ≡ droppedOf self task ⌝ }
     {
-        let waits = sound_waits(
+        let code = judge_drop(
+            true,
+            task,
             self.rule,
             self.edition,
             self.boards,
@@ -236,19 +248,12 @@ impl Book {
             &self.mark,
             &self.dropped,
         );
-        let code = report_codes::drop_code(
-            waits.known,
-            &self.mark,
-            &self.dropped,
-            self.tasks,
-            task,
-        );
         if code == 0 {
             let k = (task - 1) as usize;
             self.dropped[k] = 1;
         }
         let answer = answer_of(code, task, 0);
-        Handed { answer, book: self }
+        BookResult { answer, book: self }
     }
 
     pub fn minimum_early(self) -> Figure
@@ -263,7 +268,7 @@ impl Book {
         }
         Figure {
             answer: answer_of(0, 0, 0),
-            early: figure::least_early(
+            early: book_codes::least_early(
                 &self.ready,
                 &self.begin,
                 &self.start,

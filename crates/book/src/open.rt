@@ -1,20 +1,9 @@
-// What a book is opened from: its rule's number, a book on which nothing is known yet, a book of zeros.
+// What a book is opened from: a book on which nothing is known yet, a book of zeros.
 use crate::Book;
-use crate::Rule;
 use plan::Plan;
 ghost use mathlib.Core.Path.{_≡_};
 ghost use Rattle.plan.specs.Value.{zeroPlan};
-ghost use Rattle.book.specs.Open.{ruleNumber, blankBook};
-
-// The number that a book keeps.
-pub(crate) fn number_of(rule: Rule) -> u8
-    ensures { λ r. ⌜ r ≡ ruleNumber rule ⌝ }
-{
-    match rule {
-        Rule::EarlyStart => 0,
-        Rule::Clash => 1,
-    }
-}
+ghost use Rattle.book.specs.Open.{blankBook};
 
 // Nothing is known yet of any task of the plan.
 pub(crate) fn blank_book(rule: u8, plan: Plan) -> Book

@@ -1,5 +1,5 @@
 // Dropped tasks take no time: once all they wait for have ended they start and end at the clock, and others may follow.
-use crate::Moved;
+use crate::StepArrays;
 use crate::start::may_go;
 ghost use mathlib.Core.Path.{_≡_};
 ghost use mathlib.Core.Bool.{_&&_};
@@ -12,7 +12,7 @@ ghost use Rattle.book.specs.private.Table.{rowEnded, SmallRow, SmallTabl
 
 // The arrays after one round of skipping, and whether it skipped somebody.
 pub(crate) struct Round {
-    pub moved: Moved,
+    pub moved: StepArrays,
     pub some: bool,
 }
 
@@ -29,7 +29,7 @@ fn may_skip(mark: &[u8; 64], gone: u8, row: [u8; 8], i: usize) -> bool
 
 // Whoever may be skipped by the marks as they were.
 fn skip_round(
-    old: Moved,
+    old: StepArrays,
     dropped: &[u8; 64],
     last: [[u8; 8]; 64],
     clock: u32,
@@ -54,12 +54,12 @@ fn skip_round(
 
 // Round after round, until nobody was skipped.
 pub(crate) fn skip_free(
-    old: Moved,
+    old: StepArrays,
     dropped: &[u8; 64],
     last: [[u8; 8]; 64],
     clock: u32,
     tasks: usize,
-) -> Moved
+) -> StepArrays
     requires { ⌜ (tasks ≤ 64) × SmallTable (at (old .mark)) tasks last ⌝ }
     ensures { λ r. ⌜ r ≡ roundsBy tasks (now (dropped .entry)) last clock tasks old ⌝ }
 {

@@ -1,6 +1,6 @@
 // The start rule: whoever waits and by the table waits for nobody any more starts, at its ready tick or the clock.
-use crate::Moved;
-use view::start_of;
+use crate::StepArrays;
+use book_view::start_of;
 ghost use mathlib.Core.Path.{_≡_};
 ghost use mathlib.Core.Bool.{_&&_};
 ghost use Prim.Native.Nat.{_<_, _≤_};
@@ -45,12 +45,12 @@ pub(crate) fn may_go(mark: &[u8; 64], row: [u8; 8], i: usize) -> bool
 
 // Whoever may go by the marks as they were: its start is fixed, even if it lies past the clock.
 pub(crate) fn start_free(
-    old: Moved,
+    old: StepArrays,
     ready: &[u32; 64],
     last: [[u8; 8]; 64],
     clock: u32,
     tasks: usize,
-) -> Moved
+) -> StepArrays
     requires { ⌜ (tasks ≤ 64) × SmallTable (at (old .mark)) tasks last ⌝ }
     ensures { λ r. ⌜ r ≡ startsBy (at (now (ready .entry))) last clock tasks old ⌝ }
 {

@@ -1,11 +1,11 @@
 // For every task and every board, the last task waited for, counted from 1; 0 for none.
-use view::is_in;
+use book_view::is_in;
 ghost use mathlib.Core.Path.{_≡_};
 ghost use mathlib.Core.List.{[]};
 ghost use Prim.Native.Nat.{_<_, _≤_};
 ghost use Rattle.laws.specs.private.Last.{laterOf};
 ghost use Rattle.plan.specs.Value.{at};
-ghost use Rattle.view.specs.View.{planSeen};
+ghost use Rattle.book_view.specs.View.{planSeen};
 ghost use Rattle.book.specs.private.Table.{OnEight, RowTo, TableTo};
 
 // k + 1 where the place holds nobody or one whose key is less, else what the place holds.

@@ -7,7 +7,7 @@ use lib.ListN.{length, take}
 use lib.Seq.{sets}
 use borrow.Author.Tests.{le-leb}
 use Rattle.laws.proofs.Sets.{front-is}
-use Rattle.converter.specs.Renewed.{renewedText, textMost, renewedIn}
+use Rattle.plan_convert.specs.Renewed.{renewedText, textMost, renewedIn}
 
 module _
     (plan out written : List ℕ) (r : ℕ) (size : length out ≡ 32768) (count : r ≡ length (renewedIn (length out) plan))

@@ -2,14 +2,12 @@
 ghost use mathlib.Core.Path.{_≡_};
 ghost use lib.ListN.{take};
 ghost use Rattle.io.specs.Counts.{Counts};
-ghost use Rattle.converter.specs.Renewed.{renewedText};
-use converter::TEXT_MOST;
-use converter::convert_text;
+ghost use Rattle.plan_convert.specs.Renewed.{renewedText};
+use files::both::READ_MOST;
 use files::print;
 use files::read_text;
-
-// One byte more than a text may have: enough to see that a file is too long.
-const READ_MOST: usize = 32769;
+use plan_convert::convert_text;
+use text::TEXT_MOST;
 
 // The first bytes of the buffer are the whole answer, whatever the text is.
 fn put_converted(plan: &[u8], out: &mut [u8; TEXT_MOST]) -> usize

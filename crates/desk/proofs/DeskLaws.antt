@@ -16,7 +16,7 @@ use Rattle.log.specs.Log.{logMost}
 use Rattle.desk_turns.specs.Turns.{Turned, Took}
 use Rattle.desk_turns.specs.declared.Turn.{Turn}
 use Rattle.desk_start.specs.Start.{startLog, begunOf}
-use Rattle.desk_start.specs.declared.Begun.{Begun}
+use Rattle.desk_start.specs.declared.DeskOpening.{DeskOpening}
 use Rattle.desk.specs.Printed.{TurnIs}
 
 -- a place stays within the buffer
@@ -64,12 +64,12 @@ turn-printed {out} {turned} {written} {r} {n} s w q =
     }
 
 pub start-printed :
-    (plan ends out : List ℕ) {written : List ℕ} {r : Begun} {n : ℕ} → length written ≡ 212992
+    (plan ends out : List ℕ) {written : List ℕ} {r : DeskOpening} {n : ℕ} → length written ≡ 212992
     → (r ≡ begunOf plan ends) × (written ≡ sets out 0 (startLog plan ends)) × (r .length ≤ logMost) → n ≡ min (r .length) (length written)
-    → (_≡_ {A = Begun} (record { way = r .way; length = n; morning = r .morning }) (begunOf plan ends)) × (take n written ≡ startLog plan ends)
+    → (_≡_ {A = DeskOpening} (record { way = r .way; length = n; morning = r .morning }) (begunOf plan ends)) × (take n written ≡ startLog plan ends)
 unfolding begunOf
 start-printed plan ends out {written} {r} {n} s w q =
     let l : length written ≡ length out = ap length (w .1) ∙ length-sets out 0 (startLog plan ends) in
-    let c : r .length ≡ length (startLog plan ends) = ap (λ (x : Begun). x .length) (w .0) in
+    let c : r .length ≡ length (startLog plan ends) = ap (λ (x : DeskOpening). x .length) (w .0) in
     let f = front (startLog plan ends) out l c (omega (arith, s, l, c, w .2)) (w .1) q in
     ((λ i. record { way = r .way; length = f .0 i; morning = r .morning }) ∙ w .0, f .1)

@@ -9,41 +9,39 @@ ghost use Rattle.io.specs.Counts.{Counts};
 ghost use Rattle.desk_turns.specs.Turns.{turnOf};
 ghost use Rattle.desk_start.specs.Start.{startLog, begunOf};
 ghost use Rattle.desk.specs.Printed.{TurnIs};
-use desk_start::Begun;
+use desk_start::DeskOpening;
 use desk_start::Way;
 use desk_start::begin;
 use desk_turns::Morning;
 use desk_turns::Turn;
 use desk_turns::take_line;
+use files::both::READ_MOST;
+use files::both::read_both;
 use files::print;
 use files::read_piece;
-use files::read_text;
 use keeping::cut;
 use keeping::keep;
 use keeping::say;
 use log::LOG_MOST;
-use log_lines::ANSWER_MOST;
+use log_write::ANSWER_MOST;
 use text::part::LF;
 use text::part::part_before;
 use text::part::past;
-use typing::Typed;
+use typing::TypedLine;
 use typing::held_in;
 use typing::nothing;
 use typing::type_on;
 
-// One byte more than a text may have: enough to see that a file is too long.
-const READ_MOST: usize = 32769;
-
 // The morning, the number of the line that is being typed, what is typed of it, and whether the desk goes on.
-pub(crate) struct Served {
+pub(crate) struct Session {
     pub morning: Morning,
     pub number: u32,
-    pub typed: Typed,
+    pub typed: TypedLine,
     pub goes: bool,
 }
 
 // The first bytes of the buffer are the whole log, whatever the two texts are. What the buffer holds is never less.
-fn put_start(plan: &[u8], ends: &[u8], out: &mut [u8; LOG_MOST]) -> Begun
+fn put_start(plan: &[u8], ends: &[u8], out: &mut [u8; LOG_MOST]) -> DeskOpening
     ensures { λ r. ⌜ Counts (r .length) (now (out .exit)) ⌝ }
     ensures { λ r. ⌜ (r ≡ begunOf (now (plan .entry)) (now (ends .entry))) × (take (r .length) (now (out .exit)) ≡ startLog (now (plan .entry)) (now (ends .entry))) ⌝ }
 {
@@ -84,7 +82,7 @@ fn kept_first(keeps: bool, line: &[u8]) -> bool {
     true
 }
 
-fn answer(morning: Morning, number: u32, typed: Typed, ended: bool) -> Served {
+fn answer(morning: Morning, number: u32, typed: TypedLine, ended: bool) -> Session {
     let bytes = typed.bytes;
     let held = held_in(&bytes, typed.held);
     let mut out = [0u8; ANSWER_MOST];
@@ -95,7 +93,7 @@ fn answer(morning: Morning, number: u32, typed: Typed, ended: bool) -> Served {
         goes = print(&out[..length]);
     }
     let next = turn.morning;
-    Served {
+    Session {
         morning: next,
         number: after(number),
         typed: nothing(),
@@ -104,7 +102,7 @@ fn answer(morning: Morning, number: u32, typed: Typed, ended: bool) -> Served {
 }
 
 // The lines that end in a piece, each answered before the next is looked at.
-fn serve(mut served: Served, piece: &[u8]) -> Served {
+fn serve(mut served: Session, piece: &[u8]) -> Session {
     let mut rest = piece;
     while 0 < rest.len() {
         if !served.goes {
@@ -127,8 +125,8 @@ fn serve(mut served: Served, piece: &[u8]) -> Served {
 }
 
 // Until standard input ends. A proved loop has to end, so the pieces are counted.
-fn listen(morning: Morning) -> Served {
-    let mut served = Served {
+fn listen(morning: Morning) -> Session {
+    let mut served = Session {
         morning,
         number: 1,
         typed: nothing(),
@@ -157,7 +155,7 @@ fn listen(morning: Morning) -> Served {
 }
 
 // A last line without its LF is answered, and never taken.
-fn last_line(served: Served) {
+fn last_line(served: Session) {
     let typed = served.typed;
     if served.goes & (0 < typed.held) {
         let morning = served.morning;
@@ -179,17 +177,13 @@ fn cut_tail(way: Way, kept: usize, length: usize) -> bool
 // Nothing is printed before both files are read and ends.txt has its whole lines alone.
 fn main() {
     let mut plan = [0u8; READ_MOST];
-    let plan_read = read_text(b"plan.txt", &mut plan);
-    if plan_read.failed {
-        return;
-    }
     let mut ends = [0u8; READ_MOST];
-    let ends_read = read_text(b"ends.txt", &mut ends);
-    if ends_read.failed {
+    let read = read_both(b"ends.txt", &mut plan, &mut ends);
+    if read.failed {
         return;
     }
-    let plan_length = plan_read.length;
-    let ends_length = ends_read.length;
+    let plan_length = read.plan;
+    let ends_length = read.text;
     let mut out = [0u8; LOG_MOST];
     let begun = put_start(&plan[..plan_length], &ends[..ends_length], &mut out);
     let length = begun.length;

@@ -7,13 +7,13 @@ use text::put::put_text;
 
 pub(crate) const TYPED_ROOM: usize = 65;
 
-pub(crate) struct Typed {
+pub(crate) struct TypedLine {
     pub bytes: [u8; TYPED_ROOM],
     pub held: usize,
 }
 
-pub(crate) fn nothing() -> Typed {
-    Typed {
+pub(crate) fn nothing() -> TypedLine {
+    TypedLine {
         bytes: [0; TYPED_ROOM],
         held: 0,
     }
@@ -31,7 +31,7 @@ pub(crate) fn held_in(text: &[u8], held: usize) -> usize
 }
 
 // As much of a part as there is room for.
-pub(crate) fn type_on(typed: Typed, part: &[u8]) -> Typed {
+pub(crate) fn type_on(typed: TypedLine, part: &[u8]) -> TypedLine {
     let mut bytes = typed.bytes;
     let mut room = 0;
     if typed.held < TYPED_ROOM {
@@ -39,5 +39,5 @@ pub(crate) fn type_on(typed: Typed, part: &[u8]) -> Typed {
     }
     let more = held_in(part, room);
     let held = put_text(&mut bytes, typed.held, &part[..more]);
-    Typed { bytes, held }
+    TypedLine { bytes, held }
 }

@@ -13,20 +13,20 @@ use Rattle.theory.proofs.Order as order
 use Rattle.plan.specs.Answer.{refuse}
 use Rattle.plan.specs.Value.{at}
 use Rattle.plan.specs.declared.Answer.{Answer}
-use Rattle.view.proofs.Accepted.{plan-facts, plan-lawful}
+use Rattle.book_view.proofs.Accepted.{plan-facts, plan-lawful}
 use Rattle.book.specs.View.{planIn, planView, bookView}
 use Rattle.book.specs.Sound.{isSound}
 use Rattle.book.specs.Early.{figureOf}
 use Rattle.book.specs.declared.Book.{Book}
 use Rattle.book.specs.declared.Figure.{Figure}
 use Rattle.book.proofs.Soundness.{is-sound-facts}
-use Rattle.exact_figure.specs.Figure.{exactOf}
-use Rattle.exact_figure.specs.declared.Exact.{Exact}
-use Rattle.log_lines.specs.Lines.{numbersLine, refusedLine, Lined}
-use Rattle.log_lines.specs.Answers.{knownLine, Answered}
-use Rattle.log_lines.specs.private.Wrote.{Wrote}
-use Rattle.log_lines.proofs.WriteLaws.{wrote-line, wrote-length, also}
-use Rattle.desk_answers.specs.Answers.{unlessRefused, linesEach, earlyAnswer, exactAnswer, runningIn, runsLine, nowAnswer}
+use Rattle.ask_exact.specs.Figure.{exactOf}
+use Rattle.ask_exact.specs.declared.Exact.{Exact}
+use Rattle.log_write.specs.Lines.{numbersLine, refusedLine, Lined}
+use Rattle.log_write.specs.Answers.{Answered}
+use Rattle.log_write.specs.private.Wrote.{Wrote}
+use Rattle.log_write.proofs.WriteLaws.{wrote-line, wrote-length, also}
+use Rattle.desk_answers.specs.Answers.{unlessRefused, linesEach, knownLine, earlyAnswer, exactAnswer, runningIn, runsLine, nowAnswer}
 use Rattle.desk_answers.specs.private.Arrays.{LimitsFit, Running}
 
 pub answered : {out text : List ℕ} {a : ℕ} {m : List ℕ} {p : ℕ} → a ≤ 3432 → Wrote out 0 text a m p → Answered out text m p
@@ -62,7 +62,7 @@ module _ (book : Book) {out m : List ℕ} {p : ℕ} where
 
     pub exact-yes :
         exact .answer .code ≡ 0 → length out ≡ 3432
-        → Lined out 0 (knownLine (bytes "exact") (book .clock ∷ []) (eqb (exact .known) 1) (exact .early)) 52 m p
+        → Lined out 0 (knownLine (bytes "exact") (book .clock ∷ []) (exact .known) (exact .early)) 52 m p
         → Answered out (exactAnswer book) m p
     unfolding exactAnswer
     exact-yes z l w = unless-yes (exactOf book .answer) _ (rw e at z) (one-line l (omega arith) (rw e at w))

@@ -1,2 +1,5 @@
+pub mod KnownLaws
 pub mod LineLaws
 pub mod AnswerLaws
+pub mod ChainLaws
+pub mod DriveLaws

@@ -9,11 +9,11 @@ use lib.ListN.{length, length-append}
 use borrow.Author.Tests.{eq-eqb, ne-eqb}
 use Rattle.theory.specs.Book.{running}
 use Rattle.plan.specs.Value.{at}
-use Rattle.drive_sheet.specs.Sheet.{numbers}
+use Rattle.ask_sheet.specs.Sheet.{numbers}
 use Rattle.text.specs.Bytes.{bytes}
-use Rattle.log_lines.specs.Lines.{numbersLine, Lined}
-use Rattle.log_lines.specs.private.Wrote.{Wrote}
-use Rattle.log_lines.proofs.WriteLaws.{also, looser, nothing, wrote-length, wrote-line}
+use Rattle.log_write.specs.Lines.{numbersLine, Lined}
+use Rattle.log_write.specs.private.Wrote.{Wrote}
+use Rattle.log_write.proofs.WriteLaws.{also, looser, nothing, wrote-length, wrote-line}
 use Rattle.desk_answers.specs.Answers.{linesEach}
 use Rattle.desk_answers.specs.private.Arrays.{runsIn, Running}
 

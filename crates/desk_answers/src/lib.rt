@@ -1,15 +1,18 @@
-// The answers to questions about a book as a whole, into lent bytes that are always long enough.
+// The answers to questions about a book, one of its drives or one of its tasks, into lent bytes that are always long enough.
+pub mod chain;
+pub mod drive;
+mod lines;
 pub mod running;
 
-ghost use Rattle.log_lines.specs.Lines.{refusedLine};
-ghost use Rattle.log_lines.specs.Answers.{Answered};
+ghost use Rattle.log_write.specs.Lines.{refusedLine};
+ghost use Rattle.log_write.specs.Answers.{Answered};
 ghost use Rattle.desk_answers.specs.Answers.{earlyAnswer, exactAnswer};
+use crate::lines::put_exact;
+use ask_exact::exact_early;
 use book::Book;
-use exact_figure::exact_early;
-use log_lines::ANSWER_MOST;
-use log_lines::put_early;
-use log_lines::put_exact;
-use log_lines::put_refused;
+use log_write::ANSWER_MOST;
+use log_write::put_early;
+use log_write::put_refused;
 use plan::Answer;
 
 // The `refused` line as the whole answer.
@@ -38,5 +41,5 @@ pub fn answer_exact(book: Book, out: &mut [u8; ANSWER_MOST]) -> usize
     if answer.code != 0 {
         return answer_refused(answer, out);
     }
-    put_exact(out, 0, book.clock, exact.known == 1, exact.early)
+    put_exact(out, 0, book.clock, exact.known, exact.early)
 }

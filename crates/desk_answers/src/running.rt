@@ -2,20 +2,20 @@
 ghost use mathlib.Core.Path.{_≡_};
 ghost use Prim.Native.Nat.{_+_, _-_, _<_, _≤_};
 ghost use lib.ListN.{length};
-ghost use Rattle.log_lines.specs.Answers.{Answered};
+ghost use Rattle.log_write.specs.Answers.{Answered};
 ghost use Rattle.desk_answers.specs.Answers.{nowAnswer};
 ghost use Rattle.desk_answers.specs.private.Arrays.{LimitsFit, Running};
 use crate::answer_refused;
+use crate::lines::put_now;
+use crate::lines::put_runs;
 use book::Book;
 use book::is_sound;
-use log_lines::ANSWER_MOST;
-use log_lines::put_now;
-use log_lines::put_runs;
+use book_view::limit_of;
+use log_write::ANSWER_MOST;
 use plan::refuse;
-use view::limit_of;
 
 // The place after the lines, and how many there are.
-pub(crate) struct Counted {
+pub(crate) struct LinesWritten {
     pub place: usize,
     pub count: u32,
 }
@@ -36,7 +36,7 @@ fn put_running<'a>(
     finish: &'a [u32; 64],
     start: &'a [u32; 64],
     mark: &'a [u8; 64],
-) -> Counted
+) -> LinesWritten
     requires { ⌜ (tasks ≤ 64) × (3328 ≤ length (now out)) × LimitsFit tasks (now begin) (now finish) (now start) (now mark) ⌝ }
     ensures { λ r. ⌜ Running (now (out .entry)) tasks (now (board .entry)) (now (begin .entry)) (now (finish .entry)) (now (start .entry)) (now (mark .entry)) (now (out .exit)) (r .place) (r .count) ⌝ }
 {
@@ -53,7 +53,7 @@ fn put_running<'a>(
         place = put_runs(out, place, number as u32, board[i], start[i], limit);
         count += 1;
     }
-    Counted { place, count }
+    LinesWritten { place, count }
 }
 
 pub fn answer_now(book: Book, out: &mut [u8; ANSWER_MOST]) -> usize

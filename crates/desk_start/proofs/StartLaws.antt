@@ -22,24 +22,24 @@ use Rattle.book.specs.Open.{openingOf}
 use Rattle.book.specs.Report.{reportedOf}
 use Rattle.book.specs.Drop.{droppedOf}
 use Rattle.book.specs.declared.Book.{Book}
-use Rattle.book.specs.declared.Handed.{Handed}
+use Rattle.book.specs.declared.BookResult.{BookResult}
 use Rattle.book.specs.declared.Rule.the-variants.{EarlyStart, Clash}
-use Rattle.entries.specs.Entries.{nextEntry, entryCode}
-use Rattle.entries.specs.Rules.{choiceOf}
-use Rattle.entries.specs.declared.Choice.{Choice}
-use Rattle.entries.specs.declared.Choice.the-variants.{Unsaid, Chosen, Malformed}
-use Rattle.entries.specs.declared.Entry.{Entry}
-use Rattle.entries.specs.declared.Entry.the-variants.{End, Drop, Refused}
-use Rattle.entries.proofs.Entry.{the-type}
-use Rattle.entries.proofs.Choice.{the-type as choices}
-use Rattle.entries.proofs.TextLaws.{line-used}
+use Rattle.log_read.specs.Entries.{nextEntry, entryCode}
+use Rattle.log_read.specs.Rules.{choiceOf}
+use Rattle.log_read.specs.declared.Choice.{Choice}
+use Rattle.log_read.specs.declared.Choice.the-variants.{Unsaid, Chosen, Malformed}
+use Rattle.log_read.specs.declared.Entry.{Entry}
+use Rattle.log_read.specs.declared.Entry.the-variants.{End, Drop, Refused}
+use Rattle.log_read.proofs.Entry.{the-type}
+use Rattle.log_read.proofs.Choice.{the-type as choices}
+use Rattle.log_read.proofs.TextLaws.{line-used}
 use Rattle.log.specs.Log.{toldOf, logOf, logMost, logIn}
 use Rattle.desk_turns.specs.declared.Morning.{Morning}
 use Rattle.desk_start.specs.Start.{lineEnd, wholeLines, textIn, stopping, going, walkFrom, walkIn, walkedBy, walkedOf, wayOf, startLog, begunOf}
 use Rattle.desk_start.specs.declared.Way as ways
 use Rattle.desk_start.specs.declared.Way.the-variants as way
-use Rattle.desk_start.specs.declared.Walked.{Walked}
-use Rattle.desk_start.specs.declared.Begun.{Begun}
+use Rattle.desk_start.specs.declared.EndsResult.{EndsResult}
+use Rattle.desk_start.specs.declared.DeskOpening.{DeskOpening}
 
 -- ---- the last LF
 
@@ -87,13 +87,13 @@ module _ (text : List ℕ) where
 -- ---- the book after an entry
 
 module _ (book : Book) {entry : Entry} where
-  pub after-end : {task tick : ℕ} {h : Handed} → entry ≡ End task tick → h ≡ reportedOf book task tick → h .book ≡ toldOf 0 book entry .book
+  pub after-end : {task tick : ℕ} {h : BookResult} → entry ≡ End task tick → h ≡ reportedOf book task tick → h .book ≡ toldOf 0 book entry .book
   unfolding toldOf
-  after-end q e = rw q (ap (λ (x : Handed). x .book) e)
+  after-end q e = rw q (ap (λ (x : BookResult). x .book) e)
 
-  pub after-drop : {task : ℕ} {h : Handed} → entry ≡ Drop task → h ≡ droppedOf book task → h .book ≡ toldOf 0 book entry .book
+  pub after-drop : {task : ℕ} {h : BookResult} → entry ≡ Drop task → h ≡ droppedOf book task → h .book ≡ toldOf 0 book entry .book
   unfolding toldOf
-  after-drop q e = rw q (ap (λ (x : Handed). x .book) e)
+  after-drop q e = rw q (ap (λ (x : BookResult). x .book) e)
 
 pub after-refused : (book : Book) (entry : Entry) → OneOf (2 ∷ []) (Declared.tagOf the-type entry) → book ≡ toldOf 0 book entry .book
 unfolding toldOf
@@ -158,7 +158,7 @@ module _ (rest : List ℕ) {entry : Entry} (n : entry ≡ nextEntry rest) {code 
   walked-less z u = rw u (omega (arith, line-used rest (sym code-is ∙ z)))
 
 -- what the code has: an entry, its code, the book after it
-module _ (book : Book) (rest : List ℕ) {whole : Walked} (w : walkIn book rest ≡ whole) where
+module _ (book : Book) (rest : List ℕ) {whole : EndsResult} (w : walkIn book rest ≡ whole) where
   pub walked-end : length rest ≤ 0 → going book ≡ whole
   walked-end h = sym (in-none book rest (omega arith)) ∙ w
 
@@ -182,7 +182,7 @@ by-malformed plan text Unsaid t = absurd (omega arith)
 by-malformed plan text Chosen t = absurd (omega arith)
 by-malformed plan text (Malformed column) t = refl
 
-module _ (plan : Plan) (text : List ℕ) {choice : Choice} (k : choice ≡ choiceOf text) {r : Walked} where
+module _ (plan : Plan) (text : List ℕ) {choice : Choice} (k : choice ≡ choiceOf text) {r : EndsResult} where
   walked-by : (this : Choice) → choice ≡ this → r ≡ walkedBy this plan text → r ≡ walkedOf plan text
   unfolding walkedOf
   walked-by this q e = e ∙ ap (λ (x : Choice). walkedBy x plan text) (sym q ∙ k)
@@ -217,10 +217,10 @@ module _ (code : ℕ) (stops : Bool) where
 
 module _ (plan ends out : List ℕ) {written : List ℕ} {n : ℕ} (s : length out ≡ 212992) {text : List ℕ} (t : text ≡ textIn ends)
     (count : n ≡ length (logIn (length out) plan text)) (bytes : written ≡ sets out 0 (logIn (length out) plan text)) (small : n ≤ logMost)
-    {reading : Reading} (q : reading ≡ readingOf plan) {walked : Walked} (w : walked ≡ walkedOf (reading .plan) text)
+    {reading : Reading} (q : reading ≡ readingOf plan) {walked : EndsResult} (w : walked ≡ walkedOf (reading .plan) text)
     {this : ways.Way} (y : this ≡ wayOf (reading .answer .code) (ltb 32768 (length ends) || walked .stops)) where
   pub begun-is :
-      (_≡_ {A = Begun} (record { way = this; length = n; morning = record { book = walked .book; kept = length text } }) (begunOf plan ends))
+      (_≡_ {A = DeskOpening} (record { way = this; length = n; morning = record { book = walked .book; kept = length text } }) (begunOf plan ends))
       × (written ≡ sets out 0 (startLog plan ends)) × (n ≤ logMost)
   unfolding begunOf
   begun-is =

@@ -9,17 +9,17 @@ ghost use Rattle.desk_start.specs.Start.{lineEnd, textIn, walkFrom, walk
 use book::Book;
 use book::Rule;
 use book::open_book;
-use desk_turns::KEPT_MOST;
 use desk_turns::Morning;
-use entries::Choice;
-use entries::Entry;
-use entries::entry_code;
-use entries::next_entry;
-use entries::rules::choose;
 use log::LOG_MOST;
 use log::run_log;
+use log_read::Choice;
+use log_read::Entry;
+use log_read::entry_code;
+use log_read::next_entry;
+use log_read::rules::choose;
 use plan::Plan;
-use reader::read_plan;
+use plan_read::read_plan;
+use text::TEXT_MOST;
 use text::part::LF;
 use text::part::part_after;
 
@@ -31,13 +31,13 @@ pub enum Way {
 }
 
 // Whether the log of a text stops in it, and the book that its lines lead to.
-pub struct Walked {
+pub struct EndsResult {
     pub stops: bool,
     pub book: Book,
 }
 
 // How the desk goes on, how many bytes the log has, and the morning.
-pub struct Begun {
+pub struct DeskOpening {
     pub way: Way,
     pub length: usize,
     pub morning: Morning,
@@ -61,7 +61,7 @@ fn lines_end(ends: &[u8]) -> usize
 fn text_of<'a>(ends: &'a [u8]) -> &'a [u8]
     ensures { λ r. ⌜ now r ≡ textIn (now (ends .entry)) ⌝ }
 {
-    if KEPT_MOST < ends.len() {
+    if TEXT_MOST < ends.len() {
         return ends;
     }
     let end = lines_end(ends);
@@ -87,21 +87,21 @@ fn book_after(book: Book, entry: Entry) -> Book
 }
 
 // Line by line, up to one that is refused by itself.
-fn walk(mut book: Book, text: &[u8]) -> Walked
+fn walk(mut book: Book, text: &[u8]) -> EndsResult
     ensures { λ r. ⌜ r ≡ walkFrom (length (now (text .entry))) book (now (text .entry)) ⌝ }
 {
     let mut rest = text;
     while 0 < rest.len() {
         let entry = next_entry(rest);
         if entry_code(entry) != 0 {
-            return Walked { stops: true, book };
+            return EndsResult { stops: true, book };
         }
         let after = book_after(book, entry);
         book = after;
         let next = part_after(rest, LF);
         rest = next;
     }
-    Walked { stops: false, book }
+    EndsResult { stops: false, book }
 }
 
 fn opened(plan: Plan, rule: Rule) -> Book
@@ -112,13 +112,13 @@ fn opened(plan: Plan, rule: Rule) -> Book
     book
 }
 
-fn walk_text(plan: Plan, text: &[u8]) -> Walked
+fn walk_text(plan: Plan, text: &[u8]) -> EndsResult
     ensures { λ r. ⌜ r ≡ walkedOf plan (now (text .entry)) ⌝ }
 {
     match choose(text) {
         Choice::Unsaid => walk(opened(plan, Rule::EarlyStart), text),
         Choice::Chosen => walk(opened(plan, Rule::Clash), part_after(text, LF)),
-        Choice::Malformed(_) => Walked {
+        Choice::Malformed(_) => EndsResult {
             stops: true,
             book: opened(plan, Rule::EarlyStart),
         },
@@ -137,7 +137,7 @@ fn way_of(code: u32, stops: bool) -> Way
     Way::Goes
 }
 
-pub fn begin(plan: &[u8], ends: &[u8], out: &mut [u8; LOG_MOST]) -> Begun
+pub fn begin(plan: &[u8], ends: &[u8], out: &mut [u8; LOG_MOST]) -> DeskOpening
     ensures { λ r. ⌜ (r ≡ begunOf (now (plan .entry)) (now (ends .entry))) × (now (out .exit) ≡ sets (now (out .entry)) 0 (startLog (now (plan .entry)) (now (ends .entry)))) × (r .length ≤ logMost) ⌝ }
 {
     let text = text_of(ends);
@@ -147,13 +147,13 @@ pub fn begin(plan: &[u8], ends: &[u8], out: &mut [u8; LOG_MOST]) -> Begun
     let answer = reading.answer;
     let walked = walk_text(planned, text);
     let book = walked.book;
-    let stops = (KEPT_MOST < ends.len()) | walked.stops;
+    let stops = (TEXT_MOST < ends.len()) | walked.stops;
     let way = way_of(answer.code, stops);
     let morning = Morning {
         book,
         kept: text.len(),
     };
-    Begun {
+    DeskOpening {
         way,
         length,
         morning,

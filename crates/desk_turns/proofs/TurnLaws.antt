@@ -16,24 +16,25 @@ use Rattle.plan.specs.declared.Answer.{Answer}
 use Rattle.plan.specs.declared.Plan.{Plan}
 use Rattle.book.specs.View.{planIn}
 use Rattle.book.specs.Open.{openingOf}
-use Rattle.book.specs.Report.{reportedOf}
-use Rattle.book.specs.Drop.{droppedOf}
 use Rattle.book.specs.declared.Book.{Book}
-use Rattle.book.specs.declared.Handed.{Handed}
+use Rattle.book.specs.declared.BookResult.{BookResult}
 use Rattle.book.specs.declared.Rule.the-variants.{Clash}
-use Rattle.entries.specs.declared.Entry.{Entry}
-use Rattle.entries.specs.declared.Entry.the-variants as said
-use Rattle.log_lines.specs.Lines.{refusedLine}
-use Rattle.log_lines.specs.Answers.{Answered}
+use Rattle.log_read.specs.declared.Entry.{Entry}
+use Rattle.log_read.specs.declared.Entry.the-variants.{End, Drop, Refused}
+use Rattle.log_write.specs.Lines.{refusedLine}
+use Rattle.log_write.specs.Answers.{Answered}
 use Rattle.log.specs.Log.{toldOf, toldLog, openLog}
 use Rattle.log.specs.Answers.{entryLog, loggedOf, openingLog, openingLogged}
-use Rattle.log.specs.declared.Logged.{Logged}
-use Rattle.desk_lines.specs.Lines.{askedOf}
-use Rattle.desk_lines.specs.declared.Asked.{Asked}
-use Rattle.desk_lines.specs.declared.Asked.the-variants.{End, Drop, Rule, Early, Exact, Now, Drive, Why, Refused}
-use Rattle.desk_lines.proofs.Asked.{the-type}
+use Rattle.log.specs.private.Writes.{Short}
+use Rattle.log.specs.declared.LogResult.{LogResult}
+use Rattle.log.specs.declared.StepOutcome.{StepOutcome}
+use Rattle.desk_read.specs.Lines.{askedOf}
+use Rattle.desk_read.specs.declared.DeskLine.{DeskLine}
+use Rattle.desk_read.specs.declared.DeskLine.the-variants.{Step, Rule, Early, Exact, Now, Drive, Why}
+use Rattle.desk_read.proofs.DeskLine.{the-type}
+use Rattle.desk_read.proofs.ReadLaws.{NearEntry}
 use Rattle.desk_answers.specs.Answers.{earlyAnswer, exactAnswer, nowAnswer}
-use Rattle.desk_questions.specs.Questions.{driveAnswer, whyAnswer}
+use Rattle.desk_answers.specs.Questions.{driveAnswer, whyAnswer}
 use Rattle.desk_turns.specs.Turns.{Turned, saying, keeping, taking, entryTurn, ruleTurn, turnBy, turnOf, Took}
 use Rattle.desk_turns.specs.private.Taken.{unmoved, takenOr, fullAnswer}
 use Rattle.desk_turns.specs.declared.Morning.{Morning}
@@ -130,9 +131,9 @@ module _ (morning : Morning) (size : ℕ) (answer : Answer) (book : Book) (text 
 
 -- ---- what is printed for a refusal
 
-pub entry-refused : (book : Book) (entry : Entry) → toldOf 0 book entry .answer .code ≢ 0 → entryLog book entry ≡ refusedLine (toldOf 0 book entry .answer)
+entry-refused : (n : ℕ) (book : Book) (entry : Entry) → toldOf n book entry .answer .code ≢ 0 → entryLog n book entry ≡ refusedLine (toldOf n book entry .answer)
 unfolding toldLog
-entry-refused book entry n = rw (ne-eqb (toldOf 0 book entry .answer .code) 0 n)
+entry-refused n book entry d = rw (ne-eqb (toldOf n book entry .answer .code) 0 d)
 
 pub opening-refused : (plan : Plan) → openingOf plan Clash .answer .code ≢ 0 → openingLog plan Clash ≡ refusedLine (openingOf plan Clash .answer)
 opening-refused plan n = rw (ne-eqb (openingOf plan Clash .answer .code) 0 n)
@@ -141,122 +142,96 @@ opening-refused plan n = rw (ne-eqb (openingOf plan Clash .answer .code) 0 n)
 
 module _ (morning : Morning) (size : ℕ) {room : Bool} (e : room ≡ leb (morning .kept + size + 1) 32768)
     {out m : List ℕ} {r : Turn} where
-  entry-full :
-      (entry : Entry) → not room ≡ true → {a : Answer} → a ≡ toldOf 0 (morning .book) entry .answer
-      → Took out (saying morning (refusedLine (fullAnswer a))) m r → Took out (entryTurn morning size entry) m r
-  entry-full entry f p t =
-      took-full morning size (toldOf 0 (morning .book) entry .answer) (toldOf 0 (morning .book) entry .book) (entryLog (morning .book) entry) e f p
-      (entry-refused (morning .book) entry) t
-
-  pub end-full :
-      (task tick : ℕ) {h : Handed} → not room ≡ true → h ≡ reportedOf (morning .book) task tick
-      → Took out (saying morning (refusedLine (fullAnswer (h .answer)))) m r → Took out (entryTurn morning size (said.End task tick)) m r
-  unfolding toldOf
-  end-full task tick f q t = entry-full (said.End task tick) f (ap (λ (x : Handed). x .answer) q) t
-
-  pub drop-full :
-      (task : ℕ) {h : Handed} → not room ≡ true → h ≡ droppedOf (morning .book) task
-      → Took out (saying morning (refusedLine (fullAnswer (h .answer)))) m r → Took out (entryTurn morning size (said.Drop task)) m r
-  unfolding toldOf
-  drop-full task f q t = entry-full (said.Drop task) f (ap (λ (x : Handed). x .answer) q) t
+  pub entry-full :
+      (n : ℕ) (entry : Entry) → not room ≡ true → {told : StepOutcome} → told ≡ toldOf n (morning .book) entry
+      → Took out (saying morning (refusedLine (fullAnswer (told .answer)))) m r → Took out (entryTurn morning n size entry) m r
+  entry-full n entry f p t =
+      took-full morning size (toldOf n (morning .book) entry .answer) (toldOf n (morning .book) entry .book) (entryLog n (morning .book) entry) e f
+      (ap (λ (x : StepOutcome). x .answer) p) (entry-refused n (morning .book) entry) t
 
   pub entry-took :
-      (entry : Entry) → not room ≡ false → {l : Logged}
-      → (l ≡ loggedOf (morning .book) entry) × Answered out (entryLog (morning .book) entry) m (l .length)
-      → r ≡ takenOr morning (l .answer) (l .book) size (l .length) → Took out (entryTurn morning size entry) m r
+      (n : ℕ) (entry : Entry) → not room ≡ false → {l : LogResult}
+      → (l ≡ loggedOf n (morning .book) entry) × Answered out (entryLog n (morning .book) entry) m (l .length)
+      → r ≡ takenOr morning (l .answer) (l .book) size (l .length) → Took out (entryTurn morning n size entry) m r
   unfolding loggedOf
-  entry-took entry f w t =
-      took-room morning size (toldOf 0 (morning .book) entry .answer) (toldOf 0 (morning .book) entry .book) (entryLog (morning .book) entry) e f
-      (ap (λ (x : Logged). x .answer) (w .0)) (ap (λ (x : Logged). x .book) (w .0)) (w .1) t
+  entry-took n entry f w t =
+      took-room morning size (toldOf n (morning .book) entry .answer) (toldOf n (morning .book) entry .book) (entryLog n (morning .book) entry) e f
+      (ap (λ (x : LogResult). x .answer) (w .0)) (ap (λ (x : LogResult). x .book) (w .0)) (w .1) t
 
   module _ {plan : Plan} (k : plan ≡ planIn (morning .book)) where
     pub rule-full :
-        {h : Handed} → not room ≡ true → h ≡ openingOf plan Clash → Took out (saying morning (refusedLine (fullAnswer (h .answer)))) m r
+        {h : BookResult} → not room ≡ true → h ≡ openingOf plan Clash → Took out (saying morning (refusedLine (fullAnswer (h .answer)))) m r
         → Took out (ruleTurn morning size) m r
     rule-full f q t =
         let q′ = q ∙ ap (λ (x : Plan). openingOf x Clash) k in
         took-full morning size (openingOf (planIn (morning .book)) Clash .answer) (openingOf (planIn (morning .book)) Clash .book)
-        (openingLog (planIn (morning .book)) Clash) e f (ap (λ (x : Handed). x .answer) q′) (opening-refused (planIn (morning .book))) t
+        (openingLog (planIn (morning .book)) Clash) e f (ap (λ (x : BookResult). x .answer) q′) (opening-refused (planIn (morning .book))) t
 
     pub rule-took :
-        not room ≡ false → {l : Logged} → (l ≡ openingLogged plan Clash) × Answered out (openingLog plan Clash) m (l .length)
+        not room ≡ false → {l : LogResult} → (l ≡ openingLogged plan Clash) × Answered out (openingLog plan Clash) m (l .length)
         → r ≡ takenOr morning (l .answer) (l .book) size (l .length) → Took out (ruleTurn morning size) m r
     unfolding openingLogged
     rule-took f {l} w t =
         let w0 = w .0 ∙ ap (λ (x : Plan). openingLogged x Clash) k in
         let w1 : Answered out (openingLog (planIn (morning .book)) Clash) m (l .length) = subst (λ (x : Plan). Answered out (openingLog x Clash) m (l .length)) k (w .1) in
         took-room morning size (openingOf (planIn (morning .book)) Clash .answer) (openingOf (planIn (morning .book)) Clash .book)
-        (openingLog (planIn (morning .book)) Clash) e f (ap (λ (x : Logged). x .answer) w0) (ap (λ (x : Logged). x .book) w0) w1 t
+        (openingLog (planIn (morning .book)) Clash) e f (ap (λ (x : LogResult). x .answer) w0) (ap (λ (x : LogResult). x .book) w0) w1 t
 
 -- ---- what the code tells apart by a match
 
-pub is-rule : (asked : Asked) → OneOf (2 ∷ []) (Declared.tagOf the-type asked) → asked ≡ Rule
-is-rule (End task tick) t = absurd (omega arith)
-is-rule (Drop task) t = absurd (omega arith)
+pub is-rule : (asked : DeskLine) → OneOf (1 ∷ []) (Declared.tagOf the-type asked) → asked ≡ Rule
+is-rule (Step entry) t = absurd (omega arith)
 is-rule Rule t = refl
 is-rule Early t = absurd (omega arith)
 is-rule Exact t = absurd (omega arith)
 is-rule Now t = absurd (omega arith)
 is-rule (Drive n) t = absurd (omega arith)
 is-rule (Why task) t = absurd (omega arith)
-is-rule (Refused code column) t = absurd (omega arith)
 
-pub is-early : (asked : Asked) → OneOf (3 ∷ []) (Declared.tagOf the-type asked) → asked ≡ Early
-is-early (End task tick) t = absurd (omega arith)
-is-early (Drop task) t = absurd (omega arith)
+pub is-early : (asked : DeskLine) → OneOf (2 ∷ []) (Declared.tagOf the-type asked) → asked ≡ Early
+is-early (Step entry) t = absurd (omega arith)
 is-early Rule t = absurd (omega arith)
 is-early Early t = refl
 is-early Exact t = absurd (omega arith)
 is-early Now t = absurd (omega arith)
 is-early (Drive n) t = absurd (omega arith)
 is-early (Why task) t = absurd (omega arith)
-is-early (Refused code column) t = absurd (omega arith)
 
-pub is-exact : (asked : Asked) → OneOf (4 ∷ []) (Declared.tagOf the-type asked) → asked ≡ Exact
-is-exact (End task tick) t = absurd (omega arith)
-is-exact (Drop task) t = absurd (omega arith)
+pub is-exact : (asked : DeskLine) → OneOf (3 ∷ []) (Declared.tagOf the-type asked) → asked ≡ Exact
+is-exact (Step entry) t = absurd (omega arith)
 is-exact Rule t = absurd (omega arith)
 is-exact Early t = absurd (omega arith)
 is-exact Exact t = refl
 is-exact Now t = absurd (omega arith)
 is-exact (Drive n) t = absurd (omega arith)
 is-exact (Why task) t = absurd (omega arith)
-is-exact (Refused code column) t = absurd (omega arith)
 
-pub is-now : (asked : Asked) → OneOf (5 ∷ []) (Declared.tagOf the-type asked) → asked ≡ Now
-is-now (End task tick) t = absurd (omega arith)
-is-now (Drop task) t = absurd (omega arith)
+pub is-now : (asked : DeskLine) → OneOf (4 ∷ []) (Declared.tagOf the-type asked) → asked ≡ Now
+is-now (Step entry) t = absurd (omega arith)
 is-now Rule t = absurd (omega arith)
 is-now Early t = absurd (omega arith)
 is-now Exact t = absurd (omega arith)
 is-now Now t = refl
 is-now (Drive n) t = absurd (omega arith)
 is-now (Why task) t = absurd (omega arith)
-is-now (Refused code column) t = absurd (omega arith)
 
 -- ---- the whole line
 
-module _ (morning : Morning) (n : ℕ) (ended : Bool) (line : List ℕ) {asked : Asked} (e : asked ≡ askedOf (eqb (morning .kept) 0) ended line)
+module _ (morning : Morning) (n : ℕ) (ended : Bool) (line : List ℕ) {asked : DeskLine} (e : asked ≡ askedOf (eqb (morning .kept) 0) ended line)
     {out m : List ℕ} {r : Turn} where
-  turn-took : (this : Asked) → asked ≡ this → Took out (turnBy morning n (length line) this) m r → Took out (turnOf morning n ended line) m r
+  turn-took : (this : DeskLine) → asked ≡ this → Took out (turnBy morning n (length line) this) m r → Took out (turnOf morning n ended line) m r
   unfolding turnOf
-  turn-took this q t = subst (λ (x : Asked). Took out (turnBy morning n (length line) x) m r) (sym q ∙ e) t
+  turn-took this q t = subst (λ (x : DeskLine). Took out (turnBy morning n (length line) x) m r) (sym q ∙ e) t
 
-  pub turn-end :
-      {task tick : ℕ} → asked ≡ End task tick → Took out (entryTurn morning (length line) (said.End task tick)) m r → Took out (turnOf morning n ended line) m r
+  pub turn-step : {entry : Entry} → asked ≡ Step entry → Took out (entryTurn morning n (length line) entry) m r → Took out (turnOf morning n ended line) m r
   unfolding turnBy
-  turn-end {task} {tick} q t = turn-took (End task tick) q t
-
-  pub turn-drop :
-      {task : ℕ} → asked ≡ Drop task → Took out (entryTurn morning (length line) (said.Drop task)) m r → Took out (turnOf morning n ended line) m r
-  unfolding turnBy
-  turn-drop {task} q t = turn-took (Drop task) q t
+  turn-step {entry} q t = turn-took (Step entry) q t
 
   pub turn-rule : asked ≡ Rule → Took out (ruleTurn morning (length line)) m r → Took out (turnOf morning n ended line) m r
   unfolding turnBy
   turn-rule q t = turn-took Rule q t
 
-  -- a question, and a refused line
+  -- a question
   module _ {k : ℕ} (d : r ≡ unmoved morning k) where
     pub turn-early : asked ≡ Early → Answered out (earlyAnswer (morning .book)) m k → Took out (turnOf morning n ended line) m r
     unfolding turnBy
@@ -278,8 +253,8 @@ module _ (morning : Morning) (n : ℕ) (ended : Bool) (line : List ℕ) {asked :
     unfolding turnBy
     turn-why {task} q a = turn-took (Why task) q (said-took d a)
 
-    pub turn-refused :
-        {code column : ℕ} → asked ≡ Refused code column → {a : Answer} → a ≡ refuse code n column → Answered out (refusedLine a) m k
-        → Took out (turnOf morning n ended line) m r
-    unfolding turnBy
-    turn-refused {code} {column} q p a = turn-took (Refused code column) q (said-took d (rw p at a))
+-- a column that an answer can say
+pub near-short : (entry : Entry) → NearEntry entry → Short entry
+near-short (End task tick) h = h
+near-short (Drop task) h = h
+near-short (Refused code column) h = omega (arith, h .1)

@@ -11,17 +11,16 @@ use Rattle.book.specs.View.{planIn}
 use Rattle.book.specs.Open.{openingOf}
 use Rattle.book.specs.declared.Book.{Book}
 use Rattle.book.specs.declared.Rule.the-variants.{Clash}
-use Rattle.entries.specs.declared.Entry.{Entry}
-use Rattle.entries.specs.declared.Entry.the-variants as said
-use Rattle.log_lines.specs.Lines.{refusedLine}
-use Rattle.log_lines.specs.Answers.{Answered}
+use Rattle.log_read.specs.declared.Entry.{Entry}
+use Rattle.log_write.specs.Lines.{refusedLine}
+use Rattle.log_write.specs.Answers.{Answered}
 use Rattle.log.specs.Log.{toldOf}
 use Rattle.log.specs.Answers.{entryLog, openingLog}
-use Rattle.desk_lines.specs.Lines.{askedOf}
-use Rattle.desk_lines.specs.declared.Asked.{Asked}
-use Rattle.desk_lines.specs.declared.Asked.the-variants.{End, Drop, Rule, Early, Exact, Now, Drive, Why, Refused}
+use Rattle.desk_read.specs.Lines.{askedOf}
+use Rattle.desk_read.specs.declared.DeskLine.{DeskLine}
+use Rattle.desk_read.specs.declared.DeskLine.the-variants.{Step, Rule, Early, Exact, Now, Drive, Why}
 use Rattle.desk_answers.specs.Answers.{earlyAnswer, exactAnswer, nowAnswer}
-use Rattle.desk_questions.specs.Questions.{driveAnswer, whyAnswer}
+use Rattle.desk_answers.specs.Questions.{driveAnswer, whyAnswer}
 use Rattle.desk_turns.specs.declared.Morning.{Morning}
 use Rattle.desk_turns.specs.declared.Turn.{Turn}
 
@@ -46,11 +45,11 @@ keeping morning size book text =
 unfoldable pub taking : Morning → ℕ → Answer → Book → List ℕ → Turned
 taking morning size answer book text = cond (isGranted answer) (keeping morning size book text) (saying morning text)
 
--- a report or a drop, as in the log of ends.txt
-abbrev pub entryTurn : Morning → ℕ → Entry → Turned
-entryTurn morning size entry =
-    let told = toldOf 0 (morning .book) entry in
-    taking morning size (told .answer) (told .book) (entryLog (morning .book) entry)
+-- a report, a drop or a refusal, as line n of ends.txt
+abbrev pub entryTurn : Morning → ℕ → ℕ → Entry → Turned
+entryTurn morning n size entry =
+    let told = toldOf n (morning .book) entry in
+    taking morning size (told .answer) (told .book) (entryLog n (morning .book) entry)
 
 -- the book opened anew by the clash rule
 abbrev pub ruleTurn : Morning → ℕ → Turned
@@ -59,16 +58,14 @@ ruleTurn morning size =
     taking morning size (openingOf plan Clash .answer) (openingOf plan Clash .book) (openingLog plan Clash)
 
 -- line n of standard input, by what it asks
-unfoldable pub turnBy : Morning → ℕ → ℕ → Asked → Turned
-turnBy morning n size (End task tick) = entryTurn morning size (said.End task tick)
-turnBy morning n size (Drop task) = entryTurn morning size (said.Drop task)
+unfoldable pub turnBy : Morning → ℕ → ℕ → DeskLine → Turned
+turnBy morning n size (Step entry) = entryTurn morning n size entry
 turnBy morning n size Rule = ruleTurn morning size
 turnBy morning n size Early = saying morning (earlyAnswer (morning .book))
 turnBy morning n size Exact = saying morning (exactAnswer (morning .book))
 turnBy morning n size Now = saying morning (nowAnswer (morning .book))
 turnBy morning n size (Drive drive) = saying morning (driveAnswer (morning .book) drive)
 turnBy morning n size (Why task) = saying morning (whyAnswer (morning .book) task)
-turnBy morning n size (Refused code column) = saying morning (refusedLine (refuse code n column))
 
 -- the rule may be chosen while nothing is kept
 unfoldable pub turnOf : Morning → ℕ → Bool → List ℕ → Turned

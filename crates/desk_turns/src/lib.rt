@@ -3,8 +3,8 @@ ghost use mathlib.Core.Path.{_≡_};
 ghost use Prim.Native.Nat.{_+_, _≤_};
 ghost use lib.Dec.{leb};
 ghost use Rattle.book.specs.View.{planIn};
-ghost use Rattle.entries.specs.declared.Entry.the-variants.{End, Drop};
-ghost use Rattle.log_lines.specs.Lines.{refusedLine};
+ghost use Rattle.log.specs.private.Writes.{Short};
+ghost use Rattle.log_write.specs.Lines.{refusedLine};
 ghost use Rattle.desk_turns.specs.Turns.{saying, entryTurn, ruleTurn, turnOf, Took};
 ghost use Rattle.desk_turns.specs.private.Taken.{unmoved, takenOr, fullAnswer};
 use book::Book;
@@ -13,21 +13,20 @@ use book::open_book;
 use desk_answers::answer_early;
 use desk_answers::answer_exact;
 use desk_answers::answer_refused;
+use desk_answers::chain::answer_why;
+use desk_answers::drive::answer_drive;
 use desk_answers::running::answer_now;
-use desk_lines::Asked;
-use desk_lines::read_asked;
-use desk_questions::chain::answer_why;
-use desk_questions::drive::answer_drive;
-use log::answers::log_drop;
-use log::answers::log_end;
+use desk_read::DeskLine;
+use desk_read::read_asked;
+use log::answers::log_entry;
 use log::answers::log_opening;
-use log_lines::ANSWER_MOST;
+use log::told::tell_entry;
+use log_read::Entry;
+use log_write::ANSWER_MOST;
 use plan::Answer;
 use plan::Plan;
 use plan::refuse;
-
-// No ends.txt has more bytes.
-pub const KEPT_MOST: usize = 32768;
+use text::TEXT_MOST;
 
 // The book, and how many bytes ends.txt has.
 pub struct Morning {
@@ -46,10 +45,10 @@ pub struct Turn {
 fn has_room(kept: usize, length: usize) -> bool
     ensures { λ r. ⌜ r ≡ leb (kept + length + 1) 32768 ⌝ }
 {
-    if KEPT_MOST <= length {
+    if TEXT_MOST <= length {
         return false;
     }
-    kept <= KEPT_MOST - 1 - length
+    kept <= TEXT_MOST - 1 - length
 }
 
 // A question or a refusal changes nothing.
@@ -90,38 +89,24 @@ fn full(morning: Morning, answer: Answer, out: &mut [u8; ANSWER_MOST]) -> Turn
     said(morning, answer_refused(refuse(1, 0, 0), out))
 }
 
-// Of a line of so many bytes, whose report is told.
-fn take_end(
+// Line `number`, of so many bytes, as one of ends.txt.
+fn take_entry(
     morning: Morning,
+    number: u32,
     size: usize,
-    task: u32,
-    tick: u32,
+    entry: Entry,
     out: &mut [u8; ANSWER_MOST],
 ) -> Turn
-    ensures { λ r. ⌜ Took (now (out .entry)) (entryTurn morning size (End task tick)) (now (out .exit)) r ⌝ }
+    requires { ⌜ Short entry ⌝ }
+    ensures { λ r. ⌜ Took (now (out .entry)) (entryTurn morning number size entry) (now (out .exit)) r ⌝ }
 {
     let book = morning.book;
     if !has_room(morning.kept, size) {
-        let reported = book.report(task, tick);
-        let refusal = reported.answer;
+        let told = tell_entry(number, book, entry);
+        let refusal = told.answer;
         return full(morning, refusal, out);
     }
-    let logged = log_end(book, task, tick, out);
-    let answer = logged.answer;
-    let after = logged.book;
-    taken(morning, answer, after, size, logged.length)
-}
-
-fn take_drop(morning: Morning, size: usize, task: u32, out: &mut [u8; ANSWER_MOST]) -> Turn
-    ensures { λ r. ⌜ Took (now (out .entry)) (entryTurn morning size (Drop task)) (now (out .exit)) r ⌝ }
-{
-    let book = morning.book;
-    if !has_room(morning.kept, size) {
-        let dropped = book.drop(task);
-        let refusal = dropped.answer;
-        return full(morning, refusal, out);
-    }
-    let logged = log_drop(book, task, out);
+    let logged = log_entry(number, book, entry, out);
     let answer = logged.answer;
     let after = logged.book;
     taken(morning, answer, after, size, logged.length)
@@ -178,17 +163,12 @@ pub fn take_line(
 {
     let book = morning.book;
     match read_asked(line, ended, morning.kept == 0) {
-        Asked::End(task, tick) => take_end(morning, line.len(), task, tick, out),
-        Asked::Drop(task) => take_drop(morning, line.len(), task, out),
-        Asked::Rule => take_rule(morning, line.len(), out),
-        Asked::Early => said(morning, answer_early(book, out)),
-        Asked::Exact => said(morning, answer_exact(book, out)),
-        Asked::Now => said(morning, answer_now(book, out)),
-        Asked::Drive(drive) => said(morning, answer_drive(book, drive, out)),
-        Asked::Why(task) => said(morning, answer_why(book, task, out)),
-        Asked::Refused(code, column) => {
-            let answer = refuse(code, number, column as u32);
-            said(morning, answer_refused(answer, out))
-        }
+        DeskLine::Step(entry) => take_entry(morning, number, line.len(), entry, out),
+        DeskLine::Rule => take_rule(morning, line.len(), out),
+        DeskLine::Early => said(morning, answer_early(book, out)),
+        DeskLine::Exact => said(morning, answer_exact(book, out)),
+        DeskLine::Now => said(morning, answer_now(book, out)),
+        DeskLine::Drive(drive) => said(morning, answer_drive(book, drive, out)),
+        DeskLine::Why(task) => said(morning, answer_why(book, task, out)),
     }
 }

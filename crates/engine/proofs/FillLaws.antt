@@ -21,10 +21,10 @@ use Rattle.laws.specs.private.Count.{count}
 use Rattle.laws.proofs.Count.{count-lt}
 use Rattle.theory.specs.Plan as theory-plan
 use Rattle.theory.specs.Book.{isDropped}
-use Rattle.times.specs.Times.{startFrom, endFrom, startTime, endTime}
+use Rattle.theory.specs.Times.{startFrom, endFrom, startTime, endTime}
 use Rattle.plan.specs.Value.{at}
-use Rattle.view.specs.View.{laid}
-use Rattle.view.proofs.Laid.{laid-is, length-zeros, at-zeros}
+use Rattle.book_view.specs.View.{laid}
+use Rattle.book_view.proofs.Laid.{laid-is, length-zeros, at-zeros}
 use Rattle.engine.specs.private.Worked.{planTimed, isFree, FreeTask, Solvable}
 
 -- the search for a task that is free

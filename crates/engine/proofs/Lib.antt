@@ -1,2 +1,3 @@
+pub mod LengthLaws
 pub mod FillLaws
 pub mod TimetableLaws

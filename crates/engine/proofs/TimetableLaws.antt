@@ -14,25 +14,26 @@ use Rattle.laws.specs.Every.{any}
 use Rattle.laws.proofs.Every.{any-of, any-at, any-not}
 use Rattle.theory.specs.Plan as theory-plan
 use Rattle.theory.proofs.Facts.{Lawful}
-use Rattle.times.specs.Times.{startTime, endTime, lowest, badLength, idleDrop}
-use Rattle.times.specs.words.Lines.{TwoLines}
-use Rattle.times.proofs.Fits.{Fits}
-use Rattle.times.proofs.Lowest.{lowest-same}
-use Rattle.times.proofs.Solved.{solves}
-use Rattle.times.proofs.Bounds.{end-by}
-use Rattle.times.proofs.Alike.{start-time-alike, end-time-alike}
-use Rattle.times.proofs.Refused.{fits-of}
-use Rattle.length_codes.specs.Codes.{lengthsAnswer}
+use Rattle.theory.specs.Times.{startTime, endTime, lowest, badLength, idleDrop}
+use Rattle.theory.specs.words.Lines.{TwoLines}
+use Rattle.theory.proofs.Fits.{Fits}
+use Rattle.theory.proofs.Lowest.{lowest-same}
+use Rattle.theory.proofs.Solved.{solves}
+use Rattle.theory.proofs.Bounds.{end-by}
+use Rattle.theory.proofs.TimesAlike.{start-time-alike, end-time-alike}
+use Rattle.theory.proofs.Refused.{fits-of}
+use Rattle.engine.specs.Codes.{lengthsAnswer}
+use Rattle.engine.proofs.LengthLaws.{lengths-bad, lengths-idle, lengths-none, lengths-same}
 use Rattle.plan.specs.Answer.{refuse}
 use Rattle.plan.specs.Value.{at, isAccepted}
 use Rattle.plan.specs.declared.Answer.{Answer}
 use Rattle.plan.specs.declared.Plan.{Plan}
-use Rattle.view.specs.View.{isRule, planFor, planSeen, laid}
-use Rattle.view.proofs.Accepted.{plan-facts, plan-lawful}
-use Rattle.view.proofs.Laid.{laid-same, laid-at}
-use Rattle.waits.specs.Waits.{waitsOf}
-use Rattle.waits.specs.declared.Waits.{Waits}
-use Rattle.sound.proofs.WaitLaws.{known-is, agree}
+use Rattle.book_view.specs.View.{isRule, planFor, planSeen, laid}
+use Rattle.book_view.proofs.Accepted.{plan-facts, plan-lawful}
+use Rattle.book_view.proofs.Laid.{laid-same, laid-at}
+use Rattle.book_waits.specs.Waits.{waitsOf}
+use Rattle.book_waits.specs.declared.Waits.{Waits}
+use Rattle.book_sound.proofs.WaitLaws.{known-is, agree}
 use Rattle.book.specs.Open.{ruleNumber}
 use Rattle.book.specs.declared.Rule.{Rule}
 use Rattle.engine.specs.Timetable.{timetableAnswer, zeroTimetable, timetableOf}
@@ -46,13 +47,12 @@ rule-is Rule.Clash = refl
 
 -- no number is said, so nobody was found
 codes-none : (tasks : ℕ) (bad idle : ℕ → Bool) → lengthsAnswer tasks bad idle .code ≡ 0 → (lowest tasks bad ≡ 0) × (lowest tasks idle ≡ 0)
-unfolding lengthsAnswer
 codes-none tasks bad idle h =
     by-eq (lowest tasks bad) 0
     (λ b.
     by-eq (lowest tasks idle) 0 (λ d. (b, d))
-    (λ ne. let q : _≡_ {A = ℕ} 19 0 = rw (b, ne-eqb (lowest tasks idle) 0 ne) at h in absurd (omega arith)))
-    (λ ne. let q : _≡_ {A = ℕ} 22 0 = rw (ne-eqb (lowest tasks bad) 0 ne) at h in absurd (omega arith))
+    (λ ne. let q : _≡_ {A = ℕ} 19 0 = rw (lengths-idle tasks bad idle b refl ne) at h in absurd (omega arith)))
+    (λ ne. let q : _≡_ {A = ℕ} 22 0 = rw (lengths-bad tasks bad idle refl ne) at h in absurd (omega arith))
 
 -- a set is empty where nobody is in it
 empty-is : (n : ℕ) (p : ℕ → Bool) → eqb (setOf n p) 0 ≡ not (any n p)
@@ -113,9 +113,11 @@ module _ (plan : Plan) (rule : Rule) (given : Lengths) where
       module _ {answer : Answer}
           (a : answer ≡ lengthsAnswer (min (plan .tasks) 64) (badLength (planSeen (min (plan .tasks) 64) [] (plan .begin) (plan .finish) []) lasts gone) (λ i. eqb (gone i) 1 && eqb (at (waits .sets) i) 0)) where
         answer-is : answer ≡ lengthsAnswer (plan .tasks) (badLength seen lasts gone) (idleDrop seen gone)
-        unfolding lengthsAnswer
         answer-is =
-            a ∙ rw (all-places, lowest-same (plan .tasks) (λ i. eqb (gone i) 1 && eqb (at (waits .sets) i) 0) (idleDrop seen gone) idle-same)
+            a
+            ∙ rw all-places
+            (lengths-same (plan .tasks) (badLength seen lasts gone) (λ i. eqb (gone i) 1 && eqb (at (waits .sets) i) 0) (badLength seen lasts gone) (idleDrop seen gone) refl
+            (lowest-same (plan .tasks) (λ i. eqb (gone i) 1 && eqb (at (waits .sets) i) 0) (idleDrop seen gone) idle-same))
 
         pub refused-lengths : answer .code ≢ 0 → {r : Timetable} → r ≡ zeroTimetable answer → r ≡ timetableOf plan rule given
         unfolding timetableOf timetableAnswer
@@ -175,6 +177,6 @@ module _ (plan : Plan) (rule : Rule) (given : Lengths) where
               {start end : List ℕ} → start ≡ laid (plan .tasks) (startTime timed lasts gone)
               → end ≡ laid (plan .tasks) (endTime timed lasts gone)
               → _≡_ {A = Timetable} (record { answer = answer; start = start; end = end }) (timetableOf plan rule given)
-          unfolding timetableOf timetableAnswer lengthsAnswer
+          unfolding timetableOf timetableAnswer
           filled s e =
-              rw (answer-is, ok, none-refused .0, none-refused .1, s ∙ laid-same (plan .tasks) _ _ start-same, e ∙ laid-same (plan .tasks) _ _ end-same)
+              rw (answer-is, ok, lengths-none (plan .tasks) (badLength seen lasts gone) (idleDrop seen gone) (none-refused .0) (none-refused .1), s ∙ laid-same (plan .tasks) _ _ start-same, e ∙ laid-same (plan .tasks) _ _ end-same)

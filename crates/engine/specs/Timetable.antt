@@ -1,13 +1,13 @@
 -- The timetable of a plan by a rule.
 use mathlib.Core.Bool.{cond}
 use Rattle.theory.specs.Plan as theory-plan
-use Rattle.times.specs.Times.{startTime, endTime, badLength, idleDrop}
-use Rattle.length_codes.specs.Codes.{lengthsAnswer}
+use Rattle.theory.specs.Times.{startTime, endTime, badLength, idleDrop}
+use Rattle.engine.specs.Codes.{lengthsAnswer}
 use Rattle.plan.specs.Answer.{refuse, granted, isGranted}
 use Rattle.plan.specs.Value.{at, isAccepted}
 use Rattle.plan.specs.declared.Answer.{Answer}
 use Rattle.plan.specs.declared.Plan.{Plan}
-use Rattle.view.specs.View.{planFor, laid}
+use Rattle.book_view.specs.View.{planFor, laid}
 use Rattle.book.specs.Open.{ruleNumber}
 use Rattle.book.specs.declared.Rule.{Rule}
 use Rattle.engine.specs.declared.Lengths.{Lengths}

@@ -3,15 +3,14 @@ ghost use mathlib.Core.Path.{_≡_};
 ghost use mathlib.Core.Bool.{cond};
 ghost use Prim.Native.Nat.{_+_, _<_, _≤_, max};
 ghost use lib.Dec.{eqb};
-ghost use Rattle.laws.specs.Bits.{has};
-ghost use Rattle.laws.specs.Picked.{latest};
-ghost use Rattle.times.specs.Times.{startTime, endTime};
+ghost use Rattle.theory.specs.Times.{startTime, endTime};
 ghost use Rattle.plan.specs.Value.{at};
-ghost use Rattle.view.specs.View.{laid};
+ghost use Rattle.book_view.specs.View.{laid};
 ghost use Rattle.engine.specs.private.Worked.{planTimed, FreeTask, Solvable};
-use view::bit_of;
-use view::is_in;
-use view::start_of;
+use book_view::bit_of;
+use book_view::is_in;
+use book_view::latest_end;
+use book_view::start_of;
 
 pub(crate) struct Times {
     pub start: [u32; 64],
@@ -30,27 +29,6 @@ fn free_task(waits: &[u64; 64], done: u64, tasks: usize) -> usize
         }
     }
     tasks
-}
-
-fn counted(picked: bool, end: u32) -> u32
-    ensures { λ r. ⌜ r ≡ cond picked end 0 ⌝ }
-{
-    if picked {
-        return end;
-    }
-    0
-}
-
-// The latest end of those in a set.
-fn latest_end(awaited: u64, end: &[u32; 64], tasks: usize) -> u32
-    requires { ⌜ tasks ≤ 64 ⌝ }
-    ensures { λ r. ⌜ r ≡ latest tasks (has awaited) (at (now (end .entry))) ⌝ }
-{
-    let mut last = 0;
-    for j in 0..tasks {
-        last = start_of(last, counted(is_in(awaited, j), end[j]));
-    }
-    last
 }
 
 // A dropped task's ready tick is ignored.

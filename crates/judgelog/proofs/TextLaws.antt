@@ -7,7 +7,7 @@ use lib.ListN.{length, take}
 use lib.Seq.{sets}
 use borrow.Author.Tests.{le-leb}
 use Rattle.laws.proofs.Sets.{front-is}
-use Rattle.log_rules.specs.Text.{judgedLog, judgedMost, judgedIn}
+use Rattle.school.specs.Text.{judgedLog, judgedMost, judgedIn}
 
 module _
     (plan log out written : List ℕ) (r : ℕ) (size : length out ≡ 1588) (count : r ≡ length (judgedIn (length out) plan log))

@@ -12,22 +12,22 @@ use Rattle.plan.specs.Answer.{refuse, granted}
 use Rattle.plan.specs.Value.{isAccepted}
 use Rattle.plan.specs.declared.Answer.{Answer}
 use Rattle.plan.specs.declared.Plan.{Plan}
-use Rattle.view.proofs.Accepted.{plan-facts}
+use Rattle.book_view.proofs.Accepted.{plan-facts}
 use Rattle.book.specs.Sound.{isSound}
 use Rattle.book.specs.Open.{openedOn, openingOf}
 use Rattle.book.specs.declared.Book.{Book}
-use Rattle.book.specs.declared.Handed.{Handed}
+use Rattle.book.specs.declared.BookResult.{BookResult}
 use Rattle.book.specs.declared.Rule.{Rule}
 use Rattle.book.proofs.Soundness.{opened-is-sound}
-use Rattle.entries.specs.declared.Entry.{Entry}
-use Rattle.log_lines.specs.Lines.{Lined, refusedLine}
-use Rattle.log_lines.specs.Answers.{Answered}
-use Rattle.log_lines.specs.private.Wrote.{Wrote}
-use Rattle.log_lines.proofs.WriteLaws.{wrote-line}
+use Rattle.log_read.specs.declared.Entry.{Entry}
+use Rattle.log_write.specs.Lines.{Lined, refusedLine}
+use Rattle.log_write.specs.Answers.{Answered}
+use Rattle.log_write.specs.private.Wrote.{Wrote}
+use Rattle.log_write.proofs.WriteLaws.{wrote-line}
 use Rattle.log.specs.Log.{shownAfter, openLog, toldOf}
 use Rattle.log.specs.Answers.{entryLog, loggedOf, openingLog, openingLogged}
-use Rattle.log.specs.declared.Shown.{Shown}
-use Rattle.log.specs.declared.Logged.{Logged}
+use Rattle.log.specs.declared.StepOutcome.{StepOutcome}
+use Rattle.log.specs.declared.LogResult.{LogResult}
 use Rattle.log.specs.private.Writes.{openedIn, toldIn, toldMost}
 use Rattle.log.proofs.BookLaws.{opened-tasks, opening-answer, opening-book}
 use Rattle.log.proofs.OpenLaws.{opened-same}
@@ -37,20 +37,20 @@ use Rattle.log.proofs.ReportLaws.{told-text, told-most}
 answered : {out text : List ℕ} {a : ℕ} {m : List ℕ} {p : ℕ} → a ≤ 3432 → Wrote out 0 text a m p → Answered out text m p
 answered h w = record { place = omega (arith, w .place); bytes = w .bytes; small = omega (arith, w .small) }
 
-abbrev loggedBy : Answer → Book → ℕ → Logged
+abbrev loggedBy : Answer → Book → ℕ → LogResult
 loggedBy answer book length = record { answer = answer; book = book; length = length }
 
-module _ (book : Book) (entry : Entry) {told : Shown} (q : told ≡ toldOf 0 book entry) {out m : List ℕ} {p : ℕ} where
+module _ (n : ℕ) (book : Book) (entry : Entry) {told : StepOutcome} (q : told ≡ toldOf n book entry) {out m : List ℕ} {p : ℕ} where
   pub entry-logged :
       Wrote out 0 (toldIn entry (book .mark) told) (toldMost entry (book .mark) told) m p
-      → (loggedBy (told .answer) (told .book) p ≡ loggedOf book entry) × Answered out (entryLog book entry) m p
+      → (loggedBy (told .answer) (told .book) p ≡ loggedOf n book entry) × Answered out (entryLog n book entry) m p
   unfolding loggedOf
   entry-logged w =
-      let w′ : Wrote out 0 (entryLog book entry) (toldMost entry (book .mark) (toldOf 0 book entry)) m p = rw (told-text 0 book entry) (rw q at w) in
-      let a : Answered out (entryLog book entry) m p = answered (omega (arith, told-most 0 book entry)) w′ in
+      let w′ : Wrote out 0 (entryLog n book entry) (toldMost entry (book .mark) (toldOf n book entry)) m p = rw (told-text n book entry) (rw q at w) in
+      let a : Answered out (entryLog n book entry) m p = answered (omega (arith, told-most n book entry)) w′ in
       ((λ i. loggedBy (q i .answer) (q i .book) (a .place i)), a)
 
-module _ (plan : Plan) (rule : Rule) {handed : Handed} (o : handed ≡ openingOf plan rule) where
+module _ (plan : Plan) (rule : Rule) {handed : BookResult} (o : handed ≡ openingOf plan rule) where
   opening-accepts : handed .answer .code ≡ 0 → isAccepted plan ≡ true
   unfolding openingOf
   opening-accepts z =
@@ -58,10 +58,10 @@ module _ (plan : Plan) (rule : Rule) {handed : Handed} (o : handed ≡ openingOf
       by-bool (isAccepted plan) (λ e. e) (λ e. let n : _≡_ {A = ℕ} 9 0 = rw e at z′ in absurd (omega arith))
 
   its-book : handed .answer .code ≡ 0 → handed .book ≡ openedOn plan rule
-  its-book z = ap (λ (x : Handed). x .book) o ∙ opening-book plan rule (opening-accepts z)
+  its-book z = ap (λ (x : BookResult). x .book) o ∙ opening-book plan rule (opening-accepts z)
 
   its-answer : handed .answer .code ≡ 0 → handed .answer ≡ granted
-  its-answer z = ap (λ (x : Handed). x .answer) o ∙ opening-answer plan rule (opening-accepts z)
+  its-answer z = ap (λ (x : BookResult). x .answer) o ∙ opening-answer plan rule (opening-accepts z)
 
   pub opening-sound : handed .answer .code ≡ 0 → isSound (handed .book) ≡ true
   opening-sound z = rw (its-book z) (opened-is-sound plan rule (opening-accepts z))

@@ -21,7 +21,7 @@ use Rattle.book.specs.Report.{codeOf, reportAnswer, reportedOf}
 use Rattle.book.specs.Drop.{dropCodeOf, dropAnswer, droppedOf}
 use Rattle.book.specs.words.Event.{bookTold}
 use Rattle.book.specs.declared.Book.{Book}
-use Rattle.book.specs.declared.Handed.{Handed}
+use Rattle.book.specs.declared.BookResult.{BookResult}
 use Rattle.book.specs.declared.Rule.{Rule}
 use Rattle.book.proofs.Sizes.{Sized, plan-opened}
 use Rattle.book.proofs.Soundness.{is-sound-facts}
@@ -105,13 +105,13 @@ module _ (book : Book) (task : ℕ) (z : droppedOf book task .answer .code ≡ 0
 -- ---- who is answered by 0 hands on a sound book
 
 module _ (book : Book) (task : ℕ) where
-  pub report-stays : (tick : ℕ) {r : Handed} → r ≡ reportedOf book task tick → r .answer .code ≡ 0 → isSound (r .book) ≡ true
+  pub report-stays : (tick : ℕ) {r : BookResult} → r ≡ reportedOf book task tick → r .answer .code ≡ 0 → isSound (r .book) ≡ true
   report-stays tick e z =
-      rw e (event-sound book (report-zero book task tick (ap (λ (x : Handed). x .answer .code) (sym e) ∙ z) .0) (Event.ends task tick))
+      rw e (event-sound book (report-zero book task tick (ap (λ (x : BookResult). x .answer .code) (sym e) ∙ z) .0) (Event.ends task tick))
 
-  pub drop-stays : {r : Handed} → r ≡ droppedOf book task → r .answer .code ≡ 0 → isSound (r .book) ≡ true
+  pub drop-stays : {r : BookResult} → r ≡ droppedOf book task → r .answer .code ≡ 0 → isSound (r .book) ≡ true
   drop-stays e z =
-      rw e (event-sound book (dropped-zero book task (ap (λ (x : Handed). x .answer .code) (sym e) ∙ z) .0) (Event.drops task))
+      rw e (event-sound book (dropped-zero book task (ap (λ (x : BookResult). x .answer .code) (sym e) ∙ z) .0) (Event.drops task))
 
 -- ---- the arrays keep their lengths
 

@@ -11,17 +11,17 @@ use Rattle.laws.specs.Split.{after}
 use Rattle.text.specs.Line.{LF}
 use Rattle.book.specs.declared.Book.{Book}
 use Rattle.book.proofs.Sizes.{Sized}
-use Rattle.entries.specs.Entries.{nextEntry, entryCode}
-use Rattle.entries.specs.declared.Entry.{Entry}
-use Rattle.entries.proofs.TextLaws.{line-used}
+use Rattle.log_read.specs.Entries.{nextEntry, entryCode}
+use Rattle.log_read.specs.declared.Entry.{Entry}
+use Rattle.log_read.proofs.TextLaws.{line-used}
 use Rattle.log.specs.Log.{toldOf, toldLog, endsLog, restLog}
-use Rattle.log.specs.declared.Shown.{Shown}
-use Rattle.log_lines.specs.private.Wrote.{Wrote}
+use Rattle.log.specs.declared.StepOutcome.{StepOutcome}
+use Rattle.log_write.specs.private.Wrote.{Wrote}
 use Rattle.log.specs.private.Writes.{Short, toldIn, toldMost}
 use Rattle.log.specs.private.Room.{roomFor, endsMost}
 use Rattle.log.proofs.ShortLaws.{next-short}
 use Rattle.log.proofs.ReportLaws.{Told, told-sized, told-wrote}
-use Rattle.log_lines.proofs.WriteLaws.{Left, left-turn, left-last, nothing, wrote-length}
+use Rattle.log_write.proofs.WriteLaws.{Left, left-turn, left-last, nothing, wrote-length}
 
 -- ---- the fuel is enough
 
@@ -142,7 +142,7 @@ module _ {out : List ℕ} {from : ℕ} {opened : Book} {first : ℕ} {ends : Lis
         walk-less k z q = rw q (omega (arith, line-used rest (sym (code-is k) ∙ z)))
 
         module _
-            (some : 0 < length rest) {r : Shown} (q : r ≡ toldOf line book entry) {m′ : List ℕ} {place′ : ℕ}
+            (some : 0 < length rest) {r : StepOutcome} (q : r ≡ toldOf line book entry) {m′ : List ℕ} {place′ : ℕ}
             (v : Wrote m place (toldIn entry (book .mark) r) (toldMost entry (book .mark) r) m′ place′)
             {code : ℕ} (k : code ≡ entryCode entry)
           where

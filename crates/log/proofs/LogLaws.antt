@@ -21,20 +21,20 @@ use Rattle.book.specs.Sound.{isSound}
 use Rattle.book.proofs.Soundness.{opened-is-sound}
 use Rattle.book.specs.Open.{openedOn, openingOf}
 use Rattle.book.specs.declared.Book.{Book}
-use Rattle.book.specs.declared.Handed.{Handed}
+use Rattle.book.specs.declared.BookResult.{BookResult}
 use Rattle.book.specs.declared.Rule.{Rule}
 use Rattle.book.specs.declared.Rule.the-variants.{Clash}
-use Rattle.view.proofs.Accepted.{plan-facts}
+use Rattle.book_view.proofs.Accepted.{plan-facts}
 use Rattle.book.proofs.Sizes.{SizedPlan, sized-opened}
-use Rattle.entries.specs.Rules.{choiceOf}
-use Rattle.entries.specs.declared.Choice.{Choice}
-use Rattle.entries.specs.declared.Choice.the-variants.{Unsaid, Chosen, Malformed}
+use Rattle.log_read.specs.Rules.{choiceOf}
+use Rattle.log_read.specs.declared.Choice.{Choice}
+use Rattle.log_read.specs.declared.Choice.the-variants.{Unsaid, Chosen, Malformed}
 use Rattle.log.specs.Log.{shownAfter, openLog, restLog, chosenLog, logOf, logMost, logIn}
-use Rattle.log_lines.specs.Lines.{Lined, refusedLine}
-use Rattle.log_lines.specs.private.Wrote.{Wrote}
+use Rattle.log_write.specs.Lines.{Lined, refusedLine}
+use Rattle.log_write.specs.private.Wrote.{Wrote}
 use Rattle.log.specs.private.Writes.{openedIn, ruleOf}
 use Rattle.log.specs.private.Room.{EndsFit, endsMost}
-use Rattle.log_lines.proofs.WriteLaws.{also, wrote-length, wrote-line}
+use Rattle.log_write.proofs.WriteLaws.{also, wrote-length, wrote-line}
 use Rattle.log.proofs.ComeLaws.{come-most}
 use Rattle.log.proofs.BookLaws.{opened-tasks, opening-answer, opening-book}
 use Rattle.log.proofs.OpenLaws.{opened-same, rest-less}
@@ -89,14 +89,14 @@ module _ {plan out : List ℕ} {reading : Reading} (k : Accepted plan out readin
   its-sized : SizedPlan (readingOf plan .plan)
   its-sized = read-sized false plan (ap (λ (a : Answer). a .code) (sym (read-answer false plan)) ∙ its-zero)
 
-  pub opening-sound : (rule : Rule) {o : Handed} → o ≡ openingOf (reading .plan) rule → o .answer .code ≡ 0 → isSound (o .book) ≡ true
+  pub opening-sound : (rule : Rule) {o : BookResult} → o ≡ openingOf (reading .plan) rule → o .answer .code ≡ 0 → isSound (o .book) ≡ true
   opening-sound rule q y =
       rw (q, k .reads, opening-book (readingOf plan .plan) rule its-accepted) (opened-is-sound (readingOf plan .plan) rule its-accepted)
 
 -- ---- its book is opened
 
 -- what is known then: it is opened by the rule that the first line chooses
-pub record Opened (plan ends out : List ℕ) (choice : Choice) (handed : Handed) (early : ℕ) : Type 0 where
+pub record Opened (plan ends out : List ℕ) (choice : Choice) (handed : BookResult) (early : ℕ) : Type 0 where
   pub reading : Reading
   pub rule : Rule
   pub accepted : Accepted plan out reading
@@ -106,19 +106,19 @@ pub record Opened (plan ends out : List ℕ) (choice : Choice) (handed : Handed)
   pub opens : handed ≡ openingOf (reading .plan) rule
   pub shows : early ≡ shownAfter (handed .answer) (handed .book) .early
 
-module _ {plan ends out : List ℕ} {choice : Choice} {handed : Handed} {early : ℕ} (o : Opened plan ends out choice handed early) where
+module _ {plan ends out : List ℕ} {choice : Choice} {handed : BookResult} {early : ℕ} (o : Opened plan ends out choice handed early) where
   abbrev its-plan : Plan
   its-plan = readingOf plan .plan
 
   its-book : handed .book ≡ openedOn its-plan (o .rule)
   its-book =
-      ap (λ (x : Handed). x .book) (o .opens)
+      ap (λ (x : BookResult). x .book) (o .opens)
       ∙ ap (λ (x : Reading). openingOf (x .plan) (o .rule) .book) (o .accepted .reads)
       ∙ opening-book its-plan (o .rule) (its-accepted (o .accepted))
 
   its-answer : handed .answer ≡ granted
   its-answer =
-      ap (λ (x : Handed). x .answer) (o .opens)
+      ap (λ (x : BookResult). x .answer) (o .opens)
       ∙ ap (λ (x : Reading). openingOf (x .plan) (o .rule) .answer) (o .accepted .reads)
       ∙ opening-answer its-plan (o .rule) (its-accepted (o .accepted))
 

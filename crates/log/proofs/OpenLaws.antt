@@ -10,13 +10,13 @@ use Rattle.laws.specs.Split.{indexOf, after}
 use Rattle.text.specs.Line.{LF}
 use Rattle.plan.specs.Answer.{granted}
 use Rattle.plan.specs.declared.Plan.{Plan}
-use Rattle.view.proofs.Laid.{zeros-laid}
+use Rattle.book_view.proofs.Laid.{zeros-laid}
 use Rattle.book.specs.Open.{ruleNumber, blankBook, openedOn}
 use Rattle.book.specs.View.{layOut}
 use Rattle.book.specs.declared.Rule.{Rule}
-use Rattle.entries.specs.declared.Choice.{Choice}
-use Rattle.entries.specs.declared.Choice.the-variants.{Unsaid, Chosen, Malformed}
-use Rattle.entries.proofs.Choice.{the-type}
+use Rattle.log_read.specs.declared.Choice.{Choice}
+use Rattle.log_read.specs.declared.Choice.the-variants.{Unsaid, Chosen, Malformed}
+use Rattle.log_read.proofs.Choice.{the-type}
 use Rattle.log.specs.Lines.{runLine, startLines, earlyLine}
 use Rattle.log.specs.Log.{shownAfter, openLog}
 use Rattle.log.specs.private.Writes.{startsIn, openedIn}

@@ -10,6 +10,7 @@ use lib.ListN.{length}
 use borrow.Author.Tests.{eq-eqb, ne-eqb}
 use Rattle.laws.proofs.Cases.{by-eq}
 use Rattle.laws.specs.private.Count.{count}
+use Rattle.text.specs.Line.{linesBelow}
 use Rattle.theory.proofs.Facts.{Sound}
 use Rattle.theory.specs.Book as theory-book
 use Rattle.theory.specs.Report.{next, dropIt}
@@ -22,15 +23,15 @@ use Rattle.book.specs.Report.{reportedOf}
 use Rattle.book.specs.Drop.{droppedOf}
 use Rattle.book.specs.declared.Book.{Book}
 use Rattle.book.proofs.Sizes.{Sized}
-use Rattle.entries.specs.declared.Entry.{Entry}
-use Rattle.entries.specs.declared.Entry.the-variants.{End, Drop, Refused}
+use Rattle.log_read.specs.declared.Entry.{Entry}
+use Rattle.log_read.specs.declared.Entry.the-variants.{End, Drop, Refused}
 use Rattle.log.specs.Lines.{hasStarted, startLine, startLines, endLine, earlyLine}
 use Rattle.log.specs.Log.{toldOf, linesOf, toldLog}
-use Rattle.log.specs.declared.Shown.{Shown}
-use Rattle.log_lines.specs.private.Wrote.{Wrote}
+use Rattle.log.specs.declared.StepOutcome.{StepOutcome}
+use Rattle.log_write.specs.private.Wrote.{Wrote}
 use Rattle.log.specs.private.Writes.{starting, startsIn, started, Named, linesIn, toldIn, linesMost, toldMost}
 use Rattle.log.specs.private.Room.{linesLeft, toCome, roomFor}
-use Rattle.log_lines.proofs.WriteLaws.{looser}
+use Rattle.log_write.proofs.WriteLaws.{looser}
 use Rattle.log.proofs.StartLaws.{count-below}
 use Rattle.log.proofs.ComeLaws.{lines-stay, lines-go, lines-end, lines-drop, pays}
 use Rattle.log.proofs.BookLaws.{
@@ -51,7 +52,7 @@ use Rattle.log.proofs.BookLaws.{
 }
 
 pub starts-same : (old new : Book) (n : ℕ) → startLines old new n ≡ startsIn (old .mark) new n
-unfolding startLines startsIn
+unfolding startsIn linesBelow
 starts-same old new zero = refl
 starts-same old new (suc n) = ap (λ (s : List ℕ). s ++ cond (hasStarted old new n) (startLine new n) []) (starts-same old new n)
 
@@ -226,10 +227,10 @@ granted-most : (c a b x m : ℕ) → (c ≡ 0 → a + x ≤ m) → (c ≢ 0 → 
 granted-most c a b x m f g = by-eq c 0 (λ z. rw (eq-eqb c 0 z) (f z)) (λ n. rw (ne-eqb c 0 n) (g n))
 
 module _ (n : ℕ) (book : Book) (e : Entry) where
-  abbrev told : Shown
+  abbrev told : StepOutcome
   told = toldOf n book e
 
-  pub told-names : {r : Shown} → r ≡ told → r .answer .code ≡ 0 → Named e (r .book .tasks)
+  pub told-names : {r : StepOutcome} → r ≡ told → r .answer .code ≡ 0 → Named e (r .book .tasks)
   told-names q z = let z′ : told .answer .code ≡ 0 = rw q at z in rw q (told-named n book e z′)
 
   pub told-text : toldLog book e told ≡ toldIn e (book .mark) told

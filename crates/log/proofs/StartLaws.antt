@@ -9,10 +9,11 @@ use lib.Dec.{eqb}
 use lib.ListN.{length, getD}
 use Rattle.laws.proofs.Cases.{by-bool}
 use Rattle.laws.specs.private.Count.{count}
+use Rattle.text.specs.Line.{linesBelow}
 use Rattle.book.specs.declared.Book.{Book}
-use Rattle.log_lines.specs.Lines.{Lined}
-use Rattle.log_lines.specs.private.Wrote.{Wrote}
-use Rattle.log_lines.proofs.WriteLaws.{also, nothing, wrote-length, wrote-line}
+use Rattle.log_write.specs.Lines.{Lined}
+use Rattle.log_write.specs.private.Wrote.{Wrote}
+use Rattle.log_write.proofs.WriteLaws.{also, nothing, wrote-length, wrote-line}
 use Rattle.log.specs.Lines.{startLine}
 use Rattle.log.specs.private.Writes.{starting, startsIn}
 
@@ -42,14 +43,14 @@ module _ (old : List ℕ) (book : Book) where
   Below i out at m p = Wrote out at (startsIn old book i) (52 * count i (starting old (book .mark))) m p
 
   pub starts-none : (out : List ℕ) (at : ℕ) → Below 0 out at out at
-  unfolding startsIn count
+  unfolding startsIn linesBelow count
   starts-none out at = nothing out at 0
 
   abbrev oneStart : ℕ → List ℕ
   oneStart i = cond (starting old (book .mark) i) (startLine book i) []
 
   starts-step : (i : ℕ) → startsIn old book (i + 1) ≡ startsIn old book i ++ oneStart i
-  unfolding startsIn
+  unfolding startsIn linesBelow
   starts-step i = ap (startsIn old book) (add-one i)
 
   start-small : (i : ℕ) → length (oneStart i) ≤ 52 → length (oneStart i) ≤ 52 * cond (starting old (book .mark) i) 1 0

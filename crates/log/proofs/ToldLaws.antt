@@ -13,7 +13,7 @@ use denote.Enum.Declared
 use Rattle.theory.specs.Figure.{minimumEarly}
 use Rattle.plan.specs.Answer.{refuse, granted}
 use Rattle.plan.specs.declared.Answer.{Answer}
-use Rattle.view.specs.View.{planSeen, bookSeen}
+use Rattle.book_view.specs.View.{planSeen, bookSeen}
 use Rattle.book.specs.Early.{figureOf}
 use Rattle.book.specs.Sound.{isSound}
 use Rattle.book.specs.declared.Figure.{Figure}
@@ -21,18 +21,18 @@ use Rattle.book.proofs.ReportLaws.{figure-granted}
 use Rattle.book.specs.Report.{reportedOf}
 use Rattle.book.specs.Drop.{droppedOf}
 use Rattle.book.specs.declared.Book.{Book}
-use Rattle.book.specs.declared.Handed.{Handed}
-use Rattle.entries.specs.declared.Entry.{Entry}
-use Rattle.entries.specs.declared.Entry.the-variants.{End, Drop, Refused}
-use Rattle.entries.proofs.Entry.{the-type}
+use Rattle.book.specs.declared.BookResult.{BookResult}
+use Rattle.log_read.specs.declared.Entry.{Entry}
+use Rattle.log_read.specs.declared.Entry.the-variants.{End, Drop, Refused}
+use Rattle.log_read.proofs.Entry.{the-type}
 use Rattle.log.specs.Log.{shownAfter, toldOf}
-use Rattle.log.specs.declared.Shown.{Shown}
-use Rattle.log_lines.specs.Lines.{Lined, refusedLine}
-use Rattle.log_lines.specs.private.Wrote.{Wrote}
+use Rattle.log.specs.declared.StepOutcome.{StepOutcome}
+use Rattle.log_write.specs.Lines.{Lined, refusedLine}
+use Rattle.log_write.specs.private.Wrote.{Wrote}
 use Rattle.log.specs.Lines.{runLine, earlyLine}
 use Rattle.log.specs.private.Writes.{starting, startsIn, started, openedIn, Short, Named, linesIn, linesMost, toldIn, toldMost}
 use Rattle.log.proofs.StartLaws.{count-below}
-use Rattle.log_lines.proofs.WriteLaws.{also, looser, nothing, wrote-length, wrote-line}
+use Rattle.log_write.proofs.WriteLaws.{also, looser, nothing, wrote-length, wrote-line}
 
 -- ---- the figure shown
 
@@ -52,20 +52,20 @@ module _ (code : ℕ) (book : Book) where
 
 module _ (n : ℕ) (book : Book) {e : Entry} where
   pub tell-end :
-      {task tick : ℕ} {r : Handed} {s : Shown} → e ≡ End task tick → r ≡ reportedOf book task tick → s ≡ shownAfter (r .answer) (r .book)
+      {task tick : ℕ} {r : BookResult} {s : StepOutcome} → e ≡ End task tick → r ≡ reportedOf book task tick → s ≡ shownAfter (r .answer) (r .book)
       → s ≡ toldOf n book e
   unfolding toldOf
   tell-end p q t = rw (p, t, q)
 
   pub tell-drop :
-      {task : ℕ} {r : Handed} {s : Shown} → e ≡ Drop task → r ≡ droppedOf book task → s ≡ shownAfter (r .answer) (r .book)
+      {task : ℕ} {r : BookResult} {s : StepOutcome} → e ≡ Drop task → r ≡ droppedOf book task → s ≡ shownAfter (r .answer) (r .book)
       → s ≡ toldOf n book e
   unfolding toldOf
   tell-drop p q t = rw (p, t, q)
 
   pub tell-refused :
       {code column : ℕ} {a : Answer} → e ≡ Refused code column → a ≡ refuse code n column
-      → _≡_ {A = Shown} (record { answer = a; book = book; early = 0 }) (toldOf n book e)
+      → _≡_ {A = StepOutcome} (record { answer = a; book = book; early = 0 }) (toldOf n book e)
   unfolding toldOf
   tell-refused p q = rw (p, q)
 
@@ -95,7 +95,7 @@ lines-none old book (End task tick) t = absurd (omega arith)
 lines-none old book (Drop task) t = absurd (omega arith)
 lines-none {out} {from} old book (Refused code column) t = nothing out from 0
 
-module _ {out : List ℕ} {from : ℕ} (fits : from + 3432 ≤ length out) (e : Entry) (old : List ℕ) (told : Shown) {m : List ℕ} {p : ℕ} where
+module _ {out : List ℕ} {from : ℕ} (fits : from + 3432 ≤ length out) (e : Entry) (old : List ℕ) (told : StepOutcome) {m : List ℕ} {p : ℕ} where
   pub told-no : told .answer .code ≢ 0 → Lined out from (refusedLine (told .answer)) 41 m p → Wrote out from (toldIn e old told) (toldMost e old told) m p
   told-no h w = rw (ne-eqb (told .answer .code) 0 h) (wrote-line (omega arith) w)
 

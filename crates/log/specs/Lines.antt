@@ -1,13 +1,14 @@
 -- The lines of a log, from a book.
-use Prim.Native.Nat.{ℕ, zero, suc, _+_, _-_}
+use Prim.Native.Nat.{ℕ, _+_, _-_}
 use mathlib.Core.Bool.{Bool, cond, not, _&&_}
-use mathlib.Core.List.{List, [], _∷_, _++_}
+use mathlib.Core.List.{List, [], _∷_}
 use Rattle.text.specs.Bytes.{bytes}
+use Rattle.text.specs.Line.{linesBelow}
 use Rattle.theory.specs.Book.{waiting, isDropped}
 use Rattle.plan.specs.Value.{at}
 use Rattle.book.specs.declared.Book.{Book}
-use Rattle.log_lines.specs.Lines.{numbersLine, runBy, taskLine, startWord}
-use Rattle.log.specs.declared.Shown.{Shown}
+use Rattle.log_write.specs.Lines.{numbersLine, runBy, taskLine, startWord}
+use Rattle.log.specs.declared.StepOutcome.{StepOutcome}
 
 -- `run`, by the book's rule
 abbrev pub runLine : Book → List ℕ
@@ -28,7 +29,7 @@ abbrev pub dropLine : Book → ℕ → List ℕ
 dropLine book task = numbersLine (bytes "drop") (task ∷ at (book .board) (task - 1) ∷ [])
 
 -- `early` carries clock and M
-abbrev pub earlyLine : Shown → List ℕ
+abbrev pub earlyLine : StepOutcome → List ℕ
 earlyLine shown = numbersLine (bytes "early") (shown .book .clock ∷ shown .early ∷ [])
 
 -- task i waited in the old book and waits no longer in the new one
@@ -36,6 +37,5 @@ abbrev pub hasStarted : Book → Book → ℕ → Bool
 hasStarted old new i = waiting (at (old .mark)) i && not (waiting (at (new .mark)) i)
 
 -- the `start` and `skip` lines of the tasks below n, by rising task number
-unfoldable pub startLines : Book → Book → ℕ → List ℕ
-startLines old new zero = []
-startLines old new (suc n) = startLines old new n ++ cond (hasStarted old new n) (startLine new n) []
+abbrev pub startLines : Book → Book → ℕ → List ℕ
+startLines old new n = linesBelow (λ i. cond (hasStarted old new i) (startLine new i) []) n

@@ -2,10 +2,11 @@
 use Prim.Native.Nat.{ℕ, zero, suc, _+_}
 use mathlib.Core.Bool.{cond}
 use mathlib.Core.List.{List, [], _++_}
-use lib.Dec.{leb, ltb, eqb}
+use lib.Dec.{ltb, eqb}
 use lib.ListN.{length}
 use Rattle.laws.specs.Split.{after}
 use Rattle.text.specs.Line.{LF}
+use Rattle.text.specs.Put.{ifFits}
 use Rattle.plan.specs.Answer.{refuse, granted, isGranted, isRefused}
 use Rattle.plan.specs.Read.{readingOf}
 use Rattle.plan.specs.declared.Answer.{Answer}
@@ -17,18 +18,18 @@ use Rattle.book.specs.Early.{figureOf}
 use Rattle.book.specs.declared.Book.{Book}
 use Rattle.book.specs.declared.Rule.{Rule}
 use Rattle.book.specs.declared.Rule.the-variants.{EarlyStart, Clash}
-use Rattle.entries.specs.Entries.{nextEntry, entryCode}
-use Rattle.entries.specs.Rules.{choiceOf}
-use Rattle.entries.specs.declared.Choice.{Choice}
-use Rattle.entries.specs.declared.Choice.the-variants.{Unsaid, Chosen, Malformed}
-use Rattle.entries.specs.declared.Entry.{Entry}
-use Rattle.entries.specs.declared.Entry.the-variants.{End, Drop, Refused}
-use Rattle.log_lines.specs.Lines.{refusedLine}
+use Rattle.log_read.specs.Entries.{nextEntry, entryCode}
+use Rattle.log_read.specs.Rules.{choiceOf}
+use Rattle.log_read.specs.declared.Choice.{Choice}
+use Rattle.log_read.specs.declared.Choice.the-variants.{Unsaid, Chosen, Malformed}
+use Rattle.log_read.specs.declared.Entry.{Entry}
+use Rattle.log_read.specs.declared.Entry.the-variants.{End, Drop, Refused}
+use Rattle.log_write.specs.Lines.{refusedLine}
 use Rattle.log.specs.Lines.{runLine, endLine, dropLine, earlyLine, startLines}
-use Rattle.log.specs.declared.Shown.{Shown}
+use Rattle.log.specs.declared.StepOutcome.{StepOutcome}
 
 -- an answer, the book after it, and its M where it is accepted
-abbrev pub shownAfter : Answer → Book → Shown
+abbrev pub shownAfter : Answer → Book → StepOutcome
 shownAfter answer book = record { answer = answer; book = book; early = cond (isGranted answer) (figureOf book .early) 0 }
 
 -- `run`; then a `start` line for each task whose start is known at opening; an `early` line
@@ -39,7 +40,7 @@ openLog plan rule =
     ++ earlyLine (shownAfter granted (openedOn plan rule)))
 
 -- what line n of ends.txt is answered, by what it says
-unfoldable pub toldOf : ℕ → Book → Entry → Shown
+unfoldable pub toldOf : ℕ → Book → Entry → StepOutcome
 toldOf n book (End task tick) = shownAfter (reportedOf book task tick .answer) (reportedOf book task tick .book)
 toldOf n book (Drop task) = shownAfter (droppedOf book task .answer) (droppedOf book task .book)
 toldOf n book (Refused code column) = record { answer = refuse code n column; book = book; early = 0 }
@@ -51,7 +52,7 @@ linesOf book (Drop task) told = dropLine told task
 linesOf book (Refused code column) told = []
 
 -- these and an `early` line; or a `refused` line
-unfoldable pub toldLog : Book → Entry → Shown → List ℕ
+unfoldable pub toldLog : Book → Entry → StepOutcome → List ℕ
 toldLog book entry told =
     cond (isGranted (told .answer)) (linesOf book entry (told .book) ++ earlyLine told) (refusedLine (told .answer))
 
@@ -87,4 +88,4 @@ logMost = 212992
 
 -- what is written into a buffer of so many bytes: nothing where some log would not fit
 abbrev pub logIn : ℕ → List ℕ → List ℕ → List ℕ
-logIn room plan ends = cond (leb logMost room) (logOf plan ends) []
+logIn room plan ends = ifFits logMost room (logOf plan ends)

@@ -1,12 +1,12 @@
 // What ends.txt prints, line by line.
-ghost use Rattle.log_lines.specs.private.Wrote.{Wrote};
+ghost use Rattle.log_write.specs.private.Wrote.{Wrote};
 ghost use Rattle.log.specs.Log.{restLog};
 ghost use Rattle.log.specs.private.Room.{endsMost, EndsFit};
 use crate::told::put_told;
 use crate::told::tell;
 use book::Book;
-use entries::entry_code;
-use entries::next_entry;
+use log_read::entry_code;
+use log_read::next_entry;
 use text::part::LF;
 use text::part::part_after;
 

@@ -2,7 +2,7 @@
 pub mod answers;
 mod ends;
 mod starts;
-mod told;
+pub mod told;
 
 ghost use mathlib.Core.Path.{_≡_};
 ghost use Prim.Native.Nat.{_≤_};
@@ -14,11 +14,12 @@ use book::Book;
 use book::Rule;
 use book::open_book;
 use ends::put_ends;
-use entries::Choice;
-use entries::rules::choose;
-use log_lines::put_refused;
+use log_read::Choice;
+use log_read::rules::choose;
+use log_write::put_refused;
 use plan::Answer;
-use reader::read_plan;
+use plan_read::read_plan;
+use text::TEXT_MOST;
 use text::part::LF;
 use text::part::part_after;
 use told::early_after;
@@ -28,14 +29,14 @@ use told::put_opened;
 pub const LOG_MOST: usize = 212992;
 
 // An answer, the book after it, and that book's figure M.
-pub struct Shown {
+pub struct StepOutcome {
     pub answer: Answer,
     pub book: Book,
     pub early: u32,
 }
 
 // An answer, the book after it, and how many bytes were written.
-pub struct Logged {
+pub struct LogResult {
     pub answer: Answer,
     pub book: Book,
     pub length: usize,
@@ -64,7 +65,7 @@ pub fn run_log(plan: &[u8], ends: &[u8], out: &mut [u8]) -> usize
     if answer.code != 0 {
         return put_refused(out, 0, answer.code, answer.first, answer.second);
     }
-    if 32768 < ends.len() {
+    if TEXT_MOST < ends.len() {
         return put_refused(out, 0, 1, 0, 0);
     }
     let choice = choose(ends);

@@ -1,10 +1,10 @@
 // The `start` and `skip` lines, where the caller has seen that there is room.
 ghost use Prim.Native.Nat.{_+_, _*_, _≤_};
 ghost use lib.ListN.{length};
-ghost use Rattle.log_lines.specs.private.Wrote.{Wrote};
+ghost use Rattle.log_write.specs.private.Wrote.{Wrote};
 ghost use Rattle.log.specs.private.Writes.{startsIn, started};
 use book::Book;
-use log_lines::put_start;
+use log_write::put_start;
 
 // Of the tasks that waited by the marks `old` and wait no longer, by rising number.
 pub(crate) fn put_starts(out: &mut [u8], at: usize, old: &[u8; 64], book: Book) -> usize

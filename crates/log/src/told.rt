@@ -4,23 +4,24 @@ ghost use mathlib.Core.Bool.{cond};
 ghost use lib.Dec.{eqb};
 ghost use Rattle.book.specs.Early.{figureOf};
 ghost use mathlib.Core.Bool.{true};
-ghost use Prim.Native.Nat.{_+_, _*_, _<_, _≤_};
+ghost use Prim.Native.Nat.{_+_, _*_, _<_, _≤_, min};
 ghost use lib.ListN.{length};
 ghost use Rattle.plan.specs.Answer.{refuse};
 ghost use Rattle.book.specs.Sound.{isSound};
-ghost use Rattle.log_lines.specs.private.Wrote.{Wrote};
+ghost use Rattle.log_write.specs.private.Wrote.{Wrote};
+ghost use Rattle.log.specs.Answers.{within};
 ghost use Rattle.log.specs.Log.{shownAfter, toldOf};
 ghost use Rattle.log.specs.private.Writes.{started, openedIn, endedIn, Short, Named, linesIn, linesMost, toldIn, toldMost};
-use crate::Shown;
+use crate::StepOutcome;
 use crate::starts::put_starts;
 use book::Book;
-use entries::Entry;
-use figure::least_early;
-use log_lines::put_drop;
-use log_lines::put_early;
-use log_lines::put_end;
-use log_lines::put_refused;
-use log_lines::put_run;
+use book_codes::least_early;
+use log_read::Entry;
+use log_write::put_drop;
+use log_write::put_early;
+use log_write::put_end;
+use log_write::put_refused;
+use log_write::put_run;
 use plan::Answer;
 use plan::refuse;
 
@@ -43,19 +44,19 @@ pub(crate) fn early_after(code: u32, book: Book) -> u32
     )
 }
 
-fn show(answer: Answer, book: Book) -> Shown
+fn show(answer: Answer, book: Book) -> StepOutcome
     requires { ⌜ (answer .code ≡ 0 → isSound book ≡ true) ⌝ }
     ensures { λ r. ⌜ r ≡ shownAfter answer book ⌝ }
 {
     let early = early_after(answer.code, book);
-    Shown {
+    StepOutcome {
         answer,
         book,
         early,
     }
 }
 
-pub(crate) fn tell(line: u32, book: Book, entry: Entry) -> Shown
+pub(crate) fn tell(line: u32, book: Book, entry: Entry) -> StepOutcome
     requires { ⌜ Short entry ⌝ }
     ensures { λ r. ⌜ r ≡ toldOf line book entry ⌝ }
 {
@@ -68,12 +69,39 @@ pub(crate) fn tell(line: u32, book: Book, entry: Entry) -> Shown
             let dropped = book.drop(task);
             show(dropped.answer, dropped.book)
         }
-        Entry::Refused(code, column) => Shown {
+        Entry::Refused(code, column) => StepOutcome {
             answer: refuse(code, line, column as u32),
             book,
             early: 0,
         },
     }
+}
+
+fn low(column: usize) -> usize
+    ensures { λ r. ⌜ r ≡ min column 4294967295 ⌝ }
+{
+    if column < 4294967295 {
+        return column;
+    }
+    4294967295
+}
+
+// An entry that can be answered, whatever its column.
+pub(crate) fn shortened(entry: Entry) -> Entry
+    ensures { λ r. ⌜ r ≡ within entry ⌝ }
+{
+    match entry {
+        Entry::End(task, tick) => Entry::End(task, tick),
+        Entry::Drop(task) => Entry::Drop(task),
+        Entry::Refused(code, column) => Entry::Refused(code, low(column)),
+    }
+}
+
+// What a line is answered, for any entry.
+pub fn tell_entry(line: u32, book: Book, entry: Entry) -> StepOutcome
+    ensures { λ r. ⌜ r ≡ toldOf line book (within entry) ⌝ }
+{
+    tell(line, book, shortened(entry))
 }
 
 // Opened: the `run` line, the starts that are known then, and an `early` line.
@@ -114,7 +142,7 @@ pub(crate) fn put_told(
     at: usize,
     entry: Entry,
     old: &[u8; 64],
-    told: Shown,
+    told: StepOutcome,
 ) -> usize
     requires { ⌜ (at + 3432 ≤ length (now out)) × (told .answer .code ≡ 0 → Named entry (told .book .tasks)) ⌝ }
     ensures { λ r. ⌜ Wrote (now (out .entry)) at (toldIn entry (now (old .entry)) told) (toldMost entry (now (old .entry)) told) (now (out .exit)) r ⌝ }

@@ -1,3 +1,3 @@
-pub mod ReadLaws
-pub mod NoteLaws
-pub mod WalkLaws
+pub mod EntryLaws
+pub mod TextLaws
+pub mod RuleLaws

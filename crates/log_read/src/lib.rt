@@ -1,98 +1,103 @@
-// A log that is judged, read once: the lowest line without its form, or what is said of each task.
+// A line of ends.txt.
+pub mod rules;
+
 ghost use mathlib.Core.Path.{_≡_};
-ghost use mathlib.Core.Bool.{cond};
-ghost use Prim.Native.Nat.{min};
-ghost use Rattle.log_read.specs.Found.{notRead, foundOf};
-use log_forms::said;
+ghost use mathlib.Core.Bool.{true, false};
+ghost use Rattle.laws.specs.Lists.{same};
+ghost use Rattle.text.specs.Bytes.{bytes};
+ghost use Rattle.text.specs.Line.{field};
+ghost use Rattle.log_read.specs.Entries.{entryOf, nextEntry, entryCode};
+ghost use Rattle.log_read.specs.declared.Entry.the-variants.{Refused};
+use text::decimal::NUMBER_MOST;
 use text::part::LF;
+use text::part::field;
 use text::part::find;
-use text::part::past;
+use text::part::same;
+use text_fields::Fault;
+use text_fields::faults::end_code;
+use text_fields::faults::fault_of;
+use text_fields::faults::is_faultless;
+use text_fields::faults::read_ranged;
+use text_fields::faults::word_code;
 
-// The lowest line without its form, from 1, 0 for none. Place t is task t's, place 0 that of lines that name none:
-// how many starts and ends there are, 2 for more, and tick and board of the first.
-pub struct Found {
-    pub line: usize,
-    pub starts: [u8; 65],
-    pub ends: [u8; 65],
-    pub start: [u32; 65],
-    pub end: [u32; 65],
-    pub startboard: [u32; 65],
-    pub endboard: [u32; 65],
+// What a line says: a task's end at a tick, a task that is dropped, or the code and the column that refuse the line.
+pub enum Entry {
+    End(u32, u32),
+    Drop(u32),
+    Refused(u32, usize),
 }
 
-fn few(tasks: u8) -> u8
-    ensures { λ r. ⌜ r ≡ min tasks 64 ⌝ }
-{
-    if tasks < 64 {
-        return tasks;
-    }
-    64
+// What the first line says of the rule: nothing, that it is clash, or at which column it is malformed.
+pub enum Choice {
+    Unsaid,
+    Chosen,
+    Malformed(usize),
 }
 
-// One more, up to 2.
-fn counted(fresh: bool) -> u8
-    ensures { λ r. ⌜ r ≡ cond fresh 1 2 ⌝ }
+fn refused(fault: Fault) -> Entry
+    ensures { λ r. ⌜ r ≡ Refused (fault .code) (fault .column) ⌝ }
 {
-    if fresh {
-        return 1;
-    }
-    2
+    Entry::Refused(fault.code as u32, fault.column)
 }
 
-// The first line of a task is the one that is kept.
-fn kept(fresh: bool, old: u32, new: u32) -> u32
-    ensures { λ r. ⌜ r ≡ cond fresh new old ⌝ }
+fn read_end(line: &[u8], ended: bool) -> Entry
+    requires { ⌜ same (field (now line) 0) (bytes "drop") ≡ false ⌝ }
+    ensures { λ r. ⌜ r ≡ entryOf ended (now (line .entry)) ⌝ }
 {
-    if fresh {
-        return new;
+    let task = read_ranged(field(line, 1), 0, NUMBER_MOST);
+    let tick = read_ranged(field(line, 2), 0, NUMBER_MOST);
+    let codes = [
+        word_code(field(line, 0), b"end"),
+        task.code,
+        tick.code,
+        end_code(line, 3, ended),
+    ];
+    if !is_faultless(&codes) {
+        return refused(fault_of(line, &codes));
     }
-    old
+    Entry::End(task.value, tick.value)
 }
 
-fn not_read(line: usize) -> Found
-    ensures { λ r. ⌜ r ≡ notRead line ⌝ }
+fn read_drop(line: &[u8], ended: bool) -> Entry
+    requires { ⌜ same (field (now line) 0) (bytes "drop") ≡ true ⌝ }
+    ensures { λ r. ⌜ r ≡ entryOf ended (now (line .entry)) ⌝ }
 {
-    Found {
-        line,
-        starts: [0; 65],
-        ends: [0; 65],
-        start: [0; 65],
-        end: [0; 65],
-        startboard: [0; 65],
-        endboard: [0; 65],
+    let task = read_ranged(field(line, 1), 0, NUMBER_MOST);
+    let codes = [
+        word_code(field(line, 0), b"drop"),
+        task.code,
+        end_code(line, 2, ended),
+    ];
+    if !is_faultless(&codes) {
+        return refused(fault_of(line, &codes));
     }
+    Entry::Drop(task.value)
 }
 
-// Each line stores in two places, those of the tasks whose start and end it says, so that no test is made of which it is.
-pub fn read_log(boards: u8, tasks: u8, log: &[u8]) -> Found
-    ensures { λ r. ⌜ r ≡ foundOf boards tasks (now (log .entry)) ⌝ }
+// A line without its LF, and whether it had one.
+pub fn read_entry(line: &[u8], ended: bool) -> Entry
+    ensures { λ r. ⌜ r ≡ entryOf ended (now (line .entry)) ⌝ }
 {
-    let most = few(tasks);
-    let mut found = not_read(0);
-    let mut line = 0;
-    let mut rest = log;
-    while (line == 0) | (0 < rest.len()) {
-        let end = find(rest, LF);
-        if end == rest.len() {
-            return not_read(line + 1);
-        }
-        let what = said(boards, most, line == 0, &rest[..end]);
-        if !what.formed {
-            return not_read(line + 1);
-        }
-        let s = what.start as usize;
-        let starts = found.starts[s] == 0;
-        found.start[s] = kept(starts, found.start[s], what.tick);
-        found.startboard[s] = kept(starts, found.startboard[s], what.board);
-        found.starts[s] = counted(starts);
-        let e = what.end as usize;
-        let ends = found.ends[e] == 0;
-        found.end[e] = kept(ends, found.end[e], what.tick);
-        found.endboard[e] = kept(ends, found.endboard[e], what.board);
-        found.ends[e] = counted(ends);
-        let next = past(rest, end);
-        rest = next;
-        line += 1;
+    if same(field(line, 0), b"drop") {
+        return read_drop(line, ended);
     }
-    found
+    read_end(line, ended)
+}
+
+// The line that begins the rest of the text.
+pub fn next_entry(rest: &[u8]) -> Entry
+    ensures { λ r. ⌜ r ≡ nextEntry (now (rest .entry)) ⌝ }
+{
+    let end = find(rest, LF);
+    read_entry(&rest[..end], end < rest.len())
+}
+
+pub fn entry_code(entry: Entry) -> u32
+    ensures { λ r. ⌜ r ≡ entryCode entry ⌝ }
+{
+    match entry {
+        Entry::End(_, _) => 0,
+        Entry::Drop(_) => 0,
+        Entry::Refused(code, _) => code,
+    }
 }

@@ -13,8 +13,8 @@ use Rattle.laws.proofs.Conj.{conj-at}
 use Rattle.laws.proofs.Every.{every-of}
 use Rattle.laws.specs.Lists.{allOf}
 use Rattle.laws.specs.Split.{indexOf}
-use Rattle.lists.specs.Items.{between, driveOf, hasShared, exclusive, holdsOk, afterOk}
-use Rattle.lists.proofs.Shared.{length-map, none-shared}
+use Rattle.text_fields.specs.Items.{between, driveOf, hasShared, exclusive, holdsOk, afterOk}
+use Rattle.text_fields.proofs.Shared.{length-map, none-shared}
 use Rattle.plan.specs.Answer.{refuse}
 use Rattle.plan.specs.Task.{Task, numbersOk, taskOk, exclusiveTask}
 use Rattle.plan.specs.Judged.{tasksAnswer}

@@ -7,7 +7,7 @@ use mathlib.Core.Path.{_≡_}
 use mathlib.Core.Bool.{true, _&&_}
 use Rattle.laws.proofs.Cases.{and-l, and-r}
 use Rattle.laws.specs.Lists.{allOf, rising}
-use Rattle.lists.specs.Items.{driveOf, holdsOk, afterOk}
+use Rattle.text_fields.specs.Items.{driveOf, holdsOk, afterOk}
 use Rattle.plan.specs.Task.{Task, numbersOk, taskOk}
 use Rattle.plan.specs.Value.{taskAt, rangesOk}
 use Rattle.plan.specs.private.Drives.{isDrive, RowsInRange}

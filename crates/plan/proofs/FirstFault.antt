@@ -7,10 +7,11 @@ use native.Mathlib.Omega.{arith}
 use lib.Dec.{eqb}
 use borrow.Author.Tests.{eqb-true, eqb-false, not-true, not-false}
 use Rattle.laws.proofs.Cases.{true-false}
+use Rattle.laws.specs.Scan.{scanTo}
 use Rattle.laws.proofs.Scan.{scan-cases, scan-clean, scan-same, Found, Nothing}
 use Rattle.plan.specs.Answer.{refuse, granted, isRefused}
 use Rattle.plan.specs.Task.{Task}
-use Rattle.plan.specs.Pairs.{pairCode, pairAnswer, rowFault, firstFault}
+use Rattle.plan.specs.Pairs.{pairCode, pairAnswer, pairsFault, firstFault}
 use Rattle.plan.specs.declared.Answer.{Answer}
 
 pub refused-code : (x : Answer) → isRefused x ≡ true → x .code ≢ 0
@@ -22,6 +23,10 @@ passed-code x h = eqb-true (x .code) 0 (not-false (eqb (x .code) 0) h)
 -- (x, y) is examined before (a, b): by a, then by b
 abbrev pub Earlier : ℕ → ℕ → ℕ → ℕ → Type 0
 Earlier x y a b = (x < a) ⊎ ((x ≡ a) × (y < b))
+
+-- the pairs (a, b) with a ≤ b of one a
+abbrev pub rowFault : ℕ → (ℕ → Task) → ℕ → Answer
+rowFault tasks task a = scanTo isRefused granted (pairAnswer task a) a tasks
 
 module _ (tasks : ℕ) (task : ℕ → Task) where
   -- a faulty pair is found, and every pair before it is not faulty
@@ -43,11 +48,10 @@ module _ (tasks : ℕ) (task : ℕ → Task) where
 
   -- a row that the search passes has no faulty pair
   row-clean : (a : ℕ) → isRefused (rowFault tasks task a) ≡ false → (b : ℕ) → a ≤ b → b < tasks → pairCode task a b ≡ 0
-  unfolding rowFault
   row-clean a p b h l = passed-code (pairAnswer task a b) (scan-clean isRefused granted (pairAnswer task a) a tasks p b h l)
 
   searched : Searched
-  unfolding firstFault rowFault
+  unfolding firstFault pairsFault
   searched = ⊎-elim found nothing (scan-cases isRefused granted (rowFault tasks task) 0 tasks)
     where
       found : Found isRefused granted (rowFault tasks task) 0 tasks → Searched
@@ -102,7 +106,7 @@ pair-same task other a b p q = rw (p, q)
 pub fault-same :
     (tasks : ℕ) (task other : ℕ → Task) → ((k : ℕ) → k < tasks → task k ≡ other k)
     → firstFault tasks task ≡ firstFault tasks other
-unfolding firstFault rowFault
+unfolding firstFault pairsFault
 fault-same tasks task other e =
     scan-same isRefused granted (rowFault tasks task) (rowFault tasks other) 0 tasks
     (λ a h l.

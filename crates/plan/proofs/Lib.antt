@@ -7,3 +7,9 @@ pub mod TextLines
 pub mod LineCodes
 pub mod ReadOk
 pub mod Converted
+pub mod RoundLines
+pub mod RoundText
+pub mod RoundBack
+pub mod RoundLength
+pub mod RoundPlan
+pub mod RoundWrite

@@ -13,12 +13,12 @@ use Rattle.laws.specs.Split.{splitOn}
 use Rattle.text.specs.Bytes.{bytes}
 use Rattle.text.specs.Number.{isNumber, valueOf, most}
 use Rattle.text.specs.Line.{fields, field}
-use Rattle.lists.specs.Items.{isList, hasShared, holdsOk, afterOk}
-use Rattle.lists.proofs.Shared.{none-shared}
-use Rattle.lists.proofs.ListFields.{isHolds, holdsOf, isAfter, afterOf}
-use Rattle.line_faults.specs.Faults.{codeFor, fieldCode, wordCode}
-use Rattle.line_faults.proofs.RangedLaws.{InRange, field-zero, zero-field}
-use Rattle.line_faults.proofs.FaultLaws.{isCode, for-code, field-is-code, word-is-code, end-is-code, eighteen-is-code, twenty-is-code, for-zero, word-zero, zero-word, end-zero, zero-end, zero-at, no-codes, zeros}
+use Rattle.text_fields.specs.Items.{isList, hasShared, holdsOk, afterOk}
+use Rattle.text_fields.proofs.Shared.{none-shared}
+use Rattle.text_fields.proofs.ListFields.{isHolds, holdsOf, isAfter, afterOf}
+use Rattle.text_fields.specs.Faults.{codeFor, fieldCode, wordCode}
+use Rattle.text_fields.proofs.RangedLaws.{InRange, field-zero, zero-field}
+use Rattle.text_fields.proofs.FaultLaws.{isCode, for-code, field-is-code, word-is-code, end-is-code, eighteen-is-code, twenty-is-code, for-zero, word-zero, zero-word, end-zero, zero-end, zero-at, no-codes, zeros}
 use Rattle.plan.specs.Task.{taskOk, editionOk}
 use Rattle.plan.specs.Read.{holdsCode, codesFrom, readyCode, taskCodes, taskFrom, lineTask}
 use Rattle.plan.proofs.PlanTasks.{between-of, exclusive-ok}

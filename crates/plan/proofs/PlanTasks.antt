@@ -17,9 +17,9 @@ use Rattle.laws.proofs.Rows.{rows-same, each-same}
 use Rattle.laws.proofs.Blank.{length-zeros, rising-room, within-free}
 use Rattle.laws.specs.Lists.{allOf, rising}
 use Rattle.laws.proofs.Split.{free}
-use Rattle.lists.specs.Items.{between, driveOf, holdsOk, afterOk}
+use Rattle.text_fields.specs.Items.{between, driveOf, holdsOk, afterOk}
 use Rattle.plan.specs.Task.{Task, numbersOk, taskOk, editionOk, exclusiveTask}
-use Rattle.lists.proofs.Shared.{exclusive-fine}
+use Rattle.text_fields.proofs.Shared.{exclusive-fine}
 use Rattle.plan.specs.Value.{row, taskAt, planOf, blankFrom, isTrimmed, keptOk, pastBlank, rangesOk}
 use Rattle.plan.specs.declared.Plan.{Plan}
 pub use Rattle.plan.specs.words.Sized.{SizedPlan}

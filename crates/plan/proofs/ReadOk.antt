@@ -11,8 +11,8 @@ use borrow.Author.Tests.{ltb-false, le-ltb, eqb-true, eq-eqb, not-false}
 use Rattle.laws.specs.Lists.{allOf}
 use Rattle.laws.proofs.Cases.{and-l, and-r}
 use Rattle.laws.proofs.Scan.{scan-clean, scan-none}
-use Rattle.line_faults.specs.Faults.{worst, faultOf}
-use Rattle.line_faults.proofs.FaultLaws.{faultless-is}
+use Rattle.text_fields.specs.Faults.{worst, faultOf}
+use Rattle.text_fields.proofs.FaultLaws.{faultless-is}
 use Rattle.text.specs.Line.{hasLine, skip, lineAt, field}
 use Rattle.plan.specs.Answer.{refuse, granted, isRefused}
 use Rattle.plan.specs.Task.{taskOk, editionOk}

@@ -16,7 +16,7 @@ use Rattle.text.proofs.Numerals.{number-spelt}
 use Rattle.text.specs.Bytes.{bytes}
 use Rattle.text.specs.Number.{isNumber, valueOf}
 use Rattle.text.specs.Line.{LF, skip, fields, field}
-use Rattle.lists.specs.Items.{between}
+use Rattle.text_fields.specs.Items.{between}
 use Rattle.plan.specs.Read.{ranged, sizesOk}
 use Rattle.plan.proofs.PlanTasks.{between-facts}
 

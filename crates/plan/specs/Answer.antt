@@ -1,6 +1,6 @@
 -- What every call answers.
 use Prim.Native.Nat.{ℕ}
-use mathlib.Core.Bool.{Bool, not}
+use mathlib.Core.Bool.{Bool, not, cond}
 use lib.Dec.{eqb}
 use Rattle.plan.specs.declared.Answer.{Answer}
 
@@ -16,3 +16,7 @@ isGranted answer = eqb (answer .code) 0
 
 abbrev pub isRefused : Answer → Bool
 isRefused answer = not (isGranted answer)
+
+-- an answer, or where it refuses nothing the next one
+abbrev pub orElse : Answer → Answer → Answer
+orElse answer next = cond (isRefused answer) answer next

@@ -6,7 +6,7 @@ use lib.Dec.{eqb}
 use Rattle.laws.specs.Lists.{same}
 use Rattle.text.specs.Bytes.{bytes}
 use Rattle.text.specs.Line.{lineAt, field}
-use Rattle.lists.specs.Items.{exclusive}
+use Rattle.text_fields.specs.Items.{exclusive}
 use Rattle.plan.specs.Answer.{refuse, isGranted}
 use Rattle.plan.specs.Value.{planWith, judgedAnswer, isAccepted}
 use Rattle.plan.specs.Read.{readAs, readingOf, mendedOf}

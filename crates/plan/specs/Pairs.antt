@@ -5,7 +5,7 @@ use mathlib.Core.List.{List}
 use lib.Dec.{ltb, eqb}
 use Rattle.laws.specs.Lists.{anyOf}
 use Rattle.laws.specs.Scan.{scanTo}
-use Rattle.lists.specs.Items.{driveOf, isShared}
+use Rattle.text_fields.specs.Items.{driveOf, isShared}
 use Rattle.plan.specs.Answer.{refuse, granted, isRefused}
 use Rattle.plan.specs.Task.{Task}
 use Rattle.plan.specs.declared.Answer.{Answer}
@@ -51,9 +51,10 @@ pairCode task a b =
 abbrev pub pairAnswer : (ℕ → Task) → ℕ → ℕ → Answer
 pairAnswer task a b = refuse (pairCode task a b) (a + 1) (b + 1)
 
--- Pairs (a, b) with a ≤ b are examined by a, then by b; the search stops at the first faulty pair
-unfoldable pub rowFault : ℕ → (ℕ → Task) → ℕ → Answer
-rowFault tasks task a = scanTo isRefused granted (pairAnswer task a) a tasks
+-- Pairs (a, b), b from `from a`, are examined by a, then by b; the search stops at the first faulty pair
+unfoldable pub pairsFault : ℕ → (ℕ → ℕ) → (ℕ → ℕ → Answer) → Answer
+pairsFault tasks from pair = scanTo isRefused granted (λ a. scanTo isRefused granted (pair a) (from a) tasks) 0 tasks
 
+-- with a ≤ b
 unfoldable pub firstFault : ℕ → (ℕ → Task) → Answer
-firstFault tasks task = scanTo isRefused granted (rowFault tasks task) 0 tasks
+firstFault tasks task = pairsFault tasks (λ a. a) (pairAnswer task)

@@ -10,8 +10,8 @@ use Rattle.laws.specs.Scan.{scanTo}
 use Rattle.text.specs.Bytes.{bytes}
 use Rattle.text.specs.Number.{isNumber, valueOf, most}
 use Rattle.text.specs.Line.{hasLine, skip, lineAt, fields, field}
-use Rattle.lists.specs.Items.{between, isList, listOf, isHold, holdOf, hasShared, holdsOk, afterOk}
-use Rattle.line_faults.specs.Faults.{codeFor, fieldCode, wordCode, endCode, faultOf}
+use Rattle.text_fields.specs.Items.{between, isList, listOf, isHold, holdOf, hasShared, holdsOk, afterOk}
+use Rattle.text_fields.specs.Faults.{codeFor, fieldCode, wordCode, endCode, faultOf}
 use Rattle.plan.specs.Answer.{refuse, granted, isGranted, isRefused}
 use Rattle.plan.specs.Task.{Task, taskOf, exclusiveTask}
 use Rattle.plan.specs.Judged.{tasksAnswer}

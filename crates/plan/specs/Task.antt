@@ -4,7 +4,7 @@ use mathlib.Core.Bool.{Bool, not, cond, _&&_}
 use mathlib.Core.List.{List, map}
 use lib.Dec.{leb, ltb, eqb}
 use Rattle.text.specs.Number.{most}
-use Rattle.lists.specs.Items.{between, hasShared, exclusive, holdsOk, afterOk}
+use Rattle.text_fields.specs.Items.{between, hasShared, exclusive, holdsOk, afterOk}
 
 pub record Task : Type 0 where
   pub board : ℕ

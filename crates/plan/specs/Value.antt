@@ -8,7 +8,7 @@ use Rattle.laws.specs.Each.{each, rows}
 use Rattle.laws.specs.Every.{every}
 use Rattle.laws.specs.Lists.{allOf}
 use Rattle.laws.specs.Split.{indexOf, before}
-use Rattle.lists.specs.Items.{between}
+use Rattle.text_fields.specs.Items.{between}
 use Rattle.plan.specs.Answer.{refuse, isGranted}
 use Rattle.plan.specs.Task.{Task, taskOf, taskOk, editionOk}
 use Rattle.plan.specs.Judged.{tasksAnswer}

@@ -1,5 +1,5 @@
 -- The text of a plan, and what the writer leaves in a buffer.
-use Prim.Native.Nat.{ℕ, zero, suc, _+_}
+use Prim.Native.Nat.{ℕ, _+_}
 use mathlib.Core.Bool.{not, cond}
 use mathlib.Core.List.{List, [], _∷_, _++_}
 use lib.Dec.{ltb, eqb}
@@ -7,14 +7,14 @@ use lib.ListN.{length}
 use lib.Seq.{sets}
 use Rattle.laws.specs.Digits.{digitsOf}
 use Rattle.text.specs.Bytes.{bytes}
-use Rattle.text.specs.Line.{lineText}
-use Rattle.lists.specs.Items.{listText, holdText}
+use Rattle.text.specs.Line.{lineText, linesBelow}
+use Rattle.text_fields.specs.Items.{listText, holdText}
 use Rattle.plan.specs.Answer.{refuse, granted, isGranted}
 use Rattle.plan.specs.Task.{Task}
 use Rattle.plan.specs.Value.{taskAt, isAccepted}
 use Rattle.plan.specs.declared.Answer.{Answer}
 use Rattle.plan.specs.declared.Plan.{Plan}
-use Rattle.plan.specs.declared.Written.{Written}
+use Rattle.plan.specs.declared.WriteResult.{WriteResult}
 
 unfoldable pub sizesText : ℕ → ℕ → ℕ → List ℕ
 sizesText edition boards tasks = lineText (bytes "plan" ∷ digitsOf edition ∷ digitsOf boards ∷ digitsOf tasks ∷ [])
@@ -32,9 +32,8 @@ taskText edition number task =
     ∷ cond (eqb edition 2) (digitsOf (task .ready) ∷ fieldsFrom task) (fieldsFrom task))
 
 -- the lines of the first n tasks
-unfoldable pub taskTexts : ℕ → (ℕ → Task) → ℕ → List ℕ
-taskTexts edition task zero = []
-taskTexts edition task (suc n) = taskTexts edition task n ++ taskText edition (n + 1) (task n)
+abbrev pub taskTexts : ℕ → (ℕ → Task) → ℕ → List ℕ
+taskTexts edition task n = linesBelow (λ i. taskText edition (i + 1) (task i)) n
 
 unfoldable pub textOf : Plan → List ℕ
 textOf plan =
@@ -46,7 +45,7 @@ writeAnswer plan room =
     cond (not (isAccepted plan)) (refuse 9 0 0)
     (cond (ltb room (length (textOf plan))) (refuse 16 (length (textOf plan)) 0) granted)
 
-unfoldable pub writtenOf : Plan → ℕ → Written
+unfoldable pub writtenOf : Plan → ℕ → WriteResult
 writtenOf plan room =
     let answer = writeAnswer plan room in record { answer = answer; length = cond (isGranted answer) (length (textOf plan)) 0 }
 

@@ -1,5 +1,6 @@
 // A plan as a value, and what reading and writing it answer.
 ghost use mathlib.Core.Path.{_≡_};
+ghost use Prim.Native.Nat.{min};
 ghost use Rattle.plan.specs.Answer.{refuse};
 
 // The refusal number and the table's two numbers; all 0 where nothing is refused.
@@ -35,6 +36,16 @@ pub struct Plan {
     pub after: [u8; 4096],
 }
 
+// A plan has places for 64 tasks.
+pub fn few(tasks: u8) -> u8
+    ensures { λ r. ⌜ r ≡ min tasks 64 ⌝ }
+{
+    if tasks < 64 {
+        return tasks;
+    }
+    64
+}
+
 #[repr(C)]
 pub struct Reading {
     pub answer: Answer,
@@ -42,7 +53,7 @@ pub struct Reading {
 }
 
 #[repr(C)]
-pub struct Written {
+pub struct WriteResult {
     pub answer: Answer,
     pub length: u32,
 }

@@ -12,12 +12,12 @@ use Rattle.plan.specs.Answer.{granted}
 use Rattle.plan.specs.Value.{at, isAccepted}
 use Rattle.plan.specs.Write.{writtenOf, bufferAfter}
 use Rattle.plan.specs.declared.Plan.{Plan}
-use Rattle.plan.specs.declared.Written.{Written}
+use Rattle.plan.specs.declared.WriteResult.{WriteResult}
 use Rattle.book.specs.Sound.{isSound}
 use Rattle.book.specs.Report.{reportedOf}
 use Rattle.book.specs.declared.Book.{Book}
 use Rattle.book.specs.declared.Rule.{Rule}
-use Rattle.log_lines.specs.Lines.{Lined}
+use Rattle.log_write.specs.Lines.{Lined}
 use Rattle.promises.specs.Runs.{SizedPlan, Sized, acceptedOf, Running, Ended, limitOf, runOf, AllInRange, Progress, Finishes, Reached}
 use Rattle.promises.proofs.InRange as in-range
 use Rattle.promises.proofs.Judged as judged
@@ -82,7 +82,7 @@ one-line out from line most written other r q e d =
 
 -- `write_plan`, with its bytes
 pub one-writing :
-    (plan : Plan) (out written other : List ℕ) (r q : Written) → r ≡ writtenOf plan (length out) → written ≡ bufferAfter plan out
+    (plan : Plan) (out written other : List ℕ) (r q : WriteResult) → r ≡ writtenOf plan (length out) → written ≡ bufferAfter plan out
     → q ≡ writtenOf plan (length out) → other ≡ bufferAfter plan out → (r ≡ q) × (written ≡ other)
 one-writing plan out written other r q e b d c = (one-answer _ r q e d, one-answer _ written other b c)
 

@@ -17,9 +17,9 @@ use Rattle.book.specs.Early.{figureOf}
 use Rattle.book.specs.words.Event.{answerTo}
 use Rattle.book.specs.declared.Rule.{Rule}
 use Rattle.book.specs.declared.Rule.the-variants.{EarlyStart}
-use Rattle.entries.specs.Rules.{choiceOf}
-use Rattle.entries.specs.declared.Choice.the-variants.{Chosen}
-use Rattle.converter.specs.Renewed.{renewedText}
+use Rattle.log_read.specs.Rules.{choiceOf}
+use Rattle.log_read.specs.declared.Choice.the-variants.{Chosen}
+use Rattle.plan_convert.specs.Renewed.{renewedText}
 use Rattle.log.specs.Log.{logOf}
 use Rattle.promises.specs.Runs.{SizedPlan, runOf}
 use Rattle.promises.specs.Ladder.{Ladder}

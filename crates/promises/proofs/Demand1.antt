@@ -20,11 +20,11 @@ use Rattle.book.specs.Early.{figureOf}
 use Rattle.book.specs.declared.Book.{Book}
 use Rattle.book.specs.declared.Rule.{Rule}
 use Rattle.book.specs.declared.Rule.the-variants.{EarlyStart}
-use Rattle.entries.specs.Entries.{entryCode, nextEntry}
-use Rattle.entries.specs.declared.Choice.{Choice}
-use Rattle.entries.specs.declared.Entry.{Entry}
-use Rattle.entries.specs.Rules.{choiceOf}
-use Rattle.log_lines.specs.Lines.{refusedLine}
+use Rattle.log_read.specs.Entries.{entryCode, nextEntry}
+use Rattle.log_read.specs.declared.Choice.{Choice}
+use Rattle.log_read.specs.declared.Entry.{Entry}
+use Rattle.log_read.specs.Rules.{choiceOf}
+use Rattle.log_write.specs.Lines.{refusedLine}
 use Rattle.log.specs.Log.{openLog, toldOf, chosenLog, logOf}
 use Rattle.promises.specs.Runs.{SizedPlan, Sized}
 use Rattle.promises.specs.Logs.{LogSays}

@@ -13,7 +13,7 @@ use Rattle.plan.specs.Value.{at, isAccepted}
 use Rattle.plan.specs.Read.{readingOf}
 use Rattle.plan.specs.Write.{textOf, writtenOf, bufferAfter}
 use Rattle.plan.specs.declared.Plan.{Plan}
-use Rattle.round_trips.proofs.RoundPlan as round-plan
+use Rattle.plan.proofs.RoundPlan as round-plan
 use Rattle.book.specs.View.{planIn, planView, bookView}
 use Rattle.book.specs.Sound.{isSound}
 use Rattle.book.specs.Report.{reportedOf}

@@ -13,7 +13,7 @@ use Rattle.plan.specs.Answer.{isGranted}
 use Rattle.book.specs.View.{planIn, planView, bookView}
 use Rattle.book.specs.words.Event.{answerTo, bookTold}
 use Rattle.book.specs.declared.Book.{Book}
-use Rattle.view.proofs.Accepted.{PlanFacts, plan-facts, plan-lawful}
+use Rattle.book_view.proofs.Accepted.{PlanFacts, plan-facts, plan-lawful}
 use Rattle.book.proofs.Soundness.{SoundFacts, is-sound-facts}
 use Rattle.book.proofs.ReportLaws.{code-zero, drop-zero}
 use Rattle.promises.specs.Runs.{acceptedOf, Running, limitOf, InRange, AllInRange}

@@ -8,7 +8,7 @@ use borrow.Author.Tests.{leb-true}
 use Rattle.plan.specs.Value.{at, taskAt, rangesOk, isAccepted}
 use Rattle.plan.specs.declared.Plan.{Plan}
 use Rattle.plan.proofs.Judged.{tasks-fine, accepted-ranges, accepted-tasks, accepted-of}
-use Rattle.view.proofs.Accepted.{plan-facts}
+use Rattle.book_view.proofs.Accepted.{plan-facts}
 use Rattle.book.proofs.Fits.{plan-turns}
 use Rattle.promises.specs.Ladder.{Ladder}
 use Rattle.promises.specs.Checks.{pairChecks}

@@ -14,10 +14,10 @@ use Rattle.laws.proofs.Cases.{by-bool, and-l, and-r, and-of, true-false}
 use Rattle.laws.proofs.Lists.{all-append, same-refl}
 use Rattle.laws.proofs.Split.{free, split-join, before-seam, after-seam}
 use Rattle.text.specs.Bytes.{bytes}
-use Rattle.text.specs.Line.{TAB, LF, skip, lineAt, fields, field, lineText}
+use Rattle.text.specs.Line.{TAB, LF, skip, lineAt, fields, field, lineText, linesBelow}
 use Rattle.text.proofs.Numerals.{digits-free}
 use Rattle.book.specs.declared.Book.{Book}
-use Rattle.log_lines.specs.Lines.{numbersLine, runBy, startWord}
+use Rattle.log_write.specs.Lines.{numbersLine, runBy, startWord}
 use Rattle.log.specs.Lines.{hasStarted, startLines}
 use Rattle.theory.specs.Book.{isDropped}
 use Rattle.plan.specs.Value.{at}
@@ -145,7 +145,7 @@ module _ {P : List ℕ → List ℕ → Type 0} (other : Other P) where
   start-line front false numbers = task-lines front (bytes "start") numbers (refl, refl) refl refl
 
   pub starts-lines : (front : List ℕ) (old new : Book) (n : ℕ) → AllLines P front (startLines old new n)
-  unfolding startLines
+  unfolding linesBelow
   starts-lines front old new zero = AllLines.none
   starts-lines front old new (suc n) =
       lines-append _ (starts-lines front old new n)

@@ -13,9 +13,9 @@ use Rattle.text.specs.Line.{LF, skip}
 use Rattle.theory.specs.words.Events.{Event}
 use Rattle.book.specs.words.Event.{bookTold}
 use Rattle.book.specs.declared.Book.{Book}
-use Rattle.entries.specs.Entries.{nextEntry, entryCode}
-use Rattle.entries.specs.declared.Entry.{Entry}
-use Rattle.entries.specs.declared.Entry.the-variants.{End, Drop, Refused}
+use Rattle.log_read.specs.Entries.{nextEntry, entryCode}
+use Rattle.log_read.specs.declared.Entry.{Entry}
+use Rattle.log_read.specs.declared.Entry.the-variants.{End, Drop, Refused}
 use Rattle.log.specs.Log.{toldOf, toldLog, endsLog, restLog}
 use Rattle.promises.specs.Runs.{bookAfter}
 use Rattle.promises.specs.Logs.{saidBefore, saidIn}

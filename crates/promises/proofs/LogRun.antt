@@ -29,13 +29,13 @@ use Rattle.book.specs.words.Event.{answerTo, bookTold}
 use Rattle.book.specs.words.Sized.{SizedPlan}
 use Rattle.book.specs.Sound.{isSound}
 use Rattle.book.specs.declared.Book.{Book}
-use Rattle.entries.specs.Entries.{entryCode, nextEntry}
-use Rattle.entries.specs.declared.Entry.{Entry}
-use Rattle.entries.specs.declared.Entry.the-variants.{End, Drop, Refused}
-use Rattle.log_lines.specs.Lines.{refusedLine}
+use Rattle.log_read.specs.Entries.{entryCode, nextEntry}
+use Rattle.log_read.specs.declared.Entry.{Entry}
+use Rattle.log_read.specs.declared.Entry.the-variants.{End, Drop, Refused}
+use Rattle.log_write.specs.Lines.{refusedLine}
 use Rattle.log.specs.Lines.{earlyLine}
 use Rattle.log.specs.Log.{shownAfter, openLog, toldOf, linesOf, toldLog, endsLog}
-use Rattle.log.specs.declared.Shown.{Shown}
+use Rattle.log.specs.declared.StepOutcome.{StepOutcome}
 use Rattle.promises.specs.Runs.{bookAfter, openedBook, Ended, EarlyBy}
 use Rattle.promises.specs.Says.{entryAnswer, EntrySays}
 use Rattle.promises.specs.Logs.{saidBefore, saidIn, ruleIn, linesIn, firstIn, logUntil, bookAt}
@@ -121,7 +121,7 @@ module _ (text ends : List ℕ) where
     on k = on-run plan (ruleIn ends) size ok (saidIn k L)
 
     pub early-lines :
-        (k : ℕ) → length (saidIn k L) ≡ k → (front : List ℕ) (shown : Shown) → shown .book ≡ bookAt text ends k
+        (k : ℕ) → length (saidIn k L) ≡ k → (front : List ℕ) (shown : StepOutcome) → shown .book ≡ bookAt text ends k
         → shown .early ≡ figureOf (bookAt text ends k) .early → front ++ earlyLine shown ≡ logUntil text ends k
         → AllLines P front (earlyLine shown)
     unfolding allOf
@@ -185,7 +185,7 @@ module _ (text ends : List ℕ) where
         taken entry until lines other-code =
             by-bool (isGranted (answerTo book event))
             (λ g.
-            let shown : Shown = record { answer = answerTo book event; book = bookTold book event; early = figureOf (bookTold book event) .early } in
+            let shown : StepOutcome = record { answer = answerTo book event; book = bookTold book event; early = figureOf (bookTold book event) .early } in
             let until′ : logUntil text ends (suc k) ≡ logUntil text ends k ++ (linesOf book entry (bookTold book event) ++ earlyLine shown) = rw g at until in
             rw g
             (lines-append _ lines

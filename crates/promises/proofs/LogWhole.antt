@@ -20,13 +20,13 @@ use Rattle.book.specs.Open.{ruleNumber, blankBook, openedOn}
 use Rattle.book.specs.Early.{figureOf}
 use Rattle.book.specs.declared.Book.{Book}
 use Rattle.book.specs.declared.Rule.the-variants.{EarlyStart, Clash}
-use Rattle.entries.specs.Entries.{entryCode}
-use Rattle.entries.specs.Rules.{choiceOf}
-use Rattle.entries.specs.declared.Choice.{Choice}
-use Rattle.entries.specs.declared.Choice.the-variants.{Unsaid, Chosen, Malformed}
-use Rattle.entries.specs.declared.Entry.{Entry}
-use Rattle.entries.specs.declared.Entry.the-variants.{End, Drop, Refused}
-use Rattle.log_lines.specs.Lines.{refusedLine}
+use Rattle.log_read.specs.Entries.{entryCode}
+use Rattle.log_read.specs.Rules.{choiceOf}
+use Rattle.log_read.specs.declared.Choice.{Choice}
+use Rattle.log_read.specs.declared.Choice.the-variants.{Unsaid, Chosen, Malformed}
+use Rattle.log_read.specs.declared.Entry.{Entry}
+use Rattle.log_read.specs.declared.Entry.the-variants.{End, Drop, Refused}
+use Rattle.log_write.specs.Lines.{refusedLine}
 use Rattle.log.specs.Lines.{runLine, earlyLine, startLines}
 use Rattle.laws.proofs.Lists.{same-refl}
 use Rattle.log.specs.Log.{shownAfter, openLog, toldOf, endsLog, restLog, chosenLog, logOf}
@@ -57,7 +57,7 @@ module _ (text ends : List ℕ) where
         let starts = startLines (blankBook (ruleNumber (ruleIn ends)) plan) book (plan .tasks) in
         let early = earlyLine (shownAfter granted book) in
         lines-append _ (run-lines (other text ends) [] _ _ _)
-        (lines-append _ (starts-lines (other text ends) (runLine book) _ book (plan .tasks))
+        (lines-append _ (starts-lines (other text ends) (runLine book) (blankBook (ruleNumber (ruleIn ends)) plan) book (plan .tasks))
         (early-lines text ends z 0 refl (runLine book ++ starts) (shownAfter granted book) (sym opened-now) (ap (λ (b : Book). figureOf b .early) (sym opened-now))
         (append-assoc (runLine book) starts early ∙ sym (append-nil (runLine book ++ (starts ++ early))))))
 

@@ -25,20 +25,20 @@ use Rattle.book.specs.words.Event.{bookTold}
 use Rattle.book.specs.words.Sized.{SizedPlan}
 use Rattle.book.specs.declared.Book.{Book}
 use Rattle.book.specs.declared.Figure.{Figure}
-use Rattle.book.specs.declared.Handed.{Handed}
+use Rattle.book.specs.declared.BookResult.{BookResult}
 use Rattle.book.specs.declared.Rule.{Rule}
 use Rattle.book.specs.declared.Rule.the-variants.{EarlyStart, Clash}
 use Rattle.book.proofs.Reports.{event-plan}
-use Rattle.entries.specs.Entries.{nextEntry, entryCode}
-use Rattle.entries.specs.Rules.{choiceOf}
-use Rattle.entries.specs.declared.Choice.{Choice}
-use Rattle.entries.specs.declared.Choice.the-variants.{Unsaid, Chosen, Malformed}
-use Rattle.entries.specs.declared.Entry.{Entry}
-use Rattle.entries.specs.declared.Entry.the-variants.{End, Drop, Refused}
-use Rattle.log_lines.specs.Lines.{refusedLine}
+use Rattle.log_read.specs.Entries.{nextEntry, entryCode}
+use Rattle.log_read.specs.Rules.{choiceOf}
+use Rattle.log_read.specs.declared.Choice.{Choice}
+use Rattle.log_read.specs.declared.Choice.the-variants.{Unsaid, Chosen, Malformed}
+use Rattle.log_read.specs.declared.Entry.{Entry}
+use Rattle.log_read.specs.declared.Entry.the-variants.{End, Drop, Refused}
+use Rattle.log_write.specs.Lines.{refusedLine}
 use Rattle.log.specs.Lines.{runLine, startLines, earlyLine}
 use Rattle.log.specs.Log.{shownAfter, openLog, toldOf, toldLog, endsLog, restLog, chosenLog, logOf}
-use Rattle.log.specs.declared.Shown.{Shown}
+use Rattle.log.specs.declared.StepOutcome.{StepOutcome}
 use Rattle.promises.specs.Edition1.{NoReady, plainOpening, sevenReading}
 use Rattle.promises.specs.PlainLog.{plainShown, plainOpenLog, plainAnswered, plainEndsLog, plainRestLog, plainChosenLog, plainLog}
 use Rattle.promises.proofs.RunView.{Good, good-event, opened-good, opened-is, opened-plan}
@@ -66,10 +66,10 @@ told-same : (n : ℕ) (book : Book) → Plain book → (entry : Entry) → toldO
 unfolding toldOf plainAnswered
 told-same n book b (End task tick) =
     shown-same _ _ (plain-told book b (Event.ends task tick))
-    ∙ ap (λ (x : Handed). plainShown (x .answer) (x .book)) (unmoved.report-unmoved book (b .none) task tick)
+    ∙ ap (λ (x : BookResult). plainShown (x .answer) (x .book)) (unmoved.report-unmoved book (b .none) task tick)
 told-same n book b (Drop task) =
     shown-same _ _ (plain-told book b (Event.drops task))
-    ∙ ap (λ (x : Handed). plainShown (x .answer) (x .book)) (unmoved.drop-unmoved book (b .none) task)
+    ∙ ap (λ (x : BookResult). plainShown (x .answer) (x .book)) (unmoved.drop-unmoved book (b .none) task)
 told-same n book b (Refused code column) = refl
 
 told-plain : (n : ℕ) (book : Book) → Plain book → (entry : Entry) → Plain (toldOf n book entry .book)
@@ -91,7 +91,7 @@ ends-same (suc fuel) book n ends b =
 module _ (plan : Plan) (ok : isAccepted plan ≡ true) (size : SizedPlan plan) (none : NoReady plan) where
   module _ (rule : Rule) where
     opened-same : openedOn plan rule ≡ plainOpening plan rule .book
-    opened-same = sym (opened-is plan rule ok) ∙ ap (λ (x : Handed). x .book) (unmoved.opening-unmoved plan rule none)
+    opened-same = sym (opened-is plan rule ok) ∙ ap (λ (x : BookResult). x .book) (unmoved.opening-unmoved plan rule none)
 
     opened-plain : Plain (openedOn plan rule)
     opened-plain =
@@ -101,7 +101,7 @@ module _ (plan : Plan) (ok : isAccepted plan ≡ true) (size : SizedPlan plan) (
     open-same : openLog plan rule ≡ plainOpenLog plan rule
     unfolding openLog plainOpenLog
     open-same =
-        ap (λ (s : Shown). runLine (openedOn plan rule) ++ (startLines (blankBook (ruleNumber rule) plan) (openedOn plan rule) (plan .tasks) ++ earlyLine s))
+        ap (λ (s : StepOutcome). runLine (openedOn plan rule) ++ (startLines (blankBook (ruleNumber rule) plan) (openedOn plan rule) (plan .tasks) ++ earlyLine s))
         (shown-same granted (openedOn plan rule) opened-plain)
         ∙ ap (λ (b : Book). runLine b ++ (startLines (blankBook (ruleNumber rule) plan) b (plan .tasks) ++ earlyLine (plainShown granted b))) opened-same
 

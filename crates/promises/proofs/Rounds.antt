@@ -11,8 +11,8 @@ use Rattle.plan.specs.Write.{textOf, writtenOf, bufferAfter}
 use Rattle.plan.specs.declared.Answer.{Answer}
 use Rattle.plan.specs.declared.Plan.{Plan}
 use Rattle.plan.proofs.ReadOk.{read-answer, read-accepted}
-use Rattle.round_trips.proofs.RoundText.{read-back}
-use Rattle.round_trips.proofs.RoundWrite.{write-text, write-rest, write-back}
+use Rattle.plan.proofs.RoundText.{read-back}
+use Rattle.plan.proofs.RoundWrite.{write-text, write-rest, write-back}
 use Rattle.book.specs.words.Sized.{SizedPlan}
 
 module _ (text : List ℕ) (z : readingOf text .answer .code ≡ 0) where

@@ -23,10 +23,10 @@ use Rattle.book.specs.Report.{codeOf, reportAnswer, reportedOf}
 use Rattle.book.specs.Drop.{dropCodeOf, dropAnswer, droppedOf}
 use Rattle.book.specs.words.Event.{answerTo, bookTold}
 use Rattle.book.specs.declared.Book.{Book}
-use Rattle.book.specs.declared.Handed.{Handed}
+use Rattle.book.specs.declared.BookResult.{BookResult}
 use Rattle.book.specs.declared.Rule.{Rule}
-use Rattle.view.specs.View.{planFor}
-use Rattle.view.proofs.Accepted.{plan-lawful}
+use Rattle.book_view.specs.View.{planFor}
+use Rattle.book_view.proofs.Accepted.{plan-lawful}
 use Rattle.book.proofs.Sizes.{SizedPlan, Sized, sized-opened, plan-opened, rule-opened}
 use Rattle.book.proofs.Soundness.{SoundFacts, is-sound-facts, opened-is-sound}
 use Rattle.book.proofs.ReportLaws.{code-zero, drop-zero}
@@ -225,7 +225,7 @@ module _ (plan : Plan) (rule : Rule) (ok : isAccepted plan ≡ true) where
   opening-is = rw ok
 
   pub opened-is : openedBook plan rule ≡ openedOn plan rule
-  opened-is = ap (λ (x : Handed). x .book) opening-is
+  opened-is = ap (λ (x : BookResult). x .book) opening-is
 
   pub opened-plan : planIn (openedBook plan rule) ≡ plan
   opened-plan = ap (λ (b : Book). planIn b) opened-is ∙ plan-opened plan rule

@@ -20,7 +20,7 @@ use Rattle.plan.specs.Value.{at}
 use Rattle.book.specs.View.{planIn, planView, bookView}
 use Rattle.book.specs.Report.{codeOf, reportedOf}
 use Rattle.book.specs.declared.Book.{Book}
-use Rattle.view.proofs.Accepted.{plan-lawful}
+use Rattle.book_view.proofs.Accepted.{plan-lawful}
 use Rattle.book.proofs.Soundness.{SoundFacts, is-sound-facts}
 use Rattle.book.proofs.Reports.{theoryTask, code-seen-by}
 use Rattle.promises.specs.Runs.{bookAfter, acceptedOf, Waiting, Running, Ended, Started, Dropped, startOf, endOf, NotBegun, limitOf, WaitsFor, dueOf, startDueOf, AllEnded, AllInRange, Progress, Finishes}

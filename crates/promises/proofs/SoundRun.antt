@@ -26,8 +26,8 @@ use Rattle.book.specs.Open.{ruleNumber}
 use Rattle.book.specs.declared.Book.{Book}
 use Rattle.book.specs.declared.Rule.{Rule}
 use Rattle.book.specs.declared.Rule.the-variants.{EarlyStart, Clash}
-use Rattle.view.specs.View.{isRule, planFor}
-use Rattle.view.proofs.Accepted.{plan-facts, plan-lawful, clash-waits}
+use Rattle.book_view.specs.View.{isRule, planFor}
+use Rattle.book_view.proofs.Accepted.{plan-facts, plan-lawful, clash-waits}
 use Rattle.book.specs.words.Sized.{SizedPlan}
 use Rattle.book.proofs.Views.{view-opened}
 use Rattle.book.proofs.Reports.{theoryEvent}

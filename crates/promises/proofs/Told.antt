@@ -28,8 +28,8 @@ use Rattle.book.specs.Report.{codeOf, reportedOf}
 use Rattle.book.specs.Drop.{dropCodeOf, droppedOf}
 use Rattle.book.specs.words.Event.{bookTold}
 use Rattle.book.specs.declared.Book.{Book}
-use Rattle.book.specs.declared.Handed.{Handed}
-use Rattle.view.specs.View.{planFor}
+use Rattle.book.specs.declared.BookResult.{BookResult}
+use Rattle.book_view.specs.View.{planFor}
 use Rattle.book.proofs.ReportLaws.{code-zero, drop-zero}
 use Rattle.book.proofs.Reports.{codeIn, theoryTask, theoryEvent, code-seen-by, event-plan, event-rule, event-view}
 use Rattle.promises.specs.Runs.{Waiting, Ended, Started, Dropped, startOf, endOf, WaitsFor, StartsExactly}
@@ -146,8 +146,8 @@ report-drops book size task tick = go (report-says book task tick)
         (λ j.
         ap (λ (b : theory-book.Book). b .dropped j) (seen-after book g task tick z)
         ∙ ap (λ (d : ℕ → ℕ). d j) (next-dropped (planView book) (bookView book) (task - 1) tick))
-    go (ReportSays.unsound h e) = ap (λ (x : Handed). x .book .dropped) e
-    go (ReportSays.refused code h l m e) = ap (λ (x : Handed). x .book .dropped) e
+    go (ReportSays.unsound h e) = ap (λ (x : BookResult). x .book .dropped) e
+    go (ReportSays.refused code h l m e) = ap (λ (x : BookResult). x .book .dropped) e
 
 -- a drop taken marks its task and changes nothing else
 module _ (book : Book) (g : Good book) (task : ℕ) (z : dropCodeOf book task ≡ 0) where

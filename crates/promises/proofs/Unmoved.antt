@@ -20,9 +20,9 @@ use Rattle.plan.specs.declared.Plan.{Plan}
 use Rattle.plan.proofs.Judged.{accepted-ranges}
 use Rattle.plan.proofs.PlanTasks.{ranges-kept, task-kept}
 use Rattle.plan.proofs.ReadOk.{read-answer, read-plan, read-accepted}
-use Rattle.view.specs.View.{isRule, planFor}
-use Rattle.view.proofs.Accepted.{plan-lawful}
-use Rattle.sound.specs.Sound.{nothingPast, soundOn}
+use Rattle.book_view.specs.View.{isRule, planFor}
+use Rattle.book_view.proofs.Accepted.{plan-lawful}
+use Rattle.book_sound.specs.Sound.{nothingPast, soundOn}
 use Rattle.book.specs.View.{planIn, planView, bookView, layOut}
 use Rattle.book.specs.Sound.{isSound}
 use Rattle.book.specs.Open.{ruleNumber, blankBook, openedOn, openingOf}
@@ -32,7 +32,7 @@ use Rattle.book.specs.Early.{figureOf}
 use Rattle.book.specs.words.Event.{bookTold}
 use Rattle.book.specs.words.Sized.{SizedPlan}
 use Rattle.book.specs.declared.Book.{Book}
-use Rattle.book.specs.declared.Handed.{Handed}
+use Rattle.book.specs.declared.BookResult.{BookResult}
 use Rattle.book.specs.declared.Rule.{Rule}
 use Rattle.book.proofs.Reports.{event-plan}
 use Rattle.book.proofs.Soundness.{SoundFacts, is-sound-facts}
@@ -66,7 +66,7 @@ pub opening-unmoved : (plan : Plan) (rule : Rule) → NoReady plan → openingOf
 unfolding openingOf openedOn
 opening-unmoved plan rule none =
     ap
-    (λ (b : Book). cond {A = Handed} (isAccepted plan) (record { answer = granted; book = b }) (record { answer = refuse 9 0 0; book = blankBook 0 zeroPlan }))
+    (λ (b : Book). cond {A = BookResult} (isAccepted plan) (record { answer = granted; book = b }) (record { answer = refuse 9 0 0; book = blankBook 0 zeroPlan }))
     (ap (layOut (ruleNumber rule) plan) (opened-plain (planFor (ruleNumber rule) plan) none))
 
 module _ (book : Book) (none : NoReady (planIn book)) where
@@ -97,8 +97,8 @@ module _ (book : Book) (none : NoReady (planIn book)) where
       λ i. record { answer = said i; book = cond (isGranted (said i)) (droppedIn book (task - 1)) book }
 
   told-unmoved : (event : Event) → bookTold book event ≡ plainTold book event
-  told-unmoved (Event.ends task tick) = ap (λ (x : Handed). x .book) (report-unmoved task tick)
-  told-unmoved (Event.drops task) = ap (λ (x : Handed). x .book) (drop-unmoved task)
+  told-unmoved (Event.ends task tick) = ap (λ (x : BookResult). x .book) (report-unmoved task tick)
+  told-unmoved (Event.drops task) = ap (λ (x : BookResult). x .book) (drop-unmoved task)
 
   module _ (h : isSound book ≡ true) where
     facts : SoundFacts book
@@ -130,7 +130,7 @@ pub run-unmoved :
     → runOf plan rule events ≡ plainBookAfter (plainOpening plan rule .book) events
 run-unmoved plan rule size ok none events =
     after-unmoved (openedBook plan rule) events (subst NoReady (sym (opened-plan plan rule ok)) none) (opened-good plan rule ok size)
-    ∙ ap (λ (x : Handed). plainBookAfter (x .book) events) (opening-unmoved plan rule none)
+    ∙ ap (λ (x : BookResult). plainBookAfter (x .book) events) (opening-unmoved plan rule none)
 
 -- the codes of reports and drops look at no ready tick
 pub report-code-unready : (book : Book) (ready : List ℕ) (task tick : ℕ) → codeOf (withReady book ready) task tick ≡ codeOf book task tick

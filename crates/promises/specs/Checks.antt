@@ -9,7 +9,7 @@ use lib.ListN.{length}
 use Rattle.text.specs.Bytes.{bytes}
 use Rattle.text.specs.Line.{hasLine, skip, lineAt, fields, field}
 use Rattle.text.specs.Number.{isNumber, valueOf, most}
-use Rattle.lists.specs.Items.{isList, listOf, isHold, holdOf, hasShared, holdsOk, afterOk}
+use Rattle.text_fields.specs.Items.{isList, listOf, isHold, holdOf, hasShared, holdsOk, afterOk}
 use Rattle.plan.specs.Task.{Task}
 use Rattle.plan.specs.Value.{taskAt, rangesOk}
 use Rattle.plan.specs.Read.{editionOf, boardsOf, tasksOf, textTask}

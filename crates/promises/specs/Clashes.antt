@@ -4,7 +4,7 @@ use mathlib.Core.Path.{_≡_}
 use mathlib.Core.Logic.{_⊎_}
 use mathlib.Core.Bool.{true}
 use mathlib.Core.List.{List, List·Memᴰ}
-use Rattle.lists.specs.Items.{driveOf, isShared}
+use Rattle.text_fields.specs.Items.{driveOf, isShared}
 use Rattle.plan.specs.Task.{Task}
 
 -- Planned times are half open: a and b overlap when start a < finish b and start b < finish a

@@ -4,7 +4,7 @@ use mathlib.Core.Path.{_≡_}
 use mathlib.Core.Logic.{_≢_, _⊎_}
 use mathlib.Core.Bool.{true, false}
 use mathlib.Core.List.{map}
-use Rattle.lists.specs.Items.{driveOf, hasShared, exclusive}
+use Rattle.text_fields.specs.Items.{driveOf, hasShared, exclusive}
 use Rattle.plan.specs.Answer.{granted}
 use Rattle.plan.specs.Task.{Task, exclusiveTask}
 use Rattle.plan.specs.Value.{taskAt, isAccepted}

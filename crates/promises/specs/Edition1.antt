@@ -12,9 +12,9 @@ use Rattle.laws.specs.Scan.{scanTo}
 use Rattle.text.specs.Bytes.{bytes}
 use Rattle.text.specs.Number.{isNumber, valueOf, most}
 use Rattle.text.specs.Line.{hasLine, skip, lineAt, fields, field, lineText}
-use Rattle.lists.specs.Items.{between, isList, listOf, isHold, holdOf, holdsOk, afterOk}
-use Rattle.line_faults.specs.Faults.{codeFor, fieldCode, wordCode, endCode, columnOf}
-use Rattle.line_faults.specs.declared.Fault.{Fault}
+use Rattle.text_fields.specs.Items.{between, isList, listOf, isHold, holdOf, holdsOk, afterOk}
+use Rattle.text_fields.specs.Faults.{codeFor, fieldCode, wordCode, endCode, columnOf}
+use Rattle.text_fields.specs.declared.Fault.{Fault}
 use Rattle.theory.specs.words.Events.{Event}
 use Rattle.theory.specs.Report.{dropIt}
 use Rattle.theory.specs.words.Unready.{plainOpened, plainNext, plainSound, plainEarly}
@@ -27,14 +27,14 @@ use Rattle.plan.specs.Read.{ranged, boardsOf, tasksOf, readAs}
 use Rattle.plan.specs.declared.Answer.{Answer}
 use Rattle.plan.specs.declared.Plan.{Plan}
 use Rattle.plan.specs.declared.Reading.{Reading}
-use Rattle.view.specs.View.{isRule, planFor}
-use Rattle.sound.specs.Sound.{nothingPast}
+use Rattle.book_view.specs.View.{isRule, planFor}
+use Rattle.book_sound.specs.Sound.{nothingPast}
 use Rattle.book.specs.View.{planIn, planView, bookView, layOut}
 use Rattle.book.specs.Open.{ruleNumber, blankBook}
 use Rattle.book.specs.Report.{codeOf}
 use Rattle.book.specs.Drop.{dropCodeOf}
 use Rattle.book.specs.declared.Book.{Book}
-use Rattle.book.specs.declared.Handed.{Handed}
+use Rattle.book.specs.declared.BookResult.{BookResult}
 use Rattle.book.specs.declared.Figure.{Figure}
 use Rattle.book.specs.declared.Rule.{Rule}
 
@@ -44,7 +44,7 @@ NoReady plan = (i : ℕ) → i < plan .tasks → at (plan .ready) i ≡ 0
 
 -- ---- the rule: `plain` names it (theory/specs/words/Unready.antt)
 
-abbrev pub plainOpening : Plan → Rule → Handed
+abbrev pub plainOpening : Plan → Rule → BookResult
 plainOpening plan rule =
     let number = ruleNumber rule in
     cond (isAccepted plan) (record { answer = granted; book = layOut number plan (plainOpened (planFor number plan)) })
@@ -61,13 +61,13 @@ abbrev pub plainAnswer : Book → ℕ → ℕ → ℕ → Answer
 plainAnswer book code first second =
     cond (not (plainIsSound book)) (refuse 9 0 0) (cond (eqb code 0) granted (refuse code first second))
 
-abbrev pub plainReport : Book → ℕ → ℕ → Handed
+abbrev pub plainReport : Book → ℕ → ℕ → BookResult
 plainReport book task tick =
     let answer = plainAnswer book (codeOf book task tick) task tick in
     let after = layOut (book .rule) (planIn book) (plainNext (planView book) (bookView book) (task - 1) tick) in
     record { answer = answer; book = cond (isGranted answer) after book }
 
-abbrev pub plainDrop : Book → ℕ → Handed
+abbrev pub plainDrop : Book → ℕ → BookResult
 plainDrop book task =
     let answer = plainAnswer book (dropCodeOf book task) task 0 in
     let after = layOut (book .rule) (planIn book) (dropIt (bookView book) (task - 1)) in

@@ -18,13 +18,13 @@ use Rattle.book.specs.Early.{figureOf}
 use Rattle.book.specs.declared.Book.{Book}
 use Rattle.book.specs.declared.Rule.{Rule}
 use Rattle.book.specs.declared.Rule.the-variants.{EarlyStart, Clash}
-use Rattle.entries.specs.Entries.{nextEntry}
-use Rattle.entries.specs.Rules.{choiceOf}
-use Rattle.entries.specs.declared.Choice.{Choice}
-use Rattle.entries.specs.declared.Choice.the-variants.{Unsaid, Chosen, Malformed}
-use Rattle.entries.specs.declared.Entry.{Entry}
-use Rattle.entries.specs.declared.Entry.the-variants.{End, Drop, Refused}
-use Rattle.log_lines.specs.Lines.{refusedLine}
+use Rattle.log_read.specs.Entries.{nextEntry}
+use Rattle.log_read.specs.Rules.{choiceOf}
+use Rattle.log_read.specs.declared.Choice.{Choice}
+use Rattle.log_read.specs.declared.Choice.the-variants.{Unsaid, Chosen, Malformed}
+use Rattle.log_read.specs.declared.Entry.{Entry}
+use Rattle.log_read.specs.declared.Entry.the-variants.{End, Drop, Refused}
+use Rattle.log_write.specs.Lines.{refusedLine}
 use Rattle.log.specs.Log.{openLog, endsLog, logOf}
 use Rattle.promises.specs.Runs.{openedBook, bookAfter, runOf, Ended, EarlyBy}
 

@@ -13,19 +13,19 @@ use Rattle.book.specs.Open.{ruleNumber, blankBook}
 use Rattle.book.specs.declared.Book.{Book}
 use Rattle.book.specs.declared.Rule.{Rule}
 use Rattle.book.specs.declared.Rule.the-variants.{EarlyStart, Clash}
-use Rattle.entries.specs.Entries.{nextEntry, entryCode}
-use Rattle.entries.specs.Rules.{choiceOf}
-use Rattle.entries.specs.declared.Choice.{Choice}
-use Rattle.entries.specs.declared.Choice.the-variants.{Unsaid, Chosen, Malformed}
-use Rattle.entries.specs.declared.Entry.{Entry}
-use Rattle.entries.specs.declared.Entry.the-variants.{End, Drop, Refused}
-use Rattle.log_lines.specs.Lines.{refusedLine}
+use Rattle.log_read.specs.Entries.{nextEntry, entryCode}
+use Rattle.log_read.specs.Rules.{choiceOf}
+use Rattle.log_read.specs.declared.Choice.{Choice}
+use Rattle.log_read.specs.declared.Choice.the-variants.{Unsaid, Chosen, Malformed}
+use Rattle.log_read.specs.declared.Entry.{Entry}
+use Rattle.log_read.specs.declared.Entry.the-variants.{End, Drop, Refused}
+use Rattle.log_write.specs.Lines.{refusedLine}
 use Rattle.log.specs.Lines.{runLine, earlyLine, startLines}
 use Rattle.log.specs.Log.{toldLog}
-use Rattle.log.specs.declared.Shown.{Shown}
+use Rattle.log.specs.declared.StepOutcome.{StepOutcome}
 use Rattle.promises.specs.Edition1.{plainOpening, plainReport, plainDrop, plainFigure, sevenReading}
 
-abbrev pub plainShown : Answer → Book → Shown
+abbrev pub plainShown : Answer → Book → StepOutcome
 plainShown answer book = record { answer = answer; book = book; early = cond (isGranted answer) (plainFigure book .early) 0 }
 
 unfoldable pub plainOpenLog : Plan → Rule → List ℕ
@@ -33,7 +33,7 @@ plainOpenLog plan rule =
     let book = plainOpening plan rule .book in
     runLine book ++ (startLines (blankBook (ruleNumber rule) plan) book (plan .tasks) ++ earlyLine (plainShown granted book))
 
-unfoldable pub plainAnswered : ℕ → Book → Entry → Shown
+unfoldable pub plainAnswered : ℕ → Book → Entry → StepOutcome
 plainAnswered n book (End task tick) = plainShown (plainReport book task tick .answer) (plainReport book task tick .book)
 plainAnswered n book (Drop task) = plainShown (plainDrop book task .answer) (plainDrop book task .book)
 plainAnswered n book (Refused code column) = record { answer = refuse code n column; book = book; early = 0 }

@@ -12,29 +12,29 @@ use Rattle.plan.specs.Task.{Task}
 use Rattle.plan.specs.Value.{at, taskAt, rangesOk, zeroPlan, isAccepted}
 use Rattle.text.specs.Line.{TAB, LF, hasLine, skip, lineAt, fields, field}
 use Rattle.text.specs.Number.{valueOf, most}
-use Rattle.lists.specs.Items.{listOf, holdOf, hasShared}
+use Rattle.text_fields.specs.Items.{listOf, holdOf, hasShared}
 use Rattle.plan.specs.Read.{sizesOk, editionOf, boardsOf, tasksOf, taskCodes, textTask, formAnswer}
 use Rattle.plan.specs.Write.{textOf}
 use Rattle.plan.specs.declared.Answer.{Answer}
 use Rattle.plan.specs.declared.Plan.{Plan}
 use Rattle.plan.specs.declared.Reading.{Reading}
-use Rattle.plan.specs.declared.Written.{Written}
+use Rattle.plan.specs.declared.WriteResult.{WriteResult}
 use Rattle.book.specs.Sound.{isSound}
 use Rattle.book.specs.Open.{blankBook, openedOn}
 use Rattle.book.specs.declared.Book.{Book}
-use Rattle.book.specs.declared.Handed.{Handed}
+use Rattle.book.specs.declared.BookResult.{BookResult}
 use Rattle.book.specs.declared.Rule.{Rule}
 use Rattle.book.specs.declared.Figure.{Figure}
 use Rattle.laws.specs.Digits.{digitsOf}
 use Rattle.laws.specs.Lists.{same}
 use Rattle.laws.specs.Split.{before, beginOf}
 use Rattle.text.specs.Bytes.{bytes}
-use Rattle.entries.specs.Entries.{endCodes, dropCodes}
-use Rattle.entries.specs.declared.Entry.{Entry}
-use Rattle.entries.specs.declared.Entry.the-variants.{End, Drop, Refused}
-use Rattle.entries.specs.Rules.{ruleCodes}
-use Rattle.entries.specs.declared.Choice.{Choice}
-use Rattle.entries.specs.declared.Choice.the-variants.{Unsaid, Chosen, Malformed}
+use Rattle.log_read.specs.Entries.{endCodes, dropCodes}
+use Rattle.log_read.specs.declared.Entry.{Entry}
+use Rattle.log_read.specs.declared.Entry.the-variants.{End, Drop, Refused}
+use Rattle.log_read.specs.Rules.{ruleCodes}
+use Rattle.log_read.specs.declared.Choice.{Choice}
+use Rattle.log_read.specs.declared.Choice.the-variants.{Unsaid, Chosen, Malformed}
 use Rattle.promises.specs.Checks.{FirstFaulty}
 use Rattle.promises.specs.Columns.{ColumnSays}
 
@@ -108,18 +108,18 @@ pub data JudgedSays (plan : Plan) (r : Answer) : Type 0 where
       (code a b : ℕ) → rangesOk plan ≡ true → FirstFaulty (plan .tasks) (taskAt plan) code a b → r ≡ refuse code a b
       → JudgedSays plan r
 
-pub data OpeningSays (plan : Plan) (rule : Rule) (r : Handed) : Type 0 where
+pub data OpeningSays (plan : Plan) (rule : Rule) (r : BookResult) : Type 0 where
   opened : isAccepted plan ≡ true → r ≡ record { answer = granted; book = openedOn plan rule } → OpeningSays plan rule r
   refused : isAccepted plan ≡ false → r ≡ record { answer = refuse 9 0 0; book = blankBook 0 zeroPlan } → OpeningSays plan rule r
 
-pub data ReportSays (book : Book) (task tick : ℕ) (r : Handed) : Type 0 where
+pub data ReportSays (book : Book) (task tick : ℕ) (r : BookResult) : Type 0 where
   taken : isSound book ≡ true → r .answer ≡ granted → ReportSays book task tick r
   unsound : isSound book ≡ false → r ≡ record { answer = refuse 9 0 0; book = book } → ReportSays book task tick r
   refused :
       (code : ℕ) → isSound book ≡ true → 10 ≤ code → code ≤ 15
       → r ≡ record { answer = refuse code task tick; book = book } → ReportSays book task tick r
 
-pub data DropSays (book : Book) (task : ℕ) (r : Handed) : Type 0 where
+pub data DropSays (book : Book) (task : ℕ) (r : BookResult) : Type 0 where
   taken : isSound book ≡ true → r .answer ≡ granted → DropSays book task r
   unsound : isSound book ≡ false → r ≡ record { answer = refuse 9 0 0; book = book } → DropSays book task r
   refused :
@@ -130,7 +130,7 @@ pub data FigureSays (book : Book) (r : Figure) : Type 0 where
   shown : isSound book ≡ true → r .answer ≡ granted → FigureSays book r
   refused : isSound book ≡ false → r ≡ record { answer = refuse 9 0 0; early = 0 } → FigureSays book r
 
-pub data WriteSays (plan : Plan) (out : List ℕ) (r : Written) (after : List ℕ) : Type 0 where
+pub data WriteSays (plan : Plan) (out : List ℕ) (r : WriteResult) (after : List ℕ) : Type 0 where
   written :
       isAccepted plan ≡ true → length (textOf plan) ≤ length out
       → r ≡ record { answer = granted; length = length (textOf plan) }

@@ -3,13 +3,11 @@ ghost use mathlib.Core.Path.{_≡_};
 ghost use lib.ListN.{take};
 ghost use Rattle.io.specs.Counts.{Counts};
 ghost use Rattle.log.specs.Log.{logOf};
+use files::both::READ_MOST;
+use files::both::read_both;
 use files::print;
-use files::read_text;
 use log::LOG_MOST;
 use log::run_log;
-
-// One byte more than a text may have: enough to see that a file is too long.
-const READ_MOST: usize = 32769;
 
 // The first bytes of the buffer are the whole log, whatever the two texts are.
 fn put_log(plan: &[u8], ends: &[u8], out: &mut [u8; LOG_MOST]) -> usize
@@ -22,17 +20,13 @@ fn put_log(plan: &[u8], ends: &[u8], out: &mut [u8; LOG_MOST]) -> usize
 // Nothing is printed before both files are read.
 fn main() {
     let mut plan = [0u8; READ_MOST];
-    let plan_read = read_text(b"plan.txt", &mut plan);
-    if plan_read.failed {
-        return;
-    }
     let mut ends = [0u8; READ_MOST];
-    let ends_read = read_text(b"ends.txt", &mut ends);
-    if ends_read.failed {
+    let read = read_both(b"ends.txt", &mut plan, &mut ends);
+    if read.failed {
         return;
     }
-    let plan_length = plan_read.length;
-    let ends_length = ends_read.length;
+    let plan_length = read.plan;
+    let ends_length = read.text;
     let mut out = [0u8; LOG_MOST];
     let length = put_log(&plan[..plan_length], &ends[..ends_length], &mut out);
     print(&out[..length]);

@@ -1,7 +1,7 @@
 -- The clash rule's table, its listing and its impostors on plan C, by computation.
 use mathlib.Core.Bool.{true, false}
 use mathlib.Core.Path.{_≡_, refl}
-use Rattle.view.specs.View.{planFor}
+use Rattle.book_view.specs.View.{planFor}
 use Rattle.book.specs.declared.Rule.the-variants.{EarlyStart, Clash}
 use Rattle.log.specs.Log.{logOf}
 use Rattle.tables.specs.Walk.{walkedOn}

@@ -2,7 +2,7 @@
 use mathlib.Core.Path.{_≡_, refl}
 use mathlib.Core.Bool.{true}
 use Rattle.laws.specs.Lists.{allOf}
-use Rattle.line_faults.specs.Faults.{faultOf}
+use Rattle.text_fields.specs.Faults.{faultOf}
 use Rattle.tables.specs.Texts.{answered}
 use Rattle.tables.specs.Columns.{columnRows, stopped, entryRows, threeFaults, threeCodes, lastOf, fromZero, fieldEnd, tabsTwice, rightmost, fourFirst}
 use Rattle.tables.proofs.Computing.{computing}

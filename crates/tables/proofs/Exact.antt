@@ -1,8 +1,8 @@
 -- The rows of request P13 hold, and its impostors differ.
 use mathlib.Core.Path.{_≡_, refl}
 use mathlib.Core.Bool.{true, false}
-use Rattle.times.specs.Times.{endsBy}
-use Rattle.exact.specs.Exact.{exactEarly}
+use Rattle.theory.specs.Times.{endsBy}
+use Rattle.theory.specs.Exact.{exactEarly}
 use Rattle.plan.specs.Value.{isAccepted}
 use Rattle.book.specs.declared.Rule.the-variants.{EarlyStart}
 use Rattle.promises.specs.Runs.{SizedPlan}

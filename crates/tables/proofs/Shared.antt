@@ -7,11 +7,11 @@ use Rattle.plan.specs.Value.{at, isAccepted}
 use Rattle.plan.specs.Read.{mendedOf}
 use Rattle.plan.specs.Convert.{convertedOf}
 use Rattle.text.specs.Bytes.{bytes}
-use Rattle.converter.specs.Renewed.{renewedText}
+use Rattle.plan_convert.specs.Renewed.{renewedText}
 use Rattle.tables.specs.Texts.{answered, mendedSays}
 use Rattle.tables.specs.Shared.{sharedRows, mendedRows, textOld, textSharing, textMixed, planOld, planSharing, textNew, textMended, keptShared, lostReady, unjudged, textBoth, readyFirst}
 use Rattle.promises.specs.Says.{codesOf}
-use Rattle.line_faults.specs.Faults.{worst}
+use Rattle.text_fields.specs.Faults.{worst}
 use Rattle.tables.proofs.Computing.{computing}
 
 pub shared-rows : (allOf answered sharedRows ≡ true) × (allOf mendedSays mendedRows ≡ true)

@@ -2,7 +2,7 @@
 use mathlib.Core.Path.{_≡_, refl}
 use mathlib.Core.Bool.{true, false}
 use Rattle.plan.specs.Value.{isAccepted}
-use Rattle.drive_sheet.specs.Sheet.{numbers, soonest, sheetWith, sheetOf}
+use Rattle.ask_sheet.specs.Sheet.{numbers, soonest, sheetWith, sheetOf}
 use Rattle.book.specs.declared.Rule.the-variants.{EarlyStart}
 use Rattle.promises.specs.Runs.{SizedPlan}
 use Rattle.promises.proofs.codes.Reading.{reading-sized}

@@ -4,7 +4,7 @@ use mathlib.Core.List.{[], _∷_}
 use mathlib.Core.Path.{_≡_, refl}
 use Rattle.plan.specs.Answer.{refuse}
 use Rattle.plan.specs.Value.{at}
-use Rattle.view.specs.View.{planFor}
+use Rattle.book_view.specs.View.{planFor}
 use Rattle.book.specs.declared.Rule.the-variants.{EarlyStart}
 use Rattle.engine.specs.Timetable.{timetableOf}
 use Rattle.tables.specs.PlanA.{planA}

@@ -11,14 +11,14 @@ use Rattle.text.specs.Bytes.{bytes}
 use Rattle.theory.specs.Plan.{Plan}
 use Rattle.theory.specs.Book.{isDropped, due}
 use Rattle.theory.specs.Book as theory-book
-use Rattle.chains.specs.Chain.{chainOf, cause, stopsAt}
-use Rattle.chains.specs.words.Times.{ranFor}
+use Rattle.theory.specs.Chain.{chainOf, cause, stopsAt}
+use Rattle.theory.specs.words.Times.{ranFor}
 use Rattle.plan.specs.Read.{readingOf}
 use Rattle.plan.specs.Value.{at}
 use Rattle.plan.specs.declared.Plan as plan-value
 use Rattle.book.specs.View.{planView, bookView}
 use Rattle.book.specs.declared.Book.{Book}
-use Rattle.why.specs.Why.{whyOf}
+use Rattle.ask_why.specs.Why.{whyOf}
 use Rattle.tables.specs.Walk.{end, absent, Step, told, starts, ends, makes}
 use Rattle.tables.specs.Clash.{turnedEarly}
 

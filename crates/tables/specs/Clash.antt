@@ -5,7 +5,7 @@ use mathlib.Core.List.{List, [], _∷_}
 use lib.Dec.{eqb, leb}
 use Rattle.laws.specs.Lists.{anyOf}
 use Rattle.text.specs.Bytes.{bytes}
-use Rattle.lists.specs.Items.{driveOf, isShared}
+use Rattle.text_fields.specs.Items.{driveOf, isShared}
 use Rattle.plan.specs.Task.{Task}
 use Rattle.plan.specs.Pairs.{sameBoard, clashByDrive, isListed, clash}
 use Rattle.plan.specs.Read.{readingOf}

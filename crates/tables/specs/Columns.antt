@@ -10,9 +10,9 @@ use Rattle.text.specs.Bytes.{bytes}
 use Rattle.text.specs.Line.{TAB, LF, hasLine, field}
 use Rattle.plan.specs.Answer.{refuse}
 use Rattle.plan.specs.Read.{taskCodes}
-use Rattle.entries.specs.Entries.{nextEntry}
-use Rattle.entries.specs.declared.Entry.{Entry}
-use Rattle.entries.specs.declared.Entry.the-variants.{End, Drop, Refused}
+use Rattle.log_read.specs.Entries.{nextEntry}
+use Rattle.log_read.specs.declared.Entry.{Entry}
+use Rattle.log_read.specs.declared.Entry.the-variants.{End, Drop, Refused}
 use Rattle.tables.specs.Texts.{Reads, reads}
 
 -- one board, one task, and this task line

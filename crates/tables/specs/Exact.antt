@@ -7,8 +7,8 @@ use lib.Dec.{eqb}
 use Rattle.laws.specs.Picked.{least}
 use Rattle.text.specs.Bytes.{bytes}
 use Rattle.theory.specs.Book.{waiting, running, ended, isDropped}
-use Rattle.times.specs.Times.{startTime}
-use Rattle.exact.specs.Exact.{notStarted, fullLength, fullStart, exactEarly}
+use Rattle.theory.specs.Times.{startTime}
+use Rattle.theory.specs.Exact.{notStarted, fullLength, fullStart, exactEarly}
 use Rattle.plan.specs.Read.{readingOf}
 use Rattle.plan.specs.declared.Plan.{Plan}
 use Rattle.book.specs.View.{planView, bookView}

@@ -5,10 +5,10 @@ use mathlib.Core.List.{List, [], _∷_}
 use lib.Dec.{eqb}
 use Rattle.text.specs.Bytes.{bytes}
 use Rattle.text.specs.Number.{most, numberOf}
-use Rattle.lists.specs.Items.{holdsRead, afterRead}
+use Rattle.text_fields.specs.Items.{holdsRead, afterRead}
 use Rattle.text.specs.declared.Number.{Number}
 use Rattle.text.specs.declared.Number.the-variants.{Value, Over, Misspelt}
-use Rattle.line_faults.specs.Faults.{numberCode}
+use Rattle.text_fields.specs.Faults.{numberCode}
 
 -- a field as a number, as holds, and as after among five tasks: what it is refused by, 0 where it is read, and where it stops. A number is
 -- asked for up to 1,000,001, so that the refusal of that one is the reader's own

@@ -10,14 +10,14 @@ use Rattle.theory.specs.Figure.{hasBegun}
 use Rattle.plan.specs.Value.{at, row, items}
 use Rattle.plan.specs.Read.{readingOf}
 use Rattle.plan.specs.declared.Plan.{Plan}
-use Rattle.holders.specs.Holders.{holdsDrive, keepsDrive}
-use Rattle.drive_sheet.specs.Sheet.{isWaiting, numbers, soonest, holdersWho, sheetOf}
-use Rattle.drive_sheet.specs.Sets.{sameSheet}
-use Rattle.drive_sheet.specs.declared.Sheet.{Sheet}
+use Rattle.book_holders.specs.Holders.{holdsDrive, keepsDrive}
+use Rattle.ask_sheet.specs.Sheet.{isWaiting, numbers, soonest, holdersWho, sheetOf}
+use Rattle.ask_sheet.specs.Sets.{sameSheet}
+use Rattle.ask_sheet.specs.declared.Sheet.{Sheet}
 use Rattle.book.specs.View.{bookView}
 use Rattle.book.specs.declared.Book.{Book}
 use Rattle.book.specs.declared.Rule.the-variants.{EarlyStart}
-use Rattle.sheets.specs.Sheets.{sheetIn}
+use Rattle.ask_drives.specs.Sheets.{sheetIn}
 use Rattle.promises.specs.Runs.{openedBook}
 use Rattle.tables.specs.PlanA.{planA}
 use Rattle.tables.specs.Walk.{end, absent, Step, told, asks}

@@ -8,18 +8,18 @@ use Rattle.laws.specs.Lists.{same}
 use Rattle.text.specs.Bytes.{bytes}
 use Rattle.theory.specs.Book.{isDropped}
 use Rattle.theory.specs.Plan as theory-plan
-use Rattle.times.specs.Times.{startFrom, startTime, lowest, badLength, idleDrop}
+use Rattle.theory.specs.Times.{startFrom, startTime, lowest, badLength, idleDrop}
 use Rattle.plan.specs.Answer.{refuse, granted}
 use Rattle.plan.specs.Read.{readingOf}
 use Rattle.plan.specs.Value.{at}
 use Rattle.plan.specs.declared.Answer.{Answer}
 use Rattle.plan.specs.declared.Plan.{Plan}
-use Rattle.view.specs.View.{planFor}
+use Rattle.book_view.specs.View.{planFor}
 use Rattle.book.specs.declared.Rule.{Rule}
 use Rattle.book.specs.declared.Rule.the-variants.{EarlyStart, Clash}
 use Rattle.engine.specs.Timetable.{timetableOf}
 use Rattle.engine.specs.declared.Lengths.{Lengths}
-use Rattle.timetable_text.specs.Table.{tableOf}
+use Rattle.engine_write.specs.Table.{tableOf}
 use Rattle.tables.specs.PlanA.{textA, planA}
 use Rattle.tables.specs.Ready.{planB}
 use Rattle.tables.specs.Clash.{textC, planC}

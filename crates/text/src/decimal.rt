@@ -8,9 +8,17 @@ ghost use Rattle.text.specs.Number.{isDigit, isNumber, numberStop, numbe
 ghost use Rattle.text.specs.private.Spelling.{startsWell};
 use crate::Number;
 
-const MOST: u32 = 1000000;
+// No number of a text is larger, and no tick.
+pub const NUMBER_MOST: u32 = 1000000;
 
 const HELD: u32 = 1000001;
+
+// A byte as a number.
+pub fn wide(x: u8) -> u32
+    ensures { λ r. ⌜ r ≡ x ⌝ }
+{
+    x as u32
+}
 
 fn is_digit(b: u8) -> bool
     ensures { λ r. ⌜ r ≡ isDigit b ⌝ }
@@ -57,7 +65,7 @@ fn grown(v: u32, b: u8) -> u32
     ensures { λ r. ⌜ r ≡ min (v * 10 + (b - 48)) 1000001 ⌝ }
 {
     let w = v * 10 + (b - b'0') as u32;
-    if w <= MOST { w } else { HELD }
+    if w <= NUMBER_MOST { w } else { HELD }
 }
 
 // Spelling and value in one walk. A leading zero is itself read.
@@ -80,7 +88,7 @@ pub fn read_number(field: &[u8]) -> Number
         v = grown(v, b);
         i += 1;
     }
-    if v <= MOST {
+    if v <= NUMBER_MOST {
         Number::Value(v, i)
     } else {
         Number::Over(i)

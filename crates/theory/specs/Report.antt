@@ -1,6 +1,6 @@
 -- Reports and drops: their refusal numbers and the book after them; opening.
 use mathlib.Core.Bool.{Bool, not, cond, _&&_, _||_}
-use Prim.Native.Nat.{ℕ, zero, suc, max}
+use Prim.Native.Nat.{ℕ, zero, suc, _-_, max}
 use lib.Dec.{leb, ltb, eqb}
 use Rattle.laws.specs.Every.{implies, every}
 use Rattle.theory.specs.Plan.{Plan}
@@ -24,6 +24,10 @@ reportCode plan book k tick =
 unfoldable pub dropCode : Plan → Book → ℕ → ℕ
 dropCode plan book k =
     cond (leb (plan .tasks) k) 10 (cond (not (waiting (book .mark) k) || isDropped (book .dropped) k) 19 0)
+
+-- the code of a task by its number: task k from 1 is k - 1 here, and no task has the number 0
+abbrev pub fromOne : (ℕ → ℕ) → ℕ → ℕ
+fromOne code task = cond (eqb task 0) 10 (code (task - 1))
 
 -- f with the value v wherever the test holds, or at k alone
 abbrev pub put : (ℕ → Bool) → ℕ → (ℕ → ℕ) → ℕ → ℕ

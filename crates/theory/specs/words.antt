@@ -1,2 +1,5 @@
 pub mod Events
 pub mod Unready
+pub mod Lines
+pub mod Orders
+pub mod Times

@@ -7,8 +7,8 @@ use lib.ListN.{length, take}
 use lib.Seq.{sets}
 use borrow.Author.Tests.{le-leb}
 use Rattle.laws.proofs.Sets.{front-is}
-use Rattle.timetable_lines.specs.Rows.{tableMost}
-use Rattle.timetable_text.specs.Table.{tableOf, tableIn}
+use Rattle.engine_write.specs.Rows.{tableMost}
+use Rattle.engine_write.specs.Table.{tableOf, tableIn}
 
 module _
     (plan lengths out written : List ℕ) (r : ℕ) (size : length out ≡ 3328) (count : r ≡ length (tableIn (length out) plan lengths))

@@ -2,14 +2,12 @@
 ghost use mathlib.Core.Path.{_≡_};
 ghost use lib.ListN.{take};
 ghost use Rattle.io.specs.Counts.{Counts};
-ghost use Rattle.timetable_text.specs.Table.{tableOf};
+ghost use Rattle.engine_write.specs.Table.{tableOf};
+use engine_write::TABLE_MOST;
+use engine_write::write_timetable;
+use files::both::READ_MOST;
+use files::both::read_both;
 use files::print;
-use files::read_text;
-use timetable_lines::TABLE_MOST;
-use timetable_text::write_timetable;
-
-// One byte more than a text may have: enough to see that a file is too long.
-const READ_MOST: usize = 32769;
 
 // The first bytes of the buffer are the whole text, whatever the two texts are.
 fn put_table(plan: &[u8], lengths: &[u8], out: &mut [u8; TABLE_MOST]) -> usize
@@ -22,17 +20,13 @@ fn put_table(plan: &[u8], lengths: &[u8], out: &mut [u8; TABLE_MOST]) -> usize
 // Nothing is printed before both files are read.
 fn main() {
     let mut plan = [0u8; READ_MOST];
-    let plan_read = read_text(b"plan.txt", &mut plan);
-    if plan_read.failed {
-        return;
-    }
     let mut lengths = [0u8; READ_MOST];
-    let lengths_read = read_text(b"lengths.txt", &mut lengths);
-    if lengths_read.failed {
+    let read = read_both(b"lengths.txt", &mut plan, &mut lengths);
+    if read.failed {
         return;
     }
-    let plan_length = plan_read.length;
-    let lengths_length = lengths_read.length;
+    let plan_length = read.plan;
+    let lengths_length = read.text;
     let mut out = [0u8; TABLE_MOST];
     let length = put_table(&plan[..plan_length], &lengths[..lengths_length], &mut out);
     print(&out[..length]);

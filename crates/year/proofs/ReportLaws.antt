@@ -9,7 +9,7 @@ use lib.Seq.{sets}
 use borrow.Author.Tests.{le-leb}
 use Rattle.laws.proofs.Sets.{front-is}
 use Rattle.year_rules.specs.declared.Totals.{Totals}
-use Rattle.year_text.specs.Report.{yearText, reportMost, reportIn}
+use Rattle.year_write.specs.Report.{yearText, reportMost, reportIn}
 
 module _
     (totals : Totals) (past : Bool) (out written : List ℕ) (r : ℕ) (size : length out ≡ 1024)

@@ -4,18 +4,18 @@ ghost use Prim.Native.Nat.{_<_};
 ghost use lib.ListN.{take};
 ghost use Rattle.io.specs.Counts.{Counts};
 ghost use Rattle.year_rules.specs.Totals.{zeroTotals};
-ghost use Rattle.year_text.specs.Report.{yearText};
+ghost use Rattle.year_write.specs.Report.{yearText};
+use files::ListPart;
+use files::NAME_MOST;
+use files::next_line;
 use files::print;
-use folders::NAME_MOST;
-use folders::Taken;
-use folders::next_line;
-use folders::took;
+use files::took;
 use libc::STDERR_FILENO;
-use year_bounds::LOGS_MOST;
 use year_folders::add_folder;
+use year_rules::LOGS_MOST;
 use year_rules::Totals;
-use year_text::REPORT_MOST;
-use year_text::write_report;
+use year_write::REPORT_MOST;
+use year_write::write_report;
 
 // One byte more than a text may have: enough to see that a file is too long.
 const READ_MOST: usize = 32769;
@@ -27,23 +27,30 @@ const PART: usize = 4096;
 const NOTED: u64 = 100;
 
 // What the reading of the list has come to.
-const READING: u8 = 0;
+enum State {
+    Reading,
+    Done,
+    Past,
+    Failed,
+}
 
-const DONE: u8 = 1;
-
-const PAST: u8 = 2;
-
-const FAILED: u8 = 3;
+fn is_reading(state: State) -> bool {
+    if let State::Reading = state {
+        true
+    } else {
+        false
+    }
+}
 
 struct List {
-    state: u8,
-    taken: Taken,
+    state: State,
+    taken: ListPart,
     totals: Totals,
 }
 
 // What a name has come to, and the totals after it; nothing counts after a failure.
-struct Named {
-    state: u8,
+struct NameResult {
+    state: State,
     totals: Totals,
 }
 
@@ -93,33 +100,39 @@ fn fail_over(name: &[u8]) {
     io::write_all(STDERR_FILENO, b": longer than a path may be\n");
 }
 
-fn come_to(state: u8, totals: Totals) -> Named {
-    Named { state, totals }
+fn come_to(state: State, totals: Totals) -> NameResult {
+    NameResult { state, totals }
 }
 
 // From the 10,001st name on nothing is opened.
-fn add_name(name: &[u8], over: bool, plan: &mut [u8], log: &mut [u8], totals: Totals) -> Named {
+fn add_name(
+    name: &[u8],
+    over: bool,
+    plan: &mut [u8],
+    log: &mut [u8],
+    totals: Totals,
+) -> NameResult {
     if name.len() == 0 {
         io::write_all(STDERR_FILENO, b"LIST: a line is empty\n");
-        return come_to(FAILED, totals);
+        return come_to(State::Failed, totals);
     }
     if LOGS_MOST <= logs_in(totals) {
-        return come_to(PAST, totals);
+        return come_to(State::Past, totals);
     }
     if over {
         fail_over(name);
-        return come_to(FAILED, totals);
+        return come_to(State::Failed, totals);
     }
     let added = add_folder(name, plan, log, totals);
     let next = added.totals;
     if added.failed {
-        return come_to(FAILED, next);
+        return come_to(State::Failed, next);
     }
     note(logs_in(next));
-    come_to(READING, next)
+    come_to(State::Reading, next)
 }
 
-fn listed(state: u8, taken: Taken, totals: Totals) -> List {
+fn listed(state: State, taken: ListPart, totals: Totals) -> List {
     List {
         state,
         taken,
@@ -140,15 +153,16 @@ fn read_name(
     let found = next_line(name, part, from);
     let taken = found.taken;
     if taken.failed {
-        return listed(FAILED, taken, totals);
+        return listed(State::Failed, taken, totals);
     }
     if found.missing {
-        return listed(DONE, taken, totals);
+        return listed(State::Done, taken, totals);
     }
     let at = found.length;
     let named = add_name(&name[..at], found.over, plan, log, totals);
     let next = named.totals;
-    listed(named.state, taken, next)
+    let state = named.state;
+    listed(state, taken, next)
 }
 
 // Arrays lent as what they are keep their length through a loop.
@@ -167,11 +181,12 @@ fn read_list(totals: Totals) -> List {
     let mut part = [0u8; PART];
     let mut plan = [0u8; READ_MOST];
     let mut log = [0u8; READ_MOST];
-    let mut held = listed(READING, took(false, 0, 0), totals);
+    let mut held = listed(State::Reading, took(false, 0, 0), totals);
     let mut turns = u64::MAX;
     while 0 < turns {
         let next = read_next(&mut name, &mut part, &mut plan, &mut log, held);
-        if next.state != READING {
+        let state = next.state;
+        if !is_reading(state) {
             return next;
         }
         held = next;
@@ -180,14 +195,20 @@ fn read_list(totals: Totals) -> List {
     held
 }
 
+fn print_report(totals: Totals, past: bool) {
+    let mut out = [0u8; REPORT_MOST];
+    let length = put_report(totals, past, &mut out);
+    print(&out[..length]);
+}
+
 // Nothing is printed before the whole list is read.
 fn main() {
     let held = read_list(no_logs());
     let totals = held.totals;
-    if held.state == FAILED {
-        return;
+    let state = held.state;
+    match state {
+        State::Failed => {}
+        State::Past => print_report(totals, true),
+        State::Done | State::Reading => print_report(totals, false),
     }
-    let mut out = [0u8; REPORT_MOST];
-    let length = put_report(totals, held.state == PAST, &mut out);
-    print(&out[..length]);
 }

@@ -1,9 +1,9 @@
 // The log of a folder added to the totals of a year.
 ghost use mathlib.Core.Path.{_≡_};
 ghost use mathlib.Core.Bool.{true};
-use folders::read_in;
+use files::read_in;
 use year_rules::Totals;
-use year_texts::add_texts;
+use year_totals::add_texts;
 
 // The totals after a folder. Where a file is missing or cannot be read, nothing is added.
 pub struct Folder {

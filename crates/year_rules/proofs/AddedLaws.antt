@@ -11,18 +11,18 @@ use Rattle.laws.proofs.Cases.{by-bool, by-le, true-false}
 use Rattle.plan.specs.Answer.{refuse, granted, isGranted}
 use Rattle.plan.specs.Value.{at, isAccepted}
 use Rattle.plan.specs.declared.Plan.{Plan}
-use Rattle.view.proofs.Accepted.{plan-facts}
-use Rattle.log_rules.specs.Tests.{unread, judgedOf}
-use Rattle.log_rules.specs.declared.Judged.{Judged}
+use Rattle.book_view.proofs.Accepted.{plan-facts}
+use Rattle.school.specs.Tests.{unread, judgedOf}
+use Rattle.school.specs.declared.JudgedLog.{JudgedLog}
 use Rattle.year_rules.specs.Figures.{figuresOn}
 use Rattle.year_rules.specs.Totals.{logsMost, totalsOk, withFigures, withRefused, withJudged, notAdded, addedOf}
-use Rattle.year_rules.specs.declared.Added.{Added}
+use Rattle.year_rules.specs.declared.AddResult.{AddResult}
 use Rattle.year_rules.specs.declared.Totals.{Totals}
 use Rattle.year_rules.proofs.BoardLaws.{addTo, figures-bound, figures-few}
 use Rattle.year_rules.proofs.BoundLaws.{InBounds, ok-facts, facts-ok, refused-in, figures-in}
 
 -- the figures of a judged log, board by board
-abbrev pub figuresIn : Plan → Judged → ℕ → List ℕ
+abbrev pub figuresIn : Plan → JudgedLog → ℕ → List ℕ
 figuresIn plan judged b = figuresOn (b + 1) (plan .board) (plan .finish) (judged .end) (plan .tasks)
 
 module _ (plan : Plan) (log : List ℕ) where
@@ -33,9 +33,9 @@ module _ (plan : Plan) (log : List ℕ) where
   pub judged-accepted : isGranted (judgedOf plan log .answer) ≡ true → isAccepted plan ≡ true
   judged-accepted h =
       by-bool (isAccepted plan) (λ e. e)
-      (λ e. true-false h (ap (λ (j : Judged). isGranted (j .answer)) (judged-not e)))
+      (λ e. true-false h (ap (λ (j : JudgedLog). isGranted (j .answer)) (judged-not e)))
 
-module _ (totals : Totals) (plan : Plan) (judged : Judged) where
+module _ (totals : Totals) (plan : Plan) (judged : JudgedLog) where
   pub judged-adds : isGranted (judged .answer) ≡ true → withJudged totals plan judged ≡ withFigures totals (figuresIn plan judged)
   unfolding withJudged
   judged-adds h = rw h

@@ -2,3 +2,4 @@ pub mod FigureLaws
 pub mod BoardLaws
 pub mod BoundLaws
 pub mod AddedLaws
+mod BoundTests

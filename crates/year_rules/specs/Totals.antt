@@ -10,10 +10,10 @@ use Rattle.plan.specs.Answer.{refuse, granted, isGranted}
 use Rattle.plan.specs.Value.{at}
 use Rattle.plan.specs.declared.Answer.{Answer}
 use Rattle.plan.specs.declared.Plan.{Plan}
-use Rattle.log_rules.specs.Tests.{unread, judgedOf}
-use Rattle.log_rules.specs.declared.Judged.{Judged}
+use Rattle.school.specs.Tests.{unread, judgedOf}
+use Rattle.school.specs.declared.JudgedLog.{JudgedLog}
 use Rattle.year_rules.specs.Figures.{figuresOn, sumOf, bestAfter}
-use Rattle.year_rules.specs.declared.Added.{Added}
+use Rattle.year_rules.specs.declared.AddResult.{AddResult}
 use Rattle.year_rules.specs.declared.Totals.{Totals}
 
 -- at most 10,000 logs
@@ -67,17 +67,17 @@ withRefused totals = record {
 }
 
 -- the totals with a judged log
-unfoldable pub withJudged : Totals → Plan → Judged → Totals
+unfoldable pub withJudged : Totals → Plan → JudgedLog → Totals
 withJudged totals plan judged =
     let figures : ℕ → List ℕ = λ b. figuresOn (b + 1) (plan .board) (plan .finish) (judged .end) (plan .tasks) in
     cond (isGranted (judged .answer)) (withFigures totals figures) (withRefused totals)
 
 -- a refusal changes no total or count, and looks at no log
-abbrev pub notAdded : Answer → Totals → Added
+abbrev pub notAdded : Answer → Totals → AddResult
 notAdded answer totals = record { answer = answer; judged = unread granted; totals = totals }
 
 -- 9 for totals past their bounds; then 28 for the 10,001st log; then the log is judged
-unfoldable pub addedOf : Totals → Plan → List ℕ → Added
+unfoldable pub addedOf : Totals → Plan → List ℕ → AddResult
 addedOf totals plan log =
     let judged = judgedOf plan log in
     cond (not (totalsOk totals)) (notAdded (refuse 9 0 0) totals)

@@ -14,12 +14,12 @@ use Rattle.plan.specs.Answer.{refuse, granted, isGranted}
 use Rattle.plan.specs.Value.{at}
 use Rattle.plan.specs.declared.Answer.{Answer}
 use Rattle.plan.specs.declared.Plan.{Plan}
-use Rattle.view.proofs.Accepted.{plan-facts}
-use Rattle.log_rules.specs.Tests.{judgedOf}
-use Rattle.log_rules.specs.declared.Judged.{Judged}
+use Rattle.book_view.proofs.Accepted.{plan-facts}
+use Rattle.school.specs.Tests.{judgedOf}
+use Rattle.school.specs.declared.JudgedLog.{JudgedLog}
 use Rattle.year_rules.specs.Figures.{sumOf, bestAfter}
 use Rattle.year_rules.specs.Totals.{boardOk, totalsOk, boards, withFigures, withRefused, withJudged, notAdded, addedOf}
-use Rattle.year_rules.specs.declared.Added.{Added}
+use Rattle.year_rules.specs.declared.AddResult.{AddResult}
 use Rattle.year_rules.specs.declared.Tally.{Tally}
 use Rattle.year_rules.specs.declared.Totals.{Totals}
 use Rattle.year_rules.proofs.BoundLaws.{InBounds, ok-facts}
@@ -95,7 +95,7 @@ module _ (totals : Totals) (figures : ℕ → List ℕ) where
 
 module _ (totals : Totals) (plan : Plan) (log : List ℕ) where
   pub call-nine :
-      {ok : Bool} {answer : Answer} {r : Added} → ok ≡ totalsOk totals → not ok ≡ true → answer ≡ refuse 9 0 0
+      {ok : Bool} {answer : Answer} {r : AddResult} → ok ≡ totalsOk totals → not ok ≡ true → answer ≡ refuse 9 0 0
       → r ≡ notAdded answer totals → r ≡ addedOf totals plan log
   call-nine {ok} e n a p =
       p ∙ ap (λ (x : Answer). notAdded x totals) a ∙ sym (added-nine totals plan log (sym e ∙ not-true ok n))
@@ -105,12 +105,12 @@ module _ (totals : Totals) (plan : Plan) (log : List ℕ) where
     in-bounds = sym e ∙ not-false ok n
 
     pub call-full :
-        {answer : Answer} {r : Added} → 10000 ≤ accepted + refused → answer ≡ refuse 28 0 0 → r ≡ notAdded answer totals
+        {answer : Answer} {r : AddResult} → 10000 ≤ accepted + refused → answer ≡ refuse 28 0 0 → r ≡ notAdded answer totals
         → r ≡ addedOf totals plan log
     call-full h a g =
         g ∙ ap (λ (x : Answer). notAdded x totals) a ∙ sym (added-full totals plan log in-bounds (omega arith))
 
-    module _ (room : accepted + refused < 10000) {judged : Judged} (found : judged ≡ judgedOf plan log) where
+    module _ (room : accepted + refused < 10000) {judged : JudgedLog} (found : judged ≡ judgedOf plan log) where
       pub has-room : (totalsOk totals ≡ true) × (totals .accepted + totals .refused < 10000)
       has-room = (in-bounds, omega arith)
 
@@ -131,4 +131,4 @@ module _ (totals : Totals) (plan : Plan) (log : List ℕ) where
 
       pub tasks-few : judged .answer .code ≡ 0 → plan .tasks ≤ 64
       tasks-few c =
-          plan-facts plan (judged-accepted plan log (ap (λ (j : Judged). isGranted (j .answer)) (sym found) ∙ eq-eqb (judged .answer .code) 0 c)) .tasks-to
+          plan-facts plan (judged-accepted plan log (ap (λ (j : JudgedLog). isGranted (j .answer)) (sym found) ∙ eq-eqb (judged .answer .code) 0 c)) .tasks-to

@@ -1,20 +1,23 @@
 // A log added to the totals of a year.
+// A log added to the totals of a year, from the two texts.
 ghost use mathlib.Core.Path.{_≡_};
 ghost use mathlib.Core.Bool.{true, cond};
 ghost use Prim.Native.Nat.{_+_, _-_, _≤_, _<_, max, min};
 ghost use Rattle.year_rules.specs.Figures.{figuresOn};
 ghost use Rattle.year_rules.specs.Totals.{totalsOk, withFigures, withRefused, notAdded, addedOf};
 ghost use Rattle.year_totals.specs.private.Tallies.{withFigure, tallyAfter};
-use log_judge::judge_log;
-use log_rules::Judged;
+ghost use Rattle.plan.specs.Read.{readingOf};
 use plan::Answer;
 use plan::Plan;
 use plan::refuse;
-use year_bounds::LOGS_MOST;
-use year_bounds::are_in_bounds;
-use year_rules::Added;
+use plan_read::read_plan;
+use school_judge::judge_log;
+use school_judge::not_read;
+use year_rules::AddResult;
+use year_rules::LOGS_MOST;
 use year_rules::Tally;
 use year_rules::Totals;
+use year_rules::are_in_bounds;
 
 fn wide(x: u32) -> u64
     ensures { λ r. ⌜ (r ≡ x) × (r < 4294967296) ⌝ }
@@ -23,7 +26,7 @@ fn wide(x: u32) -> u64
 }
 
 // Planned finish less logged end: no accepted log ends late.
-fn early_by(finish: u32, end: u32) -> u32
+fn ended_early_by(finish: u32, end: u32) -> u32
     ensures { λ r. ⌜ (r ≡ finish - end) × (r < 4294967296) ⌝ }
 {
     if finish <= end {
@@ -91,7 +94,7 @@ fn board_after<'a>(
     let mut tally = held;
     let mut i = 0;
     while i < tasks as usize {
-        let figure = early_by(finish[i], end[i]);
+        let figure = ended_early_by(finish[i], end[i]);
         let next = with_task(tally, board[i] == number, figure);
         tally = next;
         i += 1;
@@ -151,16 +154,11 @@ fn with_refused(totals: Totals) -> Totals
 }
 
 // Nothing is found of a log that is not looked at.
-fn not_added(answer: Answer, totals: Totals) -> Added
+fn not_added(answer: Answer, totals: Totals) -> AddResult
     ensures { λ r. ⌜ r ≡ notAdded answer totals ⌝ }
 {
-    let judged = Judged {
-        answer: refuse(0, 0, 0),
-        known: [0; 64],
-        start: [0; 64],
-        end: [0; 64],
-    };
-    Added {
+    let judged = not_read(refuse(0, 0, 0));
+    AddResult {
         answer,
         judged,
         totals,
@@ -168,7 +166,7 @@ fn not_added(answer: Answer, totals: Totals) -> Added
 }
 
 // P11's own refusals, 9 among them, are those of a refused log: `judged` has them.
-pub fn add_log(totals: Totals, plan: Plan, log: &[u8]) -> Added
+pub fn add_log(totals: Totals, plan: Plan, log: &[u8]) -> AddResult
     ensures { λ r. ⌜ r ≡ addedOf totals plan (now (log .entry)) ⌝ }
 {
     if !are_in_bounds(totals) {
@@ -182,16 +180,27 @@ pub fn add_log(totals: Totals, plan: Plan, log: &[u8]) -> Added
     let found = judged.answer;
     if found.code != 0 {
         let next = with_refused(totals);
-        return Added {
+        return AddResult {
             answer,
             judged,
             totals: next,
         };
     }
     let next = with_accepted(totals, plan.tasks, &plan.board, &plan.finish, &judged.end);
-    Added {
+    AddResult {
         answer,
         judged,
         totals: next,
     }
+}
+
+// The totals after it. A refused plan text is a plan of zeros, which makes its log a refused one.
+pub fn add_texts(plan: &[u8], log: &[u8], totals: Totals) -> Totals
+    ensures { λ r. ⌜ r ≡ addedOf totals (readingOf (now (plan .entry)) .plan) (now (log .entry)) .totals ⌝ }
+{
+    let reading = read_plan(plan);
+    let planned = reading.plan;
+    let added = add_log(totals, planned, log);
+    let next = added.totals;
+    next
 }

@@ -3,7 +3,7 @@
 use super::faults::{late_plan, sharing_plan};
 use super::waiting::{awaited, rule_of};
 use super::Rng;
-use crate::values::{Book, Plan, Rule, DROPPED, ENDED, RUNNING, WAITING};
+use crate::second::values::{Book, Plan, Rule, DROPPED, ENDED, RUNNING, WAITING};
 
 const LIKELY_BYTES: [u8; 12] = [0, 1, 2, 3, 8, 9, 32, 64, 65, 66, 67, 255];
 const LIKELY_TICKS: [u32; 8] = [0, 1, 2, 3, 999_999, 1_000_000, 1_000_001, u32::MAX];

@@ -4,8 +4,8 @@ use super::events::{accepted_event, any_drop, event_line};
 use super::lines::{noise, odd_ends_line, odd_rule_line};
 use super::reports::any_report;
 use super::Rng;
-use crate::desk::{Desk, LONGEST_LINE};
-use crate::fields::line_of;
+use crate::second::desk::{Desk, Start, LONGEST_LINE};
+use crate::second::fields::line_of;
 
 /// Lines that are nearly questions, and some that are.
 const ODD_QUESTIONS: [&[u8]; 24] = [
@@ -34,6 +34,14 @@ const ODD_QUESTIONS: [&[u8]; 24] = [
     b"help\n",
     b"\n",
 ];
+
+/// The second desk on these texts, which must open, and the log that it prints.
+pub fn opened(plan: &[u8], ends: &[u8]) -> (Vec<u8>, Desk) {
+    match Desk::start(plan, ends) {
+        Start::Open(log, desk) => (log, *desk),
+        _ => panic!("the desk does not open"),
+    }
+}
 
 /// The next step of the morning; None once every task has ended.
 pub fn next_step(rng: &mut Rng, desk: &Desk, drop_percent: u32) -> Option<Vec<u8>> {

@@ -1,12 +1,12 @@
 //! Drops, and mornings of reports and drops together.
 
-use super::plans::random_plan;
+use super::plans::{accepted_plan, random_plan};
 use super::reports::{accepted_report, any_report, running_tasks};
 use super::waiting::{either_rule, rule_of, waits_for};
 use super::Rng;
-use crate::book::{drop_task, open_book, report};
-use crate::fields::line_of;
-use crate::values::{refusal, Answer, Book, Rule, DROPPED, ENDED, WAITING};
+use crate::second::book::{drop_task, open_book, report, sound};
+use crate::second::fields::line_of;
+use crate::second::values::{refusal, Answer, Book, Rule, DROPPED, ENDED, WAITING};
 
 /// What a line of `ends.txt` says.
 #[derive(Clone, Copy, PartialEq, Eq, Debug)]
@@ -34,6 +34,22 @@ pub fn must_take(book: &Book, event: Event) -> Book {
     let (answer, next) = take(book, event);
     assert_eq!(answer, Answer::ACCEPTED, "{event:?}");
     next
+}
+
+/// The book of a plan's text after these events; all of them must be accepted.
+pub fn book_after(text: &[u8], rule: Rule, events: &[Event]) -> Book {
+    let fresh = open_book(&accepted_plan(text), rule).book;
+    let book = events
+        .iter()
+        .fold(fresh, |book, &event| must_take(&book, event));
+    assert!(sound(&book));
+    book
+}
+
+/// These reports, each a task and a tick, as events.
+pub fn ends(reports: &[(u32, u32)]) -> Vec<Event> {
+    let end = |&(task, tick): &(u32, u32)| Event::End(task, tick);
+    reports.iter().map(end).collect()
 }
 
 /// The event is refused by that code with what it says, and leaves the book.

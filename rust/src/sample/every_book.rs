@@ -1,8 +1,8 @@
 //! Plans so small that all their books can be listed.
 
 use super::events::{take, Event};
-use crate::book::open_book;
-use crate::values::{Book, Plan, Rule};
+use crate::second::book::open_book;
+use crate::second::values::{Book, Plan, Rule};
 use std::collections::HashSet;
 
 /// Tasks 3, 4, 5 and 1 follow each other over three boards; 4, 5 and 1 can be dropped.

@@ -2,7 +2,7 @@
 
 use super::events::{take, Event};
 use super::every_book::{every_book, every_event, morning_of, Morning};
-use crate::values::{Book, Plan, Rule, WAITING};
+use crate::second::values::{Book, Plan, Rule, WAITING};
 use std::collections::HashMap;
 
 /// All books of a plan, and of each what one more accepted report or drop makes of it.

@@ -1,10 +1,12 @@
 //! Plans with no task at tick 0, with a faulty pair or with a shared hold where there
 //! must be none, and damaged texts.
 
+use super::lent::shown;
 use super::plans::moved_later;
 use super::Rng;
-use crate::values::{
-    items, Plan, AFTER_PLACES, EDITION_1, EDITION_2, HOLD_PLACES, LAST_TICK, MOST_DRIVES,
+use crate::second::values::{
+    items, Answer, Plan, Reading, AFTER_PLACES, EDITION_1, EDITION_2, HOLD_PLACES, LAST_TICK,
+    MOST_DRIVES,
 };
 
 /// The plan with no task at tick 0: all of it later where there is room, else
@@ -106,4 +108,11 @@ fn set_only_holds(plan: &mut Plan, i: usize, holds: &[u8]) {
 fn set_only_after(plan: &mut Plan, i: usize, task: u8) {
     plan.after[AFTER_PLACES * i..AFTER_PLACES * (i + 1)].fill(0);
     plan.after[AFTER_PLACES * i] = task;
+}
+
+/// The text's reading is refused by this, and comes with a plan of zeros.
+pub fn check_reading(reading: Reading, text: &[u8], answer: Answer) {
+    let shown = shown(text);
+    assert_eq!(reading.answer, answer, "{shown}");
+    assert_eq!(reading.plan, Plan::ZERO, "{shown}");
 }

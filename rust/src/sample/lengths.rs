@@ -1,12 +1,12 @@
 //! Lengths and drops for the engine without reports, and texts that say them.
 
 use super::events::{first_drops, rule_line};
-use super::plans::{full_plan, in_either_edition, random_plan};
+use super::plans::{full_plan_of_either, random_plan};
 use super::waiting::{awaited, either_rule};
 use super::Rng;
-use crate::book::open_book;
-use crate::fields::line_of;
-use crate::values::{Lengths, Plan, Rule, DROPPED, LAST_TICK};
+use crate::second::book::open_book;
+use crate::second::fields::line_of;
+use crate::second::values::{Lengths, Plan, Rule, DROPPED, LAST_TICK};
 
 /// What the engine is handed.
 pub struct Case {
@@ -91,8 +91,7 @@ const ODD_FIELDS: [&[u8]; 20] = [
 /// Any plan that is accepted, and lengths and drops that mostly are.
 pub fn random_case(rng: &mut Rng) -> Case {
     let plan = if rng.chance(10) {
-        let full = full_plan(rng, 64);
-        in_either_edition(rng, &full)
+        full_plan_of_either(rng, 64)
     } else {
         random_plan(rng)
     };

@@ -92,6 +92,14 @@ const ODD_RULE_LINES: [&[u8]; 36] = [
     b"clash\n",
 ];
 
+/// The text with another line in the place of that one, lines counted from 1.
+pub fn with_line(text: &[u8], number: usize, line: &str) -> Vec<u8> {
+    let text = std::str::from_utf8(text).unwrap();
+    let mut lines: Vec<&str> = text.lines().collect();
+    lines[number - 1] = line;
+    (lines.join("\n") + "\n").into_bytes()
+}
+
 pub fn odd_ends_line(rng: &mut Rng) -> Vec<u8> {
     rng.pick(&ODD_ENDS_LINES).to_vec()
 }

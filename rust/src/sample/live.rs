@@ -1,8 +1,8 @@
 //! The desk driven through pipes: lines in, each answer as it comes.
 
 use super::program::{at_root, program_in, LONGEST_WAIT};
-use crate::desk::LAST_WORDS;
-use crate::fields::first_field;
+use crate::second::desk::LAST_WORDS;
+use crate::second::fields::first_field;
 use std::fs;
 use std::io::{BufRead, BufReader, Read, Write};
 use std::path::{Path, PathBuf};
@@ -23,15 +23,9 @@ pub struct Left {
     pub status: ExitStatus,
 }
 
-/// The program alone, in that folder; where no emulator is needed without the script that looks for one.
+/// The program alone, in that folder.
 pub fn desk_program(folder: &Path) -> Command {
-    let through_script = program_in("desk", folder);
-    if !cfg!(target_arch = "x86_64") {
-        return through_script;
-    }
-    let mut command = Command::new(at_root("target/bin/desk").canonicalize().unwrap());
-    command.current_dir(folder);
-    command
+    program_in("desk", folder)
 }
 
 /// The command that users call.

@@ -5,7 +5,7 @@ use super::lines::{damaged_lines, noise, stretched_text};
 use super::logs::{moved_times, own_log, school_log, school_times};
 use super::waiting::either_rule;
 use super::Rng;
-use crate::values::{Plan, LONGEST_TEXT};
+use crate::second::values::{Plan, LONGEST_TEXT};
 
 /// Lines of a log that are not of their form, and some that are but look odd.
 const ODD_LINES: [&[u8]; 50] = [

@@ -2,16 +2,16 @@
 
 use super::events::{event_line, rule_line, take, Event};
 use super::lengths::planned_length;
-use super::plans::{full_plan, in_either_edition, random_plan};
+use super::plans::{full_plan_of_either, random_plan};
 use super::reports::{accepted_report, any_report};
 use super::waiting::either_rule;
 use super::Rng;
-use crate::book::open_book;
-use crate::fields::line_of;
-use crate::judge::clash;
-use crate::runlog::run_log;
-use crate::text::plan_text;
-use crate::values::{Book, Plan, Rule, LAST_TICK, WAITING};
+use crate::second::book::open_book;
+use crate::second::fields::line_of;
+use crate::second::judge::clash;
+use crate::second::runlog::run_log;
+use crate::second::text::plan_text;
+use crate::second::values::{Book, Plan, Rule, LAST_TICK, WAITING};
 
 /// When each task starts and ends, by a log.
 #[derive(Clone, Copy)]
@@ -23,8 +23,7 @@ pub struct Times {
 /// Any plan that is accepted, of 64 tasks at times.
 pub fn plan_of_a_log(rng: &mut Rng) -> Plan {
     if rng.chance(5) {
-        let full = full_plan(rng, 64);
-        return in_either_edition(rng, &full);
+        return full_plan_of_either(rng, 64);
     }
     random_plan(rng)
 }

@@ -1,6 +1,6 @@
 //! Texts with every mixture of a line's four faults in each of three task lines.
 
-use crate::values::{refusal, Answer, EDITION_1, EDITION_2};
+use crate::second::values::{refusal, Answer, EDITION_1, EDITION_2};
 
 /// A line's codes, those that go before others first: for reading and for the second call.
 pub const READING: [u32; 4] = [3, 4, 20, 18];

@@ -29,4 +29,4 @@ pub mod waiting;
 pub mod wild;
 pub mod years;
 
-pub use rng::{announced_seed, Rng};
+pub use rng::Rng;

@@ -2,8 +2,8 @@
 
 use super::events::{accepted_event, first_drops, must_take, Event};
 use super::Rng;
-use crate::book::open_book;
-use crate::values::{Answer, Book, Plan, Rule};
+use crate::second::book::open_book;
+use crate::second::values::{Answer, Book, Plan, Rule};
 
 /// A whole morning: every book from the fresh one to the last, and between
 /// each two the report or drop that made the second of the first.

@@ -5,8 +5,8 @@ use super::faults::{damaged_text, faulty_pair_plan, late_plan};
 use super::lines::damaged_lines;
 use super::one_fault::one_fault;
 use super::Rng;
-use crate::text::plan_text;
-use crate::values::{Plan, EDITION_2};
+use crate::second::text::plan_text;
+use crate::second::values::{Plan, EDITION_2};
 
 /// A text of the plan or near it: right, of another edition, faulty or damaged.
 pub fn old_text(rng: &mut Rng, plan: &Plan) -> Vec<u8> {

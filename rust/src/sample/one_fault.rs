@@ -3,8 +3,8 @@
 use super::faults::late_plan;
 use super::plans::exclusively_held;
 use super::Rng;
-use crate::text::plan_text;
-use crate::values::{refusal, Answer, Plan, EDITION_2, LAST_TICK, LONGEST_TEXT};
+use crate::second::text::plan_text;
+use crate::second::values::{refusal, Answer, Plan, EDITION_2, LAST_TICK, LONGEST_TEXT};
 
 pub struct OneFault {
     pub text: Vec<u8>,

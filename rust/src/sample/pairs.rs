@@ -1,8 +1,8 @@
 //! Two tasks, one planned to finish by the other's start, with every sort of clash
 //! between them and with none.
 
-use crate::text::read_plan;
-use crate::values::Plan;
+use crate::second::text::read_plan;
+use crate::second::values::Plan;
 
 pub struct Pair {
     pub plan: Plan,

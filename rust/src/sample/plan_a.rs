@@ -17,3 +17,6 @@ end\t4\t9
 
 /// The same reports as (task, tick).
 pub const REPORTS_A: [(u32, u32); 5] = [(2, 3), (1, 4), (3, 6), (5, 8), (4, 9)];
+
+/// What is printed of plan A before any report.
+pub const OPENING_A: &str = "run\t1\t2\t5\nstart\t1\t1\t0\t0\nstart\t2\t2\t0\t0\nearly\t0\t0\n";

@@ -1,9 +1,10 @@
 //! Random accepted plans, placed so that clashing tasks never overlap.
 
 use super::Rng;
-use crate::judge::{clash, overlap};
-use crate::values::{
-    drive_of, items, made_exclusive, Plan, AFTER_PLACES, EDITION_1, EDITION_2, HOLD_PLACES,
+use crate::second::judge::{clash, overlap};
+use crate::second::text::read_plan;
+use crate::second::values::{
+    drive_of, items, made_exclusive, Answer, Plan, AFTER_PLACES, EDITION_1, EDITION_2, HOLD_PLACES,
     LAST_TICK,
 };
 
@@ -70,6 +71,19 @@ pub fn small_plan(rng: &mut Rng, tasks: u8) -> Plan {
     }
     fill_after_lists(rng, &mut plan, shape.after_percent);
     in_either_edition(rng, &plan)
+}
+
+/// A full plan of either edition.
+pub fn full_plan_of_either(rng: &mut Rng, tasks: u8) -> Plan {
+    let plan = full_plan(rng, tasks);
+    in_either_edition(rng, &plan)
+}
+
+/// The plan of a text, which must be accepted.
+pub fn accepted_plan(text: &[u8]) -> Plan {
+    let reading = read_plan(text);
+    assert_eq!(reading.answer, Answer::ACCEPTED);
+    reading.plan
 }
 
 /// The plan as it is, or with ready ticks and exclusive holds.

@@ -1,5 +1,6 @@
 //! The built programs, run in a folder, and folders to run them in.
 
+use crate::proved::peer::kit;
 use std::collections::BTreeSet;
 use std::fs;
 use std::os::unix::fs::MetadataExt;
@@ -30,15 +31,34 @@ pub fn empty_folder(below: &str, name: &str) -> PathBuf {
     folder
 }
 
-/// The command that runs the program there. A test without it has failed, and is not passed over.
+/// The command that runs the built program there: by itself, or if the processor is another under the emulator.
 pub fn program_in(name: &str, folder: &Path) -> Command {
-    assert!(
-        at_root("target/bin").join(name).exists(),
-        "target/bin/{name} is missing: run `rt check {name}` first"
-    );
+    let program = built_program(name);
+    let mut command = if cfg!(target_arch = "x86_64") {
+        Command::new(program)
+    } else {
+        kit().runner(&program)
+    };
+    command.current_dir(folder);
+    command
+}
+
+/// The same by `tools/program`, as the commands run it; it takes `PROGRAM_STACK` from the environment.
+pub fn program_by_script(name: &str, folder: &Path) -> Command {
+    built_program(name);
     let mut command = Command::new(at_root("tools/program"));
     command.arg(name).current_dir(folder);
     command
+}
+
+/// A test fails if its program is not built.
+fn built_program(name: &str) -> PathBuf {
+    let program = at_root("target/bin").join(name);
+    assert!(
+        program.exists(),
+        "target/bin/{name} is missing: run `rt check {name}` first"
+    );
+    program
 }
 
 /// The folders and files in that folder.
@@ -108,6 +128,28 @@ pub fn without_rights(command: &Path, words: &[&str]) -> Command {
         .arg(command)
         .args(words);
     limited
+}
+
+/// The command as on a disk that takes so many bytes of a file. It keeps its folder, not its input and output.
+pub fn on_full_disk(command: &Command, bytes: usize) -> Command {
+    let mut limited = Command::new("bash");
+    let line = "trap '' XFSZ; limit=$0; exec prlimit --fsize=\"$limit\" \"$@\"";
+    limited
+        .args(["-c", line, &bytes.to_string()])
+        .arg(command.get_program())
+        .args(command.get_args());
+    if let Some(folder) = command.get_current_dir() {
+        limited.current_dir(folder);
+    }
+    limited
+}
+
+/// Runs the command on a terminal of its own. Each step is a pattern that is awaited, and then the keys to press.
+pub fn on_terminal(steps: &[&str], command: &Path) -> Command {
+    let mut terminal = Command::new("python3");
+    terminal.arg(at_root("rust/tests/on_terminal.py"));
+    terminal.args(steps).arg("--").arg(command);
+    terminal
 }
 
 /// Whether it comes true before the longest wait is over.

@@ -1,7 +1,7 @@
 //! Reports on a sound book: ones that must be accepted, and any others.
 
 use super::Rng;
-use crate::values::{Book, RUNNING};
+use crate::second::values::{Book, RUNNING};
 
 /// A report as (task, tick).
 pub type Report = (u32, u32);

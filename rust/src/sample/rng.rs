@@ -6,14 +6,7 @@ pub struct Rng {
     state: u64,
 }
 
-/// The seed from the environment variable SEED, else a fixed one; printed so
-/// that a failing run can be repeated.
-pub fn announced_seed(test: &str) -> u64 {
-    let seed = chosen_seed();
-    println!("{test}: SEED={seed}");
-    seed
-}
-
+/// The seed from the environment variable SEED, else a fixed one.
 pub(super) fn chosen_seed() -> u64 {
     let given = std::env::var("SEED").ok().and_then(|s| s.parse().ok());
     given.unwrap_or(DEFAULT_SEED)
@@ -22,6 +15,13 @@ pub(super) fn chosen_seed() -> u64 {
 impl Rng {
     pub fn new(seed: u64) -> Rng {
         Rng { state: seed }
+    }
+
+    /// From the chosen seed, which is printed so that a failing run can be repeated.
+    pub fn announced(test: &str) -> Rng {
+        let seed = chosen_seed();
+        println!("{test}: SEED={seed}");
+        Rng::new(seed)
     }
 
     pub fn number(&mut self) -> u64 {

@@ -1,8 +1,9 @@
 //! How many inputs two dispatchers agreed on, and which answers they gave.
 
+use super::lent::Lent;
 use super::rng::chosen_seed;
 use super::Rng;
-use crate::values::{refusal, Answer};
+use crate::second::values::{refusal, Answer};
 use std::io::Write;
 use std::time::Instant;
 
@@ -92,6 +93,43 @@ impl Tally {
         for &code in codes {
             assert!(self.by_code[code as usize] >= 200, "code {code} is rare");
         }
+    }
+}
+
+/// Writes what is printed of two texts into a lent buffer.
+type Writer = fn(&[u8], &[u8], &mut [u8]) -> usize;
+
+/// Pairs of texts, each printed by both dispatchers, and what was printed of them.
+pub struct Printed {
+    pub tally: Tally,
+    second: fn(&[u8], &[u8]) -> Vec<u8>,
+    proved: Writer,
+    out: Lent,
+}
+
+impl Printed {
+    /// The room is that which the proved side asks for.
+    pub fn new(
+        tally: Tally,
+        room: usize,
+        second: fn(&[u8], &[u8]) -> Vec<u8>,
+        proved: Writer,
+    ) -> Printed {
+        Printed {
+            tally,
+            second,
+            proved,
+            out: Lent::new(room + 100),
+        }
+    }
+
+    /// What is printed is the same, and the bytes behind it are left.
+    pub fn compare(&mut self, plan: &[u8], other: &[u8]) {
+        let wanted = (self.second)(plan, other);
+        self.out.expect(&wanted, &[plan, other], |out| {
+            (self.proved)(plan, other, out)
+        });
+        self.tally.count_printed(&wanted);
     }
 }
 

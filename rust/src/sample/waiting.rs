@@ -1,8 +1,8 @@
 //! Who waits for whom, pair by pair, as the request says it.
 
 use super::Rng;
-use crate::judge::clash;
-use crate::values::{Book, Plan, Rule};
+use crate::second::judge::clash;
+use crate::second::values::{Book, Plan, Rule};
 
 pub fn either_rule(rng: &mut Rng) -> Rule {
     rng.pick(&Rule::BOTH)

@@ -3,7 +3,9 @@
 use super::faults::{late_plan, sharing_plan};
 use super::waiting::either_rule;
 use super::Rng;
-use crate::values::{items, made_exclusive, Book, Plan, AFTER_PLACES, EDITION_2, HOLD_PLACES};
+use crate::second::values::{
+    items, made_exclusive, Book, Plan, AFTER_PLACES, EDITION_2, HOLD_PLACES,
+};
 
 /// A plan of random bytes, in some plans with sizes in range and empty places
 /// past the last task, so that the later checks are met too.

@@ -3,7 +3,7 @@
 use super::log_damage::any_log;
 use super::logs::{plan_of_a_log, school_log, school_times};
 use super::Rng;
-use crate::values::{Plan, Totals, LAST_TICK};
+use crate::second::values::{Plan, Totals, LAST_TICK};
 
 /// A plan and a log of it.
 pub type Folder = (Plan, Vec<u8>);

@@ -2,13 +2,13 @@ use Rattle.book.proofs.ReportLaws.{opening-refused, opening-granted}
 use Rattle.book.proofs.Fits.{fit-blank}
 use Rattle.book.proofs.LaidOut.{blank-plan, blank-rule, none-dropped, opened-laid}
 use Rattle.book.proofs.WaitLaws.{fit-seen, settled-seen}
-use Rattle.sound.proofs.WaitLaws.{known-is}
+use Rattle.book_sound.proofs.WaitLaws.{known-is}
 use Rattle.laws.proofs.Cases.{and-l}
-use Rattle.waits.specs.declared.Waits.{Waits}
+use Rattle.book_waits.specs.declared.Waits.{Waits}
 use Rattle.book.specs.Open.{blankBook}
 use Rattle.book.specs.View.{planIn}
 use Rattle.plan.specs.Value.{isAccepted}
-use Rattle.view.specs.View.{isRule}
+use Rattle.book_view.specs.View.{isRule}
 use Prim.Native.Nat.{ℕ}
 use mathlib.Core.Bool.{_&&_}
 use mathlib.Core.Logic.{⊎-elim}

@@ -12,8 +12,8 @@ use Rattle.laws.specs.private.Last.{lastOf}
 use Rattle.theory.specs.Plan.{Plan}
 use Rattle.theory.specs.Book.{Book, waiting, ended, isDropped}
 use Rattle.plan.specs.Value.{at}
-use Rattle.view.specs.View.{bookSeen, laid}
-use Rattle.book.specs.declared.Moved.{Moved}
+use Rattle.book_view.specs.View.{bookSeen, laid}
+use Rattle.book.specs.declared.StepArrays.{StepArrays}
 
 -- i waits for k, which is on the board
 abbrev pub waitsOn : Plan → (ℕ → ℕ) → ℕ → ℕ → ℕ → Bool
@@ -45,19 +45,19 @@ abbrev pub putEach : ℕ → (ℕ → Bool) → (ℕ → ℕ) → List ℕ → L
 putEach n pick v l = each n (λ i. cond (pick i) (v i) (at l i)) l
 
 -- one round of skipping among the first n tasks, and rounds one after the other
-unfoldable pub roundBy : List ℕ → List (List ℕ) → ℕ → ℕ → Moved → Moved
+unfoldable pub roundBy : List ℕ → List (List ℕ) → ℕ → ℕ → StepArrays → StepArrays
 roundBy dropped table clock n old = record {
   mark = putEach n (skipsByRow (old .mark) dropped table) (λ i. 2) (old .mark);
   start = putEach n (skipsByRow (old .mark) dropped table) (λ i. clock) (old .start);
   end = putEach n (skipsByRow (old .mark) dropped table) (λ i. clock) (old .end);
 }
 
-unfoldable pub roundsBy : ℕ → List ℕ → List (List ℕ) → ℕ → ℕ → Moved → Moved
+unfoldable pub roundsBy : ℕ → List ℕ → List (List ℕ) → ℕ → ℕ → StepArrays → StepArrays
 roundsBy zero dropped table clock n old = old
 roundsBy (suc k) dropped table clock n old = roundsBy k dropped table clock n (roundBy dropped table clock n old)
 
 -- whoever of the first n may go starts at the later of its ready tick and the clock
-unfoldable pub startsBy : (ℕ → ℕ) → List (List ℕ) → ℕ → ℕ → Moved → Moved
+unfoldable pub startsBy : (ℕ → ℕ) → List (List ℕ) → ℕ → ℕ → StepArrays → StepArrays
 startsBy ready table clock n old = record {
   mark = putEach n (goesByRow (old .mark) table) (λ i. 1) (old .mark);
   start = putEach n (goesByRow (old .mark) table) (λ i. max (ready i) clock) (old .start);
@@ -65,10 +65,10 @@ startsBy ready table clock n old = record {
 }
 
 -- these arrays as the theory sees them, and the theory's book in them
-abbrev pub seenAs : Moved → List ℕ → ℕ → Book
+abbrev pub seenAs : StepArrays → List ℕ → ℕ → Book
 seenAs moved dropped clock = bookSeen (moved .mark) (moved .start) (moved .end) dropped clock
 
-abbrev pub movedTo : ℕ → Book → Moved
+abbrev pub movedTo : ℕ → Book → StepArrays
 movedTo n book = record { mark = laid n (book .mark); start = laid n (book .start); end = laid n (book .end) }
 
 -- a row of the table, with the tasks below n looked at

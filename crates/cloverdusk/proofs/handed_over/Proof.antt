@@ -1,7 +1,7 @@
 use Prim.Native.Nat.{ℕ}
 use mathlib.Core.Path.{ap}
 use borrow.Author.Needs.{needs}
-use Rattle.cloverdusk.specs.declared.Asking.{Asking}
+use Rattle.cloverdusk.specs.declared.LengthsResult.{LengthsResult}
 use Rattle.cloverdusk.proofs.handed_over.Statement.{statement}
 use Rattle.cloverdusk.proofs.handed_over.Tie as tie
 
@@ -11,7 +11,7 @@ number-of-requires c κs = search needs
 returns : tie.Need-returns
 returns c =
     let asked = c .before .before .before .args .asked in
-    let by-rule : ℕ → Asking = λ n. record { answer = asked .answer; rule = n; given = asked .given } in
+    let by-rule : ℕ → LengthsResult = λ n. record { answer = asked .answer; rule = n; given = asked .given } in
     ap by-rule (c .number-of .ensures)
 
 pub handed-over-spec : {M : Type 1} → statement M

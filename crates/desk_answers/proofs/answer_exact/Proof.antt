@@ -17,7 +17,7 @@ put-exact-requires : tie.Need-put-exact-requires
 put-exact-requires c κs = search needs
 
 returns-2 : tie.Need-returns-2
-returns-2 c = exact-yes _ (c .before .before .before .before .before .before .exact-early .ensures) (c .before .before .before .if1 .left) (search needs) (c .put-exact .ensures)
+returns-2 c = exact-yes _ (c .before .before .before .before .before .exact-early .ensures) (c .before .before .if1 .left) (search needs) (c .put-exact .ensures)
 
 pub answer-exact-spec : {M : Type 1} → statement M
 answer-exact-spec =

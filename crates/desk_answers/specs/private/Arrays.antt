@@ -6,9 +6,9 @@ use lib.ListN.{length}
 use Rattle.text.specs.Bytes.{bytes}
 use Rattle.theory.specs.Book.{running}
 use Rattle.plan.specs.Value.{at}
-use Rattle.drive_sheet.specs.Sheet.{numbers}
-use Rattle.log_lines.specs.Lines.{numbersLine}
-use Rattle.log_lines.specs.private.Wrote.{Wrote}
+use Rattle.ask_sheet.specs.Sheet.{numbers}
+use Rattle.log_write.specs.Lines.{numbersLine}
+use Rattle.log_write.specs.private.Wrote.{Wrote}
 use Rattle.desk_answers.specs.Answers.{linesEach}
 
 -- a limit is a number that a line can say

@@ -1,7 +1,6 @@
 -- `take_line` meets its contract: each return by what the line asks.
-use native.Mathlib.Omega.{arith}
-use Rattle.desk_lines.proofs.ReadLaws.{refused-near}
-use Rattle.desk_turns.proofs.TurnLaws.{is-rule, is-early, is-exact, is-now, turn-end, turn-drop, turn-rule, turn-early, turn-exact, turn-now, turn-drive, turn-why, turn-refused}
+use Rattle.desk_read.proofs.ReadLaws.{step-near}
+use Rattle.desk_turns.proofs.TurnLaws.{is-rule, is-early, is-exact, is-now, turn-step, turn-rule, turn-early, turn-exact, turn-now, turn-drive, turn-why, near-short}
 use borrow.Author.Needs.{needs}
 use Rattle.desk_turns.proofs.take_line.Statement.{statement}
 use Rattle.desk_turns.proofs.take_line.Tie as tie
@@ -9,17 +8,11 @@ use Rattle.desk_turns.proofs.take_line.Tie as tie
 read-asked-requires : tie.Need-read-asked-requires
 read-asked-requires c κs = search needs
 
-enum-known-task : tie.Need-enum-known-task
-enum-known-task c = search needs
+enum-known-entry : tie.Need-enum-known-entry
+enum-known-entry c = search needs
 
-take-end-requires : tie.Need-take-end-requires
-take-end-requires c κs = search needs
-
-enum-known-task-2 : tie.Need-enum-known-task-2
-enum-known-task-2 c = search needs
-
-take-drop-requires : tie.Need-take-drop-requires
-take-drop-requires c κs = search needs
+take-entry-requires : tie.Need-take-entry-requires
+take-entry-requires c κs = near-short (c .before .before .entry .given .0 .0) (step-near _ _ (c .before .before .before .before .before .before .before .before .args .line .now) (c .before .before .before .before .read-asked .ensures) (c .before .before .entry .given .1))
 
 enum-told : tie.Need-enum-told
 enum-told c = search needs
@@ -63,8 +56,8 @@ answer-drive-requires c κs = search needs
 said-requires-4 : tie.Need-said-requires-4
 said-requires-4 c κs = search needs
 
-enum-known-task-3 : tie.Need-enum-known-task-3
-enum-known-task-3 c = search needs
+enum-known-task : tie.Need-enum-known-task
+enum-known-task c = search needs
 
 answer-why-requires : tie.Need-answer-why-requires
 answer-why-requires c κs = search needs
@@ -72,57 +65,34 @@ answer-why-requires c κs = search needs
 said-requires-5 : tie.Need-said-requires-5
 said-requires-5 c κs = search needs
 
-enum-known-code : tie.Need-enum-known-code
-enum-known-code c = search needs
-
-cast-refuse : tie.Need-cast-refuse
-cast-refuse c = let h = refused-near _ _ (c .before .before .before .before .before .before .before .args .line .now) (c .before .before .before .read-asked .ensures) (c .before .code .given .1) in record { fits = omega (arith, h) }
-
-refuse-requires : tie.Need-refuse-requires
-refuse-requires c κs = search needs
-
-answer-refused-requires : tie.Need-answer-refused-requires
-answer-refused-requires c κs = search needs
-
-said-requires-6 : tie.Need-said-requires-6
-said-requires-6 c κs = search needs
-
 returns : tie.Need-returns
-returns c = turn-end (c .before .before .before .before .before .before .before .before .before .args .morning) _ _ (c .before .before .before .before .before .before .before .before .before .args .line .now) (c .before .before .before .before .before .read-asked .ensures) (c .before .before .before .task .given .1) (c .take-end .ensures)
+returns c = turn-step (c .before .before .before .before .before .before .before .before .before .args .morning) _ _ (c .before .before .before .before .before .before .before .before .before .args .line .now) (c .before .before .before .before .before .read-asked .ensures) (c .before .before .before .entry .given .1) (c .take-entry .ensures)
 
 returns-2 : tie.Need-returns-2
-returns-2 c = turn-drop (c .before .before .before .before .before .before .before .before .before .args .morning) _ _ (c .before .before .before .before .before .before .before .before .before .args .line .now) (c .before .before .before .before .before .read-asked .ensures) (c .before .before .before .task2 .given .1) (c .take-drop .ensures)
+returns-2 c = turn-rule (c .before .before .before .before .before .before .before .before .args .morning) _ _ (c .before .before .before .before .before .before .before .before .args .line .now) (c .before .before .before .before .read-asked .ensures) (is-rule _ (c .before .before .before .match .keys2)) (c .take-rule .ensures)
 
 returns-3 : tie.Need-returns-3
-returns-3 c = turn-rule (c .before .before .before .before .before .before .before .before .args .morning) _ _ (c .before .before .before .before .before .before .before .before .args .line .now) (c .before .before .before .before .read-asked .ensures) (is-rule _ (c .before .before .before .match .keys3)) (c .take-rule .ensures)
+returns-3 c = turn-early (c .before .before .before .before .before .before .before .before .before .args .morning) _ _ (c .before .before .before .before .before .before .before .before .before .args .line .now) (c .before .before .before .before .before .read-asked .ensures) (c .said .ensures) (is-early _ (c .before .before .before .before .match .keys3)) (c .before .answer-early .ensures)
 
 returns-4 : tie.Need-returns-4
-returns-4 c = turn-early (c .before .before .before .before .before .before .before .before .before .args .morning) _ _ (c .before .before .before .before .before .before .before .before .before .args .line .now) (c .before .before .before .before .before .read-asked .ensures) (c .said .ensures) (is-early _ (c .before .before .before .before .match .keys4)) (c .before .answer-early .ensures)
+returns-4 c = turn-exact (c .before .before .before .before .before .before .before .before .before .args .morning) _ _ (c .before .before .before .before .before .before .before .before .before .args .line .now) (c .before .before .before .before .before .read-asked .ensures) (c .said2 .ensures) (is-exact _ (c .before .before .before .before .match .keys4)) (c .before .answer-exact .ensures)
 
 returns-5 : tie.Need-returns-5
-returns-5 c = turn-exact (c .before .before .before .before .before .before .before .before .before .args .morning) _ _ (c .before .before .before .before .before .before .before .before .before .args .line .now) (c .before .before .before .before .before .read-asked .ensures) (c .said2 .ensures) (is-exact _ (c .before .before .before .before .match .keys5)) (c .before .answer-exact .ensures)
+returns-5 c = turn-now (c .before .before .before .before .before .before .before .before .before .args .morning) _ _ (c .before .before .before .before .before .before .before .before .before .args .line .now) (c .before .before .before .before .before .read-asked .ensures) (c .said3 .ensures) (is-now _ (c .before .before .before .before .match .keys5)) (c .before .answer-now .ensures)
 
 returns-6 : tie.Need-returns-6
-returns-6 c = turn-now (c .before .before .before .before .before .before .before .before .before .args .morning) _ _ (c .before .before .before .before .before .before .before .before .before .args .line .now) (c .before .before .before .before .before .read-asked .ensures) (c .said3 .ensures) (is-now _ (c .before .before .before .before .match .keys6)) (c .before .answer-now .ensures)
+returns-6 c = turn-drive (c .before .before .before .before .before .before .before .before .before .before .args .morning) _ _ (c .before .before .before .before .before .before .before .before .before .before .args .line .now) (c .before .before .before .before .before .before .read-asked .ensures) (c .said4 .ensures) (c .before .before .before .before .drive .given .1) (c .before .answer-drive .ensures)
 
 returns-7 : tie.Need-returns-7
-returns-7 c = turn-drive (c .before .before .before .before .before .before .before .before .before .before .args .morning) _ _ (c .before .before .before .before .before .before .before .before .before .before .args .line .now) (c .before .before .before .before .before .before .read-asked .ensures) (c .said4 .ensures) (c .before .before .before .before .drive .given .1) (c .before .answer-drive .ensures)
-
-returns-8 : tie.Need-returns-8
-returns-8 c = turn-why (c .before .before .before .before .before .before .before .before .before .before .args .morning) _ _ (c .before .before .before .before .before .before .before .before .before .before .args .line .now) (c .before .before .before .before .before .before .read-asked .ensures) (c .said5 .ensures) (c .before .before .before .before .task3 .given .1) (c .before .answer-why .ensures)
-
-returns-9 : tie.Need-returns-9
-returns-9 c = turn-refused (c .before .before .before .before .before .before .before .before .before .before .before .args .morning) _ _ (c .before .before .before .before .before .before .before .before .before .before .before .args .line .now) (c .before .before .before .before .before .before .before .read-asked .ensures) (c .said6 .ensures) (c .before .before .before .before .before .code .given .1) (c .before .before .before .refuse .ensures) (c .before .answer-refused .ensures)
+returns-7 c = turn-why (c .before .before .before .before .before .before .before .before .before .before .args .morning) _ _ (c .before .before .before .before .before .before .before .before .before .before .args .line .now) (c .before .before .before .before .before .before .read-asked .ensures) (c .said5 .ensures) (c .before .before .before .before .task .given .1) (c .before .answer-why .ensures)
 
 pub take-line-spec : {M : Type 1} → statement M
 take-line-spec =
     tie.close
     (tie.spec
     read-asked-requires
-    enum-known-task
-    take-end-requires
-    enum-known-task-2
-    take-drop-requires
+    enum-known-entry
+    take-entry-requires
     enum-told
     take-rule-requires
     enum-told-2
@@ -137,20 +107,13 @@ take-line-spec =
     enum-known-drive
     answer-drive-requires
     said-requires-4
-    enum-known-task-3
+    enum-known-task
     answer-why-requires
     said-requires-5
-    enum-known-code
-    cast-refuse
-    refuse-requires
-    answer-refused-requires
-    said-requires-6
     returns
     returns-2
     returns-3
     returns-4
     returns-5
     returns-6
-    returns-7
-    returns-8
-    returns-9)
+    returns-7)

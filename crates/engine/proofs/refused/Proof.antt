@@ -1,4 +1,4 @@
-use Rattle.view.proofs.Laid.{zeros-laid}
+use Rattle.book_view.proofs.Laid.{zeros-laid}
 use Rattle.engine.proofs.refused.Statement.{statement}
 use Rattle.engine.proofs.refused.Tie as tie
 

@@ -8,10 +8,10 @@ use lib.Bits.{bitAnd}
 use lib.Dec.{eqb}
 use Rattle.laws.specs.Bits.{has}
 use Rattle.theory.specs.Plan as theory-plan
-use Rattle.times.specs.Times.{startTime, endTime}
-use Rattle.times.specs.words.Lines.{TwoLines}
+use Rattle.theory.specs.Times.{startTime, endTime}
+use Rattle.theory.specs.words.Lines.{TwoLines}
 use Rattle.plan.specs.Value.{at}
-use Rattle.view.specs.View.{planSeen}
+use Rattle.book_view.specs.View.{planSeen}
 
 -- a timetable looks at no planned time
 abbrev pub planTimed : ℕ → List ℕ → List ℕ → theory-plan.Plan

@@ -4,7 +4,7 @@ use mathlib.Core.Path.{_≡_}
 use mathlib.Core.Bool.{Bool, true}
 use mathlib.Core.List.{List}
 use Rattle.laws.specs.Lists.{allOf}
-use Rattle.lists.specs.Items.{between, driveOf}
+use Rattle.text_fields.specs.Items.{between, driveOf}
 use Rattle.plan.specs.Value.{row, items}
 
 -- a hold whose drive is one of the 32

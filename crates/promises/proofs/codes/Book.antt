@@ -22,7 +22,7 @@ use Rattle.book.specs.Report.{codeOf, reportAnswer, reportedOf}
 use Rattle.book.specs.Drop.{dropCodeOf, dropAnswer, droppedOf}
 use Rattle.book.specs.Early.{figureOf}
 use Rattle.book.specs.declared.Book.{Book}
-use Rattle.book.specs.declared.Handed.{Handed}
+use Rattle.book.specs.declared.BookResult.{BookResult}
 use Rattle.book.specs.declared.Rule.{Rule}
 use Rattle.book.specs.declared.Figure.{Figure}
 use Rattle.book.proofs.Sizes.{sized-laid, sized-opened}
@@ -40,14 +40,14 @@ opening-says plan rule =
 pub opening-code : (plan : Plan) (rule : Rule) → (openingOf plan rule .answer .code ≡ 0) ⊎ (openingOf plan rule .answer .code ≡ 9)
 opening-code plan rule = go (openingOf plan rule) (opening-says plan rule)
   where
-    go : (r : Handed) → OpeningSays plan rule r → (r .answer .code ≡ 0) ⊎ (r .answer .code ≡ 9)
+    go : (r : BookResult) → OpeningSays plan rule r → (r .answer .code ≡ 0) ⊎ (r .answer .code ≡ 9)
     go r (OpeningSays.opened h e) = inl (rw e)
     go r (OpeningSays.refused h e) = inr (rw e)
 
 pub opening-sized : (plan : Plan) (rule : Rule) → SizedPlan plan → Sized (openingOf plan rule .book)
 opening-sized plan rule s = go (openingOf plan rule) (opening-says plan rule)
   where
-    go : (r : Handed) → OpeningSays plan rule r → Sized (r .book)
+    go : (r : BookResult) → OpeningSays plan rule r → Sized (r .book)
     go r (OpeningSays.opened h e) = rw e (sized-opened plan rule s)
     go r (OpeningSays.refused h e) = rw e (sized-laid 0 zeroPlan blank zero-sized)
 
@@ -107,14 +107,14 @@ pub report-code :
     ⊎ ((9 ≤ reportedOf book task tick .answer .code) × (reportedOf book task tick .answer .code ≤ 15))
 report-code book task tick = go (reportedOf book task tick) (report-says book task tick)
   where
-    go : (r : Handed) → ReportSays book task tick r → (r .answer .code ≡ 0) ⊎ ((9 ≤ r .answer .code) × (r .answer .code ≤ 15))
+    go : (r : BookResult) → ReportSays book task tick r → (r .answer .code ≡ 0) ⊎ ((9 ≤ r .answer .code) × (r .answer .code ≤ 15))
     go r (ReportSays.taken h e) = inl (rw e)
     go r (ReportSays.unsound h e) = inr (rw e (omega arith, omega arith))
     go r (ReportSays.refused code h a b e) = inr (rw e (omega arith, b))
 
 pub reported-sized : (book : Book) (task tick : ℕ) → Sized book → Sized (reportedOf book task tick .book)
 reported-sized book task tick s =
-    by-bool (isSound book) (λ h. event-sized book h (Event.ends task tick) s) (λ h. subst (λ (x : Handed). Sized (x .book)) (sym (unsound-report book task tick h)) s)
+    by-bool (isSound book) (λ h. event-sized book h (Event.ends task tick) s) (λ h. subst (λ (x : BookResult). Sized (x .book)) (sym (unsound-report book task tick h)) s)
 
 -- a report is accepted where none of its codes applies
 module _ (book : Book) (task tick : ℕ) where
@@ -184,7 +184,7 @@ pub drop-code :
 drop-code book task = go (droppedOf book task) (drop-says book task)
   where
     go :
-        (r : Handed) → DropSays book task r
+        (r : BookResult) → DropSays book task r
         → (r .answer .code ≡ 0) ⊎ ((r .answer .code ≡ 9) ⊎ ((r .answer .code ≡ 10) ⊎ (r .answer .code ≡ 19)))
     go r (DropSays.taken h e) = inl (rw e)
     go r (DropSays.unsound h e) = inr (inl (rw e))
@@ -192,7 +192,7 @@ drop-code book task = go (droppedOf book task) (drop-says book task)
 
 pub dropped-sized : (book : Book) (task : ℕ) → Sized book → Sized (droppedOf book task .book)
 dropped-sized book task s =
-    by-bool (isSound book) (λ h. event-sized book h (Event.drops task) s) (λ h. subst (λ (x : Handed). Sized (x .book)) (sym (unsound-drop book task h)) s)
+    by-bool (isSound book) (λ h. event-sized book h (Event.drops task) s) (λ h. subst (λ (x : BookResult). Sized (x .book)) (sym (unsound-drop book task h)) s)
 
 -- a drop is accepted where none of its codes applies
 module _ (book : Book) (task : ℕ) where

@@ -8,7 +8,7 @@ use lib.Dec.{eqb, ltb}
 use borrow.Author.Tests.{eq-eqb, ne-eqb, eqb-true, eqb-false, lt-ltb, ltb-true, not-true}
 use Rattle.laws.specs.Lists.{anyOf}
 use Rattle.laws.proofs.Cases.{and-l, and-r, and-of, or-at, or-l, or-r, true-false}
-use Rattle.lists.specs.Items.{driveOf, isShared}
+use Rattle.text_fields.specs.Items.{driveOf, isShared}
 use Rattle.plan.specs.Task.{Task}
 use Rattle.plan.specs.Pairs.{overlap, sameBoard, holdsClash, clashByDrive, isListed, clash, breaksAfter, pairCode}
 use Rattle.promises.specs.Ladder.{Ladder}

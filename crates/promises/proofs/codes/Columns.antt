@@ -13,9 +13,9 @@ use Rattle.laws.specs.Lists.{anyOf, same}
 use Rattle.laws.specs.Split.{indexOf}
 use Rattle.laws.proofs.Split.{index-found, index-first, skip-down, skip-beyond}
 use Rattle.text.specs.Line.{TAB, fields, field}
-use Rattle.line_faults.specs.Faults.{codeFor, wordCode, endCode, worst, columnOf}
-use Rattle.line_faults.proofs.Alike.{Plain}
-use Rattle.line_faults.proofs.FaultLaws.{any-found}
+use Rattle.text_fields.specs.Faults.{codeFor, wordCode, endCode, worst, columnOf}
+use Rattle.text_fields.proofs.Alike.{Plain}
+use Rattle.text_fields.proofs.FaultLaws.{any-found}
 use Rattle.plan.specs.Value.{at}
 use Rattle.promises.specs.Columns.{Names, ColumnSays, beginsAt}
 use Rattle.promises.specs.Says.{LineCode}

@@ -8,7 +8,7 @@ use mathlib.Core.Logic.{_≢_, _⊎_, inl, inr, ⊎-elim}
 use lib.Dec.{eqb}
 use borrow.Author.Tests.{eq-eqb, ne-eqb}
 use Rattle.laws.proofs.Cases.{by-bool, by-eq, and-of}
-use Rattle.lists.specs.Items.{exclusive}
+use Rattle.text_fields.specs.Items.{exclusive}
 use Rattle.plan.specs.Answer.{refuse, granted, isGranted}
 use Rattle.plan.specs.Task.{Task, exclusiveTask}
 use Rattle.plan.specs.Pairs.{overlap, sameBoard, clashByDrive, breaksAfter, pairCode, firstFault}

@@ -6,7 +6,7 @@ use mathlib.Core.Path.{_≡_, refl, sym, ap, subst, _∙_}
 use mathlib.Core.Logic.{_⊎_, ⊎-elim}
 use lib.Dec.{eqb, leb}
 use Rattle.laws.proofs.Cases.{by-bool, and-l}
-use Rattle.lists.specs.Items.{exclusive}
+use Rattle.text_fields.specs.Items.{exclusive}
 use Rattle.theory.specs.Plan as theory-plan
 use Rattle.theory.specs.Book as theory-book
 use Rattle.theory.specs.words.Events.{Event}
@@ -21,10 +21,10 @@ use Rattle.plan.specs.Convert.{exclusivePlan, convertedOf}
 use Rattle.plan.specs.declared.Plan.{Plan}
 use Rattle.plan.proofs.Judged.{accepted-ranges}
 use Rattle.plan.proofs.Converted.{exclusive-task, converted-may, converted-plan, converted-accepted}
-use Rattle.view.specs.View.{planFor}
+use Rattle.book_view.specs.View.{planFor}
 use Rattle.book.specs.View.{planIn, planView, bookView, layOut}
 use Rattle.book.specs.Sound.{isSound}
-use Rattle.sound.specs.Sound.{soundOn}
+use Rattle.book_sound.specs.Sound.{soundOn}
 use Rattle.book.specs.Open.{ruleNumber, openedOn}
 use Rattle.book.specs.Report.{codeOf, reportAnswer, nextBook, reportedOf}
 use Rattle.book.specs.Drop.{dropCodeOf, dropAnswer, droppedIn, droppedOf}

@@ -11,7 +11,7 @@ use Rattle.laws.proofs.Cases.{by-eq}
 use Rattle.laws.specs.Split.{after}
 use Rattle.laws.specs.Lists.{same}
 use Rattle.text.specs.Bytes.{bytes}
-use Rattle.text.specs.Line.{LF, lineAt, field}
+use Rattle.text.specs.Line.{LF, lineAt, field, linesBelow}
 use Rattle.theory.specs.words.Events.{Event}
 use Rattle.plan.specs.Answer.{granted, isGranted}
 use Rattle.plan.specs.Value.{isAccepted, taskAt}
@@ -23,7 +23,7 @@ use Rattle.plan.specs.declared.Plan.{Plan}
 use Rattle.plan.specs.declared.Reading.{Reading}
 use Rattle.plan.proofs.ReadOk.{read-answer, read-accepted, read-sized}
 use Rattle.plan.proofs.Converted.{exclusive-sized, converted-plan, converted-accepted}
-use Rattle.round_trips.proofs.RoundPlan.{plan-back}
+use Rattle.plan.proofs.RoundPlan.{plan-back}
 use Rattle.book.specs.View.{layOut}
 use Rattle.book.specs.Open.{ruleNumber, blankBook, openedOn}
 use Rattle.book.specs.Early.{figureOf}
@@ -33,17 +33,17 @@ use Rattle.book.specs.declared.Book.{Book}
 use Rattle.book.specs.declared.Figure.{Figure}
 use Rattle.book.specs.declared.Rule.{Rule}
 use Rattle.book.specs.declared.Rule.the-variants.{EarlyStart, Clash}
-use Rattle.entries.specs.Entries.{entryCode, nextEntry}
-use Rattle.entries.specs.declared.Entry.{Entry}
-use Rattle.entries.specs.declared.Entry.the-variants.{End, Drop, Refused}
-use Rattle.entries.specs.Rules.{choiceOf}
-use Rattle.entries.specs.declared.Choice.{Choice}
-use Rattle.entries.specs.declared.Choice.the-variants.{Unsaid, Chosen, Malformed}
-use Rattle.log_lines.specs.Lines.{refusedLine}
+use Rattle.log_read.specs.Entries.{entryCode, nextEntry}
+use Rattle.log_read.specs.declared.Entry.{Entry}
+use Rattle.log_read.specs.declared.Entry.the-variants.{End, Drop, Refused}
+use Rattle.log_read.specs.Rules.{choiceOf}
+use Rattle.log_read.specs.declared.Choice.{Choice}
+use Rattle.log_read.specs.declared.Choice.the-variants.{Unsaid, Chosen, Malformed}
+use Rattle.log_write.specs.Lines.{refusedLine}
 use Rattle.log.specs.Lines.{runLine, endLine, startLines, hasStarted, startLine, earlyLine}
 use Rattle.log.specs.Log.{shownAfter, openLog, toldOf, linesOf, toldLog, endsLog, restLog, chosenLog, logOf}
-use Rattle.log.specs.declared.Shown.{Shown}
-use Rattle.converter.specs.Renewed.{renewedText}
+use Rattle.log.specs.declared.StepOutcome.{StepOutcome}
+use Rattle.plan_convert.specs.Renewed.{renewedText}
 use Rattle.promises.specs.Conversion.{Unshared, exclusiveBook}
 use Rattle.promises.proofs.RunView.{Good, good-event, opened-good, opened-is}
 use Rattle.promises.proofs.codes.ConvertedBook.{SameWaits, BothWays, early-waits, unshared-waits, answer-same, told-same, figure-same, both-told, on-same, both-opened}
@@ -51,7 +51,7 @@ use Rattle.promises.proofs.codes.ConvertedBook.{SameWaits, BothWays, ea
 -- ---- the lines of a book look at neither its plan's edition nor its holds
 
 starts-same : (old new : Book) (n : ℕ) → startLines (exclusiveBook old) (exclusiveBook new) n ≡ startLines old new n
-unfolding startLines
+unfolding linesBelow
 starts-same old new zero = refl
 starts-same old new (suc n) = ap (λ (l : List ℕ). l ++ cond (hasStarted old new n) (startLine new n) []) (starts-same old new n)
 
@@ -61,10 +61,10 @@ lines-same book (Drop task) told = refl
 lines-same book (Refused code column) told = refl
 
 -- what is shown, on the converted plan
-abbrev exclusiveShown : Shown → Shown
+abbrev exclusiveShown : StepOutcome → StepOutcome
 exclusiveShown shown = record { answer = shown .answer; book = exclusiveBook (shown .book); early = shown .early }
 
-told-log-same : (book : Book) (entry : Entry) (told : Shown) → toldLog (exclusiveBook book) entry (exclusiveShown told) ≡ toldLog book entry told
+told-log-same : (book : Book) (entry : Entry) (told : StepOutcome) → toldLog (exclusiveBook book) entry (exclusiveShown told) ≡ toldLog book entry told
 unfolding toldLog
 told-log-same book entry told =
     ap (λ (l : List ℕ). cond (isGranted (told .answer)) (l ++ earlyLine told) (refusedLine (told .answer))) (lines-same book entry (told .book))

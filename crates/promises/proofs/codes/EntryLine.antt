@@ -1,44 +1,44 @@
 -- What a line of ends.txt says, and the column that a refused one names.
 use Prim.Native.Nat.{ℕ, zero, suc, _≤_, _<_}
-use mathlib.Core.Path.{_≡_, refl, sym, _∙_}
+use mathlib.Core.Path.{_≡_, refl, sym, ap, _∙_}
 use mathlib.Core.Logic.{_≢_, inl}
 use mathlib.Core.Bool.{Bool, true, false}
 use mathlib.Core.List.{List, [], _∷_}
 use native.Mathlib.Omega.{arith}
 use lib.ListN.{length}
-use borrow.Author.Tests.{eq-eqb, ne-eqb}
+use borrow.Author.Tests.{eq-eqb}
 use Rattle.laws.proofs.Cases.{by-bool, by-eq, by-le, and-of, true-false}
 use Rattle.laws.specs.Lists.{allOf, same}
 use Rattle.laws.specs.Split.{before}
 use Rattle.text.specs.Bytes.{bytes}
 use Rattle.text.specs.Number.{isNumber, valueOf, most, numberOf}
 use Rattle.text.specs.Line.{LF, hasLine, fields, field}
-use Rattle.line_faults.specs.Faults.{wordCode, worst, columnOf, faultOf}
+use Rattle.text_fields.specs.Faults.{wordCode, fieldCodes, worst, columnOf}
 use Rattle.plan.specs.Value.{at}
-use Rattle.entries.specs.Entries.{endCodes, dropCodes, unlessFault, entryOf, nextEntry}
-use Rattle.entries.specs.declared.Entry.{Entry}
+use Rattle.log_read.specs.Entries.{endCodes, dropCodes, entryOf, nextEntry}
+use Rattle.log_read.specs.declared.Entry.the-variants.{End, Drop, Refused}
 use Rattle.promises.specs.Columns.{ColumnSays}
 use Rattle.promises.specs.Says.{entryAnswer, EntrySays}
-use Rattle.plan.specs.Answer.{refuse}
-use Rattle.line_faults.proofs.FaultLaws.{field-is-code, word-is-code, end-is-code, faultless-is, zero-at, word-zero, end-zero}
-use Rattle.line_faults.proofs.RangedLaws.{field-zero}
+use Rattle.text_fields.proofs.FaultLaws.{field-is-code, word-is-code, end-is-code, faultless-is, zero-at, word-zero, end-zero}
+use Rattle.text_fields.proofs.UnlessLaws.{fault-none, fault-some}
+use Rattle.text_fields.proofs.RangedLaws.{field-zero}
 use Rattle.text.proofs.Numerals.{number-spelt}
 use Rattle.laws.proofs.Seams.{places-own}
 use Rattle.laws.proofs.Lists.{same-eq}
 use Rattle.laws.specs.Digits.{digitsOf}
-use Rattle.line_faults.proofs.Alike.{Plain, field-plain}
+use Rattle.text_fields.proofs.Alike.{Plain, field-plain}
 use Rattle.promises.proofs.codes.Columns.{word-plain, end-plain, worst-plain, column-says, no-field}
 
 module _ (line : List ℕ) (ended : Bool) where
   end-missing : (n : ℕ) → n < 3 → length (fields line) ≤ n → at (endCodes ended line) n ≡ 3
-  unfolding endCodes wordCode same numberOf isNumber
+  unfolding endCodes fieldCodes wordCode same numberOf isNumber
   end-missing zero h few = rw (no-field line 0 few)
   end-missing (suc zero) h few = rw (no-field line 1 few)
   end-missing (suc (suc zero)) h few = rw (no-field line 2 few)
   end-missing (suc (suc (suc n))) h few = absurd (omega arith)
 
   end-plain-at : (n : ℕ) → Plain (at (endCodes ended line) n)
-  unfolding endCodes
+  unfolding endCodes fieldCodes
   end-plain-at zero = word-plain _ _
   end-plain-at (suc zero) = field-plain _ _ _
   end-plain-at (suc (suc zero)) = field-plain _ _ _
@@ -46,36 +46,25 @@ module _ (line : List ℕ) (ended : Bool) where
   end-plain-at (suc (suc (suc (suc n)))) = inl refl
 
   end-column : worst (endCodes ended line) ≢ 0 → ColumnSays 3 ended line (endCodes ended line) (worst (endCodes ended line)) (columnOf line (endCodes ended line) (worst (endCodes ended line)))
-  unfolding endCodes
+  unfolding endCodes fieldCodes
   end-column = column-says 3 ended line (endCodes ended line) refl refl end-missing
 
   drop-missing : (n : ℕ) → n < 2 → length (fields line) ≤ n → at (dropCodes ended line) n ≡ 3
-  unfolding dropCodes wordCode same numberOf isNumber
+  unfolding dropCodes fieldCodes wordCode same numberOf isNumber
   drop-missing zero h few = rw (no-field line 0 few)
   drop-missing (suc zero) h few = rw (no-field line 1 few)
   drop-missing (suc (suc n)) h few = absurd (omega arith)
 
   drop-plain-at : (n : ℕ) → Plain (at (dropCodes ended line) n)
-  unfolding dropCodes
+  unfolding dropCodes fieldCodes
   drop-plain-at zero = word-plain _ _
   drop-plain-at (suc zero) = field-plain _ _ _
   drop-plain-at (suc (suc zero)) = end-plain ended 2 line
   drop-plain-at (suc (suc (suc n))) = inl refl
 
   drop-column : worst (dropCodes ended line) ≢ 0 → ColumnSays 2 ended line (dropCodes ended line) (worst (dropCodes ended line)) (columnOf line (dropCodes ended line) (worst (dropCodes ended line)))
-  unfolding dropCodes
+  unfolding dropCodes fieldCodes
   drop-column = column-says 2 ended line (dropCodes ended line) refl refl drop-missing
-
--- the answer of an entry is that of its line
-fault-answer :
-    (n : ℕ) (line codes : List ℕ) (entry : Entry) → worst codes ≢ 0
-    → entryAnswer n (unlessFault (faultOf line codes) entry) ≡ refuse (worst codes) n (columnOf line codes (worst codes))
-unfolding faultOf
-fault-answer n line codes entry d = rw (ne-eqb (worst codes) 0 d)
-
-fault-none : (line codes : List ℕ) (entry : Entry) → worst codes ≡ 0 → unlessFault (faultOf line codes) entry ≡ entry
-unfolding faultOf
-fault-none line codes entry z = rw (eq-eqb (worst codes) 0 z)
 
 -- a faultless line is its word and its numbers
 module _ (line : List ℕ) (ended : Bool) where
@@ -92,7 +81,7 @@ module _ (line : List ℕ) (ended : Bool) where
       → (ended ≡ true)
       × (fields line ≡ bytes "end" ∷ digitsOf (valueOf (field line 1)) ∷ digitsOf (valueOf (field line 2)) ∷ [])
       × (valueOf (field line 1) ≤ most) × (valueOf (field line 2) ≤ most)
-  unfolding endCodes allOf
+  unfolding endCodes fieldCodes allOf
   end-spelt z =
       let kinds =
       and-of (word-is-code (bytes "end") (field line 0))
@@ -110,7 +99,7 @@ module _ (line : List ℕ) (ended : Bool) where
   drop-spelt :
       worst (dropCodes ended line) ≡ 0
       → (ended ≡ true) × (fields line ≡ bytes "drop" ∷ digitsOf (valueOf (field line 1)) ∷ []) × (valueOf (field line 1) ≤ most)
-  unfolding dropCodes allOf
+  unfolding dropCodes fieldCodes allOf
   drop-spelt z =
       let kinds =
       and-of (word-is-code (bytes "drop") (field line 0)) (and-of (field-is-code 0 most (field line 1)) (and-of (end-is-code ended 2 line) refl)) in
@@ -130,9 +119,9 @@ entry-says n text =
     by-bool (same (field line 0) (bytes "drop"))
     (λ d.
     by-eq (worst (dropCodes ended line)) 0
-    (λ z. let s = drop-spelt line ended z in EntrySays.a-drop _ (s .2) (s .0) (s .1) (rw d (fault-none line (dropCodes ended line) _ z)))
-    (λ f. EntrySays.refused-drop _ _ d (worst-plain (dropCodes ended line) (drop-plain-at line ended) f) (drop-column line ended f) (rw d (fault-answer n line (dropCodes ended line) _ f))))
+    (λ z. let s = drop-spelt line ended z in EntrySays.a-drop _ (s .2) (s .0) (s .1) (rw d (fault-none line (dropCodes ended line) Refused _ z)))
+    (λ f. EntrySays.refused-drop _ _ d (worst-plain (dropCodes ended line) (drop-plain-at line ended) f) (drop-column line ended f) (rw d (ap (entryAnswer n) (fault-some line (dropCodes ended line) Refused (Drop (valueOf (field line 1))) f)))))
     (λ d.
     by-eq (worst (endCodes ended line)) 0
-    (λ z. let s = end-spelt line ended z in EntrySays.an-end _ _ (s .2) (s .3) (s .0) (s .1) (rw d (fault-none line (endCodes ended line) _ z)))
-    (λ f. EntrySays.refused-end _ _ d (worst-plain (endCodes ended line) (end-plain-at line ended) f) (end-column line ended f) (rw d (fault-answer n line (endCodes ended line) _ f))))
+    (λ z. let s = end-spelt line ended z in EntrySays.an-end _ _ (s .2) (s .3) (s .0) (s .1) (rw d (fault-none line (endCodes ended line) Refused _ z)))
+    (λ f. EntrySays.refused-end _ _ d (worst-plain (endCodes ended line) (end-plain-at line ended) f) (end-column line ended f) (rw d (ap (entryAnswer n) (fault-some line (endCodes ended line) Refused (End (valueOf (field line 1)) (valueOf (field line 2))) f)))))

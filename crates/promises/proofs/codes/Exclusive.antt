@@ -3,8 +3,8 @@ use Prim.Native.Nat.{ℕ}
 use mathlib.Core.Bool.{false}
 use mathlib.Core.List.{List, [], _∷_, map}
 use mathlib.Core.Path.{_≡_, refl}
-use Rattle.lists.specs.Items.{driveOf, hasShared, exclusive}
-use Rattle.lists.proofs.Shared.{exclusive-drive, none-shared, unshared-own}
+use Rattle.text_fields.specs.Items.{driveOf, hasShared, exclusive}
+use Rattle.text_fields.proofs.Shared.{exclusive-drive, none-shared, unshared-own}
 use Rattle.plan.specs.Task.{Task, exclusiveTask}
 use Rattle.promises.specs.Conversion.{SameExclusive}
 

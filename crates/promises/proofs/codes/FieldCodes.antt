@@ -7,8 +7,8 @@ use mathlib.Core.Bool.{Bool, true, false, cond, _&&_}
 use lib.Dec.{eqb, leb}
 use borrow.Author.Tests.{le-leb, lt-leb}
 use Rattle.laws.proofs.Cases.{by-bool, by-le, and-of, true-false}
-use Rattle.lists.specs.Items.{between}
-use Rattle.line_faults.specs.Faults.{codeFor}
+use Rattle.text_fields.specs.Items.{between}
+use Rattle.text_fields.specs.Faults.{codeFor}
 
 -- with one more number, for a field that is faultless otherwise
 abbrev pub over : ℕ → Bool → Bool → Bool → ℕ

@@ -4,7 +4,7 @@ use mathlib.Core.Bool.{true, false}
 use mathlib.Core.Path.{_≡_, _∙_}
 use mathlib.Core.Logic.{_⊎_, inl, inr, ⊎-elim}
 use Rattle.laws.proofs.Cases.{by-bool, by-eq, and-l, and-r}
-use Rattle.lists.specs.Items.{between}
+use Rattle.text_fields.specs.Items.{between}
 use Rattle.plan.specs.Answer.{refuse, granted}
 use Rattle.plan.specs.Pairs.{firstFault}
 use Rattle.plan.specs.Judged.{beginsAtZero, tasksAnswer}

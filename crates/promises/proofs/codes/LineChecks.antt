@@ -13,8 +13,8 @@ use Rattle.laws.proofs.Cases.{by-bool, by-le, and-l, and-r, and-of, true-false}
 use Rattle.text.specs.Bytes.{bytes}
 use Rattle.text.specs.Line.{fields, field}
 use Rattle.text.specs.Number.{most}
-use Rattle.lists.specs.Items.{between, listOf, holdOf, hasShared, holdsOk}
-use Rattle.line_faults.specs.Faults.{codeFor, worst}
+use Rattle.text_fields.specs.Items.{between, listOf, holdOf, hasShared, holdsOk}
+use Rattle.text_fields.specs.Faults.{codeFor, worst}
 use Rattle.plan.specs.Value.{at}
 use Rattle.plan.specs.Read.{editionOf, boardsOf}
 use Rattle.promises.specs.Says.{codesOf}

@@ -14,10 +14,10 @@ use Rattle.laws.proofs.Split.{index-found, index-first}
 use Rattle.text.specs.Bytes.{bytes}
 use Rattle.text.specs.Line.{hasLine, skip, lineAt, fields, field}
 use Rattle.text.specs.Number.{isNumber, valueOf, most}
-use Rattle.lists.specs.Items.{between, isList, listOf, isHold, holdOf, hasShared, holdsOk, afterOk}
-use Rattle.line_faults.specs.Faults.{codeFor, wordCode, endCode}
-use Rattle.line_faults.proofs.FaultLaws.{any-found}
-use Rattle.line_faults.proofs.RangedLaws.{field-code}
+use Rattle.text_fields.specs.Items.{between, isList, listOf, isHold, holdOf, hasShared, holdsOk, afterOk}
+use Rattle.text_fields.specs.Faults.{codeFor, wordCode, endCode}
+use Rattle.text_fields.proofs.FaultLaws.{any-found}
+use Rattle.text_fields.proofs.RangedLaws.{field-code}
 use Rattle.plan.specs.Value.{at}
 use Rattle.plan.specs.Read.{editionOf, boardsOf, tasksOf, holdsCode, codesFrom, readyCode, taskCodes}
 use Rattle.promises.specs.Says.{codesOf}

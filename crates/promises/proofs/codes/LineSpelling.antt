@@ -14,8 +14,8 @@ use Rattle.laws.proofs.Lists.{same-refl, same-eq}
 use Rattle.text.specs.Bytes.{bytes}
 use Rattle.text.specs.Line.{fields, field}
 use Rattle.text.specs.Number.{most}
-use Rattle.lists.specs.Items.{between, holdsOk}
-use Rattle.line_faults.specs.Faults.{codeFor}
+use Rattle.text_fields.specs.Items.{between, holdsOk}
+use Rattle.text_fields.specs.Faults.{codeFor}
 use Rattle.plan.specs.Value.{at}
 use Rattle.plan.specs.Read.{editionOf, boardsOf, tasksOf}
 use Rattle.promises.specs.Checks.{Misspelt}

@@ -11,7 +11,7 @@ use borrow.Author.Tests.{eq-eqb, lt-leb, le-leb}
 use Rattle.laws.proofs.Cases.{by-bool, by-le, and-no, true-false}
 use Rattle.laws.proofs.Scan.{scan-same}
 use Rattle.text.specs.Number.{isNumber, valueOf}
-use Rattle.lists.specs.Items.{hasShared, listOf, holdOf}
+use Rattle.text_fields.specs.Items.{hasShared, listOf, holdOf}
 use Rattle.text.specs.Line.{hasLine, lineAt, field}
 use Rattle.plan.specs.Answer.{granted, isRefused}
 use Rattle.plan.specs.Task.{exclusiveTask}

@@ -15,7 +15,7 @@ use Rattle.laws.proofs.Scan.{Found, Nothing, scan-cases}
 use Rattle.text.specs.Bytes.{bytes}
 use Rattle.text.specs.Line.{hasLine, skip, lineAt, fields, field}
 use Rattle.text.specs.Number.{isNumber, valueOf}
-use Rattle.line_faults.specs.Faults.{worst, faultOf}
+use Rattle.text_fields.specs.Faults.{worst, faultOf}
 use Rattle.plan.specs.Answer.{granted, isRefused}
 use Rattle.plan.specs.Task.{Task}
 use Rattle.plan.specs.Pairs.{pairCode, firstFault}

@@ -11,7 +11,7 @@ use borrow.Author.Tests.{ne-eqb, not-true, not-false, ltb-true}
 use Rattle.laws.proofs.Cases.{by-bool, by-eq, and-r}
 use Rattle.laws.proofs.Scan.{Found, Nothing, scan-cases}
 use Rattle.text.specs.Line.{hasLine, skip, lineAt, field}
-use Rattle.line_faults.specs.Faults.{worst, columnOf, faultOf}
+use Rattle.text_fields.specs.Faults.{worst, columnOf, faultOf}
 use Rattle.plan.specs.Answer.{refuse, granted, isGranted, isRefused}
 use Rattle.plan.specs.Task.{Task}
 use Rattle.plan.specs.Pairs.{firstFault}

@@ -14,9 +14,9 @@ use Rattle.laws.specs.Lists.{same, anyOf}
 use Rattle.laws.specs.Split.{before, joinOn}
 use Rattle.text.specs.Bytes.{bytes}
 use Rattle.text.specs.Line.{TAB, LF, hasLine, fields, field}
-use Rattle.line_faults.specs.Faults.{wordCode, endCode, worst, columnOf, faultOf}
+use Rattle.text_fields.specs.Faults.{wordCode, endCode, fieldCodes, worst, columnOf, faultOf}
 use Rattle.plan.specs.Value.{at}
-use Rattle.entries.specs.Rules.{ruleCodes, choiceIn, choiceOf}
+use Rattle.log_read.specs.Rules.{ruleCodes, choiceIn, choiceOf}
 use Rattle.promises.specs.Columns.{ColumnSays}
 use Rattle.promises.specs.Says.{ChoiceSays}
 use Rattle.promises.proofs.codes.Columns.{column-says, no-field}
@@ -29,24 +29,24 @@ module _ (line : List ℕ) (ended : Bool) (word : same (field line 0) (bytes "ru
   whole = ended && leb (length (fields line)) 2
 
   faultless : name ≡ true → whole ≡ true → worst (ruleCodes ended line) ≡ 0
-  unfolding worst ruleCodes wordCode endCode anyOf
+  unfolding worst ruleCodes fieldCodes wordCode endCode anyOf
   faultless n w = rw (word, n, w)
 
   faulty : (name && whole) ≡ false → worst (ruleCodes ended line) ≡ 3
-  unfolding worst ruleCodes wordCode endCode anyOf
+  unfolding worst ruleCodes fieldCodes wordCode endCode anyOf
   faulty f =
       by-bool name
       (λ n. let w : whole ≡ false = rw n at f in rw (word, n, w))
       (λ n. rw (word, n))
 
   rule-missing : (n : ℕ) → n < 2 → length (fields line) ≤ n → at (ruleCodes ended line) n ≡ 3
-  unfolding ruleCodes wordCode same
+  unfolding ruleCodes fieldCodes wordCode same
   rule-missing zero h few = rw (no-field line 0 few)
   rule-missing (suc zero) h few = rw (no-field line 1 few)
   rule-missing (suc (suc n)) h few = absurd (omega arith)
 
   rule-column : worst (ruleCodes ended line) ≡ 3 → ColumnSays 2 ended line (ruleCodes ended line) 3 (columnOf line (ruleCodes ended line) 3)
-  unfolding ruleCodes
+  unfolding ruleCodes fieldCodes
   rule-column e =
       rw e at (column-says 2 ended line (ruleCodes ended line) refl refl rule-missing (λ z. omega (arith, e, z)))
 

@@ -17,9 +17,9 @@ use Rattle.laws.proofs.Split.{index-found}
 use Rattle.text.specs.Bytes.{bytes}
 use Rattle.text.specs.Number.{isNumber, valueOf}
 use Rattle.text.specs.Line.{hasLine, skip, lineAt, field}
-use Rattle.line_faults.specs.Faults.{worst, faultOf}
-use Rattle.line_faults.specs.declared.Fault.{Fault}
-use Rattle.line_faults.proofs.FaultLaws.{any-found}
+use Rattle.text_fields.specs.Faults.{worst, faultOf}
+use Rattle.text_fields.specs.declared.Fault.{Fault}
+use Rattle.text_fields.proofs.FaultLaws.{any-found}
 use Rattle.plan.specs.Answer.{refuse, granted, isGranted, isRefused}
 use Rattle.plan.specs.Judged.{tasksAnswer}
 use Rattle.plan.specs.Value.{at, planOf}
@@ -29,7 +29,7 @@ use Rattle.plan.specs.declared.Answer.{Answer}
 use Rattle.plan.specs.declared.Plan.{Plan}
 use Rattle.plan.proofs.TextLines.{number-range, sizes-test}
 use Rattle.promises.specs.Edition1.{sevenSizes, sevenCodes, sevenTask, sevenWorst, sevenFault, sevenLine, sevenLines, sevenForm, sevenAnswer, sevenReading}
-use Rattle.line_faults.proofs.Alike.{Plain}
+use Rattle.text_fields.proofs.Alike.{Plain}
 use Rattle.promises.proofs.codes.Columns.{plain-not}
 use Rattle.promises.proofs.codes.TaskLine.{holds-first, first-plain}
 

@@ -5,7 +5,8 @@ use mathlib.Core.List.{List, _++_}
 use mathlib.Core.Path.{_≡_, refl, ap, _∙_}
 use Rattle.laws.specs.Digits.{digitsFrom, digitsOf}
 use Rattle.laws.proofs.Every.{every-same}
-use Rattle.lists.specs.Items.{between}
+use Rattle.text.specs.Line.{linesBelow}
+use Rattle.text_fields.specs.Items.{between}
 use Rattle.plan.specs.Answer.{isGranted}
 use Rattle.plan.specs.Task.{Task}
 use Rattle.plan.specs.Judged.{tasksAnswer}
@@ -16,7 +17,7 @@ use Rattle.plan.proofs.Judged.{accepted-split}
 use Rattle.promises.specs.Edition1.{sevenKept, sevenAccepted, sevenTexts, sevenText}
 
 texts-seven : (task : ℕ → Task) (n : ℕ) → taskTexts 1 task n ≡ sevenTexts task n
-unfolding taskTexts taskText sevenTexts
+unfolding linesBelow taskText sevenTexts
 texts-seven task zero = refl
 texts-seven task (suc n) = ap (λ (s : List ℕ). s ++ taskText 1 (n + 1) (task n)) (texts-seven task n)
 

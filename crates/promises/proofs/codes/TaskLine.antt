@@ -15,14 +15,14 @@ use Rattle.laws.proofs.Split.{index-found}
 use Rattle.text.specs.Bytes.{bytes}
 use Rattle.text.specs.Number.{isNumber, valueOf, most, numberOf}
 use Rattle.text.specs.Line.{TAB, fields, field}
-use Rattle.lists.specs.Items.{isList, listOf, isHold, holdOf, hasShared, holdsOk, afterOk}
-use Rattle.line_faults.specs.Faults.{codeFor, fieldCode, wordCode, endCode, worst, columnOf}
-use Rattle.line_faults.proofs.FaultLaws.{faultless-is, zero-at}
+use Rattle.text_fields.specs.Items.{isList, listOf, isHold, holdOf, hasShared, holdsOk, afterOk}
+use Rattle.text_fields.specs.Faults.{codeFor, fieldCode, wordCode, endCode, worst, columnOf}
+use Rattle.text_fields.proofs.FaultLaws.{faultless-is, zero-at}
 use Rattle.plan.specs.Value.{at}
 use Rattle.plan.specs.Read.{holdsCode, codesFrom, readyCode, taskCodes}
 use Rattle.plan.proofs.LineCodes.{task-kinds}
 use Rattle.promises.specs.Columns.{ColumnSays}
-use Rattle.line_faults.proofs.Alike.{Plain, field-plain}
+use Rattle.text_fields.proofs.Alike.{Plain, field-plain}
 use Rattle.promises.proofs.codes.Columns.{worst-is, plain-not, for-plain, word-plain, end-plain, column-says, no-field}
 
 -- where nothing is retired a holds field is refused by its spelling and its range alone

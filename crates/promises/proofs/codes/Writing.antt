@@ -13,7 +13,7 @@ use Rattle.plan.specs.Value.{isAccepted}
 use Rattle.plan.specs.Write.{textOf, writeAnswer, writtenOf, bufferAfter}
 use Rattle.plan.specs.declared.Answer.{Answer}
 use Rattle.plan.specs.declared.Plan.{Plan}
-use Rattle.plan.specs.declared.Written.{Written}
+use Rattle.plan.specs.declared.WriteResult.{WriteResult}
 use Rattle.promises.specs.Says.{WriteSays}
 
 module _ (plan : Plan) (out : List ℕ) where
@@ -39,7 +39,7 @@ pub write-code :
     ⊎ ((writtenOf plan (length out) .answer .code ≡ 9) ⊎ (writtenOf plan (length out) .answer .code ≡ 16))
 write-code plan out = go (writtenOf plan (length out)) (bufferAfter plan out) (write-says plan out)
   where
-    go : (r : Written) (after : List ℕ) → WriteSays plan out r after → (r .answer .code ≡ 0) ⊎ ((r .answer .code ≡ 9) ⊎ (r .answer .code ≡ 16))
+    go : (r : WriteResult) (after : List ℕ) → WriteSays plan out r after → (r .answer .code ≡ 0) ⊎ ((r .answer .code ≡ 9) ⊎ (r .answer .code ≡ 16))
     go r after (WriteSays.written h l e b) = inl (rw e)
     go r after (WriteSays.unaccepted h e b) = inr (inl (rw e))
     go r after (WriteSays.too-short h l e b) = inr (inr (rw e))

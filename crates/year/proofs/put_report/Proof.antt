@@ -7,7 +7,7 @@ use Rattle.year.proofs.put_report.Statement.{statement}
 use Rattle.year.proofs.put_report.Tie as tie
 use Rattle.year.proofs.put_report.Reads as reads
 use Rattle.year.proofs.put_report.Lts as lts
-use Rattle.year_text.proofs.write_report.Reads as write-report-reads
+use Rattle.year_write.proofs.write_report.Reads as write-report-reads
 
 -- src/main.rt:89:5
 write-report-requires : tie.Need-write-report-requires

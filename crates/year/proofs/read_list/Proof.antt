@@ -4,7 +4,7 @@ use Rattle.year.proofs.read_list.Statement.{statement}
 use Rattle.year.proofs.read_list.Tie as tie
 use Rattle.year.proofs.read_list.Reads as reads
 use Rattle.year.proofs.read_list.Lts as lts
-use Rattle.folders.proofs.took.Reads as took-reads
+use Rattle.files.proofs.took.Reads as took-reads
 use Rattle.year.proofs.listed.Reads as listed-reads
 use Rattle.year.proofs.read_next.Reads as read-next-reads
 
@@ -29,6 +29,9 @@ loop-holds c = search needs
 -- src/main.rt:185:13
 read-next-requires : tie.Need-read-next-requires Inv-loop μ-loop
 read-next-requires c κs = search needs
+
+is-reading-requires : tie.Need-is-reading-requires Inv-loop μ-loop
+is-reading-requires c κs = search needs
 
 -- src/main.rt:187:13
 returns : tie.Need-returns Inv-loop μ-loop
@@ -60,6 +63,7 @@ read-list-spec =
     listed-requires
     loop-holds
     read-next-requires
+    is-reading-requires
     returns
     sub-turns
     loop-less

@@ -6,9 +6,9 @@ use Rattle.year_folders.proofs.add_folder.Statement.{statement}
 use Rattle.year_folders.proofs.add_folder.Tie as tie
 use Rattle.year_folders.proofs.add_folder.Reads as reads
 use Rattle.year_folders.proofs.add_folder.Lts as lts
-use Rattle.folders.proofs.read_in.Reads as read-in-reads
+use Rattle.files.proofs.read_in.Reads as read-in-reads
 use Rattle.year_folders.proofs.after.Reads as after-reads
-use Rattle.year_texts.proofs.add_texts.Reads as add-texts-reads
+use Rattle.year_totals.proofs.add_texts.Reads as add-texts-reads
 
 -- src/lib.rt:24:33
 slice-aggregate-read-in : tie.Need-slice-aggregate-read-in

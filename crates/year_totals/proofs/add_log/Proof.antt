@@ -5,9 +5,9 @@ use Rattle.year_totals.proofs.add_log.Statement.{statement}
 use Rattle.year_totals.proofs.add_log.Tie as tie
 use Rattle.year_totals.proofs.add_log.Reads as reads
 use Rattle.year_totals.proofs.add_log.Lts as lts
-use Rattle.log_judge.proofs.judge_log.Reads as judge-log-reads
+use Rattle.school_judge.proofs.judge_log.Reads as judge-log-reads
 use Rattle.plan.proofs.refuse.Reads as refuse-reads
-use Rattle.year_bounds.proofs.are_in_bounds.Reads as are-in-bounds-reads
+use Rattle.year_rules.proofs.are_in_bounds.Reads as are-in-bounds-reads
 use Rattle.year_totals.proofs.not_added.Reads as not-added-reads
 use Rattle.year_totals.proofs.wide.Reads as wide-reads
 use Rattle.year_totals.proofs.with_accepted.Reads as with-accepted-reads

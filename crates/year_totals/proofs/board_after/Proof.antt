@@ -10,7 +10,7 @@ use Rattle.year_totals.proofs.board_after.Statement.{statement}
 use Rattle.year_totals.proofs.board_after.Tie as tie
 use Rattle.year_totals.proofs.board_after.Reads as reads
 use Rattle.year_totals.proofs.board_after.Lts as lts
-use Rattle.year_totals.proofs.early_by.Reads as early-by-reads
+use Rattle.year_totals.proofs.ended_early_by.Reads as ended-early-by-reads
 use Rattle.year_totals.proofs.with_task.Reads as with-task-reads
 
 abbrev Inv-loop : tie.InvT-loop
@@ -26,24 +26,24 @@ loop-holds c =
     (omega arith, record { ended = omega (arith, c .pre .1); sum = omega (arith, c .pre .2) }, seen-none (a .held) (a .number) (a .board .now) (a .finish .now) (a .end .now))
 
 -- src/lib.rt:139:31
-mul-early-by : tie.Need-mul-early-by Inv-loop μ-loop
-mul-early-by c = search needs
+mul-ended-early-by : tie.Need-mul-ended-early-by Inv-loop μ-loop
+mul-ended-early-by c = search needs
 
 -- src/lib.rt:139:31
-element-copy-out-early-by : tie.Need-element-copy-out-early-by Inv-loop μ-loop
-element-copy-out-early-by c = search needs
+element-copy-out-ended-early-by : tie.Need-element-copy-out-ended-early-by Inv-loop μ-loop
+element-copy-out-ended-early-by c = search needs
 
 -- src/lib.rt:139:42
-mul-early-by-2 : tie.Need-mul-early-by-2 Inv-loop μ-loop
-mul-early-by-2 c = search needs
+mul-ended-early-by-2 : tie.Need-mul-ended-early-by-2 Inv-loop μ-loop
+mul-ended-early-by-2 c = search needs
 
 -- src/lib.rt:139:42
-element-copy-out-early-by-2 : tie.Need-element-copy-out-early-by-2 Inv-loop μ-loop
-element-copy-out-early-by-2 c = search needs
+element-copy-out-ended-early-by-2 : tie.Need-element-copy-out-ended-early-by-2 Inv-loop μ-loop
+element-copy-out-ended-early-by-2 c = search needs
 
 -- src/lib.rt:139:13
-early-by-requires : tie.Need-early-by-requires Inv-loop μ-loop
-early-by-requires c κs = search needs
+ended-early-by-requires : tie.Need-ended-early-by-requires Inv-loop μ-loop
+ended-early-by-requires c κs = search needs
 
 -- src/lib.rt:140:37
 element-copy-out-with-task : tie.Need-element-copy-out-with-task Inv-loop μ-loop
@@ -72,7 +72,7 @@ loop-again : tie.Need-loop-again Inv-loop μ-loop
 loop-again c =
     let l = c .before .before .before .before .before .before .loop in
     let a = c .before .before .before .before .before .before .before .args in
-    let figure = c .before .before .early-by .ensures in (
+    let figure = c .before .before .ended-early-by .ensures in (
       omega arith,
       roomy-turn (eqb (at (a .board .now) (l .i)) (a .number)) _ (l .tally) (l .i) (figure .1) (l .inv .1) (c .with-task .ensures),
       seen-turn (a .held) (a .number) (a .board .now) (a .finish .now) (a .end .now) (l .i) (l .inv .2) (figure .0) (c .with-task .ensures),
@@ -92,11 +92,11 @@ board-after-spec =
     Inv-loop
     μ-loop
     loop-holds
-    mul-early-by
-    element-copy-out-early-by
-    mul-early-by-2
-    element-copy-out-early-by-2
-    early-by-requires
+    mul-ended-early-by
+    element-copy-out-ended-early-by
+    mul-ended-early-by-2
+    element-copy-out-ended-early-by-2
+    ended-early-by-requires
     element-copy-out-with-task
     with-task-requires
     add-i

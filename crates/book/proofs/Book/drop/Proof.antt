@@ -3,21 +3,18 @@ use mathlib.Core.Logic.{⊎-elim}
 use mathlib.Core.Path.{_∙_}
 use Rattle.book.proofs.ReportLaws.{dropped-refused, dropped-granted, dropped-task, dropped-place, dropped-known, dropped-facts}
 use Rattle.book.proofs.LaidOut.{dropped-laid}
-use Rattle.book.proofs.WaitLaws.{drop-seen}
+use Rattle.book.proofs.WaitLaws.{drop-judged}
 use borrow.Author.Needs.{needs}
 use Rattle.book.proofs.Book.drop.Statement.{statement}
 use Rattle.book.proofs.Book.drop.Tie as tie
 
-sound-waits-requires : tie.Need-sound-waits-requires
-sound-waits-requires c κs = search needs
-
-drop-code-requires : tie.Need-drop-code-requires
-drop-code-requires c κs = search needs
+judge-drop-requires : tie.Need-judge-drop-requires
+judge-drop-requires c κs = search needs
 
 sub-k : tie.Need-sub-k
 sub-k c =
-    let a = c .before .before .before .before .before .before .before .before .before .before .before .before .before .before .before .before .before .args in
-    let code = drop-seen (a .t1) (c .before .before .before .before .before .sound-waits .ensures) (a .task) (c .before .drop-code .ensures) in
+    let a = c .before .before .before .before .before .before .before .before .before .before .before .before .before .args in
+    let code = drop-judged (a .t1) (a .task) (c .before .judge-drop .ensures) in
     dropped-task (a .t1) (a .task) code (c .if1 .taken)
 
 cast-k : tie.Need-cast-k
@@ -25,8 +22,8 @@ cast-k c = search needs
 
 element-write-self : tie.Need-element-write-self
 element-write-self c =
-    let a = c .before .before .before .before .before .before .before .before .before .before .before .before .before .before .before .before .before .args in
-    let code = drop-seen (a .t1) (c .before .before .before .before .before .sound-waits .ensures) (a .task) (c .before .drop-code .ensures) in
+    let a = c .before .before .before .before .before .before .before .before .before .before .before .before .before .args in
+    let code = drop-judged (a .t1) (a .task) (c .before .judge-drop .ensures) in
     dropped-place (a .t1) (a .task) code (c .if1 .taken)
 
 answer-of-requires : tie.Need-answer-of-requires
@@ -34,9 +31,9 @@ answer-of-requires c κs = search needs
 
 returns : tie.Need-returns
 returns c =
-    let a = c .before .before .before .before .before .before .before .before .before .before .before .before .before .before .before .before .before .before .args in
-    let code = drop-seen (a .t1) (c .before .before .before .before .before .before .sound-waits .ensures) (a .task) (c .before .before .drop-code .ensures) in
-    let good = c .before .before .before .before .before .before .before .before .before .before .before .before .before .before .before .before .before .before .good .0 in
+    let a = c .before .before .before .before .before .before .before .before .before .before .before .before .before .before .args in
+    let code = drop-judged (a .t1) (a .task) (c .before .before .judge-drop .ensures) in
+    let good = c .before .before .before .before .before .before .before .before .before .before .before .before .before .before .good .0 in
     ⊎-elim
     (λ w.
     let zero = w .0 .taken in
@@ -50,4 +47,4 @@ returns c =
 pub drop-spec : {M : Type 1} → statement M
 drop-spec =
     tie.close
-    (tie.spec sound-waits-requires drop-code-requires sub-k cast-k element-write-self answer-of-requires returns)
+    (tie.spec judge-drop-requires sub-k cast-k element-write-self answer-of-requires returns)

@@ -1,4 +1,4 @@
-use Rattle.view.specs.View.{laid}
+use Rattle.book_view.specs.View.{laid}
 use Rattle.laws.specs.Each.{each}
 use mathlib.Core.Path.{refl}
 use Rattle.book.proofs.settle.unmoved.Statement.{statement}

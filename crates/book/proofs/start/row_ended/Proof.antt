@@ -1,4 +1,4 @@
-use Rattle.view.proofs.Turns.{every-passed}
+use Rattle.book_view.proofs.Turns.{every-passed}
 use Rattle.book.specs.private.Table.{hasEnded, rowEnded}
 use Rattle.plan.specs.Value.{at}
 use Rattle.laws.specs.Every.{every}

@@ -3,7 +3,7 @@ use Rattle.book.proofs.TableLaws.{table-none, table-row, table-skip}
 use Rattle.book.specs.private.Table.{TableTo}
 use Rattle.plan.specs.Value.{at}
 use lib.ListN.{length, length-set}
-use Rattle.view.specs.View.{planSeen}
+use Rattle.book_view.specs.View.{planSeen}
 use mathlib.Core.Logic.{⊎-elim}
 use native.Mathlib.Omega.{arith}
 use mathlib.Core.Path.{_≡_}

@@ -1,10 +1,10 @@
 use mathlib.Core.List.{[]}
 use Rattle.book.proofs.TableLaws.{row-none, row-passed, row-taken, row-small}
-use Rattle.view.proofs.Turns.{bit-seen}
+use Rattle.book_view.proofs.Turns.{bit-seen}
 use Rattle.book.specs.private.Table.{RowTo}
 use Rattle.plan.specs.Value.{at}
 use lib.ListN.{length, length-set, getD-replicate}
-use Rattle.view.specs.View.{planSeen}
+use Rattle.book_view.specs.View.{planSeen}
 use mathlib.Core.Logic.{⊎-elim}
 use native.Mathlib.Omega.{arith}
 use mathlib.Core.Path.{_≡_, sym, _∙_}

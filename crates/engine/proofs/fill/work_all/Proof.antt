@@ -1,4 +1,5 @@
 use Rattle.engine.proofs.FillLaws.{Timed, timed-first, start-known, end-known, end-small, timed-more, starts-laid, ends-laid, undone, fewer-left, free-undone}
+use Rattle.book_view.proofs.Turns.{latest-placed}
 use Rattle.engine.specs.private.Worked.{FreeTask}
 use Rattle.laws.specs.private.Count.{count}
 use Prim.Native.Nat.{_<_}
@@ -27,7 +28,7 @@ element-copy-out-latest-end : tie.Need-element-copy-out-latest-end Inv-loop μ-l
 element-copy-out-latest-end c = search needs
 
 latest-end-requires : tie.Need-latest-end-requires Inv-loop μ-loop
-latest-end-requires c κs = c .before .before .before .before .before .pre .few
+latest-end-requires c κs = search needs
 
 element-copy-out-start-at : tie.Need-element-copy-out-start-at Inv-loop μ-loop
 element-copy-out-start-at c = search needs
@@ -61,7 +62,7 @@ end-at-requires c κs =
     let a = c .before .before .before .before .before .before .before .before .before .before .before .args in
     let i = c .before .before .before .before .before .before .before .before .before .loop .i in
     let inv = c .before .before .before .before .before .before .before .before .before .loop .inv in
-    let from = start-known (a .tasks) (a .ready .now) (a .waits .now) (a .length .now) (a .dropped .now) (c .before .before .before .before .before .before .before .before .before .before .before .pre) _ _ _ (inv .0) i (c .before .before .before .before .before .before .before .before .loop-test .taken) (inv .1 .free (c .before .before .before .before .before .before .before .before .loop-test .taken)) (c .before .before .before .before .before .latest-end .ensures) (c .before .before .start-at .ensures) in
+    let from = start-known (a .tasks) (a .ready .now) (a .waits .now) (a .length .now) (a .dropped .now) (c .before .before .before .before .before .before .before .before .before .before .before .pre) _ _ _ (inv .0) i (c .before .before .before .before .before .before .before .before .loop-test .taken) (inv .1 .free (c .before .before .before .before .before .before .before .before .loop-test .taken)) (latest-placed (a .tasks) _ _ (c .before .before .before .before .before .before .before .before .before .before .before .pre .few) (c .before .before .before .before .before .latest-end .ensures)) (c .before .before .start-at .ensures) in
     end-small (a .tasks) (a .ready .now) (a .waits .now) (a .length .now) (a .dropped .now) (c .before .before .before .before .before .before .before .before .before .before .before .pre) _ _ _ (inv .0) i (c .before .before .before .before .before .before .before .before .loop-test .taken) (inv .1 .free (c .before .before .before .before .before .before .before .before .loop-test .taken)) from
 
 mul-end : tie.Need-mul-end Inv-loop μ-loop
@@ -90,7 +91,7 @@ loop-again c =
     let inv = c .before .before .before .before .before .before .before .before .before .before .before .before .loop .inv in
     let l : i < a .tasks = c .before .before .before .before .before .before .before .before .before .before .before .loop-test .taken in
     let free = inv .1 .free l in
-    let from = start-known (a .tasks) (a .ready .now) (a .waits .now) (a .length .now) (a .dropped .now) (c .before .before .before .before .before .before .before .before .before .before .before .before .before .before .pre) _ _ _ (inv .0) i l free (c .before .before .before .before .before .before .before .before .latest-end .ensures) (c .before .before .before .before .before .start-at .ensures) in
+    let from = start-known (a .tasks) (a .ready .now) (a .waits .now) (a .length .now) (a .dropped .now) (c .before .before .before .before .before .before .before .before .before .before .before .before .before .before .pre) _ _ _ (inv .0) i l free (latest-placed (a .tasks) _ _ (c .before .before .before .before .before .before .before .before .before .before .before .before .before .before .pre .few) (c .before .before .before .before .before .before .before .before .latest-end .ensures)) (c .before .before .before .before .before .start-at .ensures) in
     let to = c .before .before .end-at .ensures ∙ end-known (a .tasks) (a .ready .now) (a .waits .now) (a .length .now) (a .dropped .now) (c .before .before .before .before .before .before .before .before .before .before .before .before .before .before .pre) _ _ _ (inv .0) i l free from in
     (timed-more (a .tasks) (a .ready .now) (a .waits .now) (a .length .now) (a .dropped .now) (c .before .before .before .before .before .before .before .before .before .before .before .before .before .before .pre) _ _ _ (inv .0) i l free (c .before .bit-of .ensures) from to, c .free-task2 .ensures)
 

@@ -1,7 +1,7 @@
 use Prim.{tt}
 use native.Mathlib.Omega.{arith}
 use lib.ListN.{length}
-use Rattle.log_lines.proofs.WriteLaws.{wrote-length}
+use Rattle.log_write.proofs.WriteLaws.{wrote-length}
 use Rattle.log.proofs.ReportLaws.{told-names}
 use Rattle.log.proofs.EndsLaws.{Walk, walk-start, walk-short, walk-end, walk-stops, walk-less, walk-goes}
 use Rattle.log.proofs.ends.put_ends.Statement.{statement}

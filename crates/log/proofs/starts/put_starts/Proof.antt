@@ -1,7 +1,7 @@
 use Prim.{tt}
 use Prim.Native.Nat.{_-_, _≤_}
 use native.Mathlib.Omega.{arith}
-use Rattle.log_lines.proofs.WriteLaws.{wrote-length}
+use Rattle.log_write.proofs.WriteLaws.{wrote-length}
 use Rattle.log.proofs.StartLaws.{Below, starts-none, starts-passes, starts-goes, starts-end}
 use borrow.Author.Needs.{needs}
 use Rattle.log.proofs.starts.put_starts.Statement.{statement}

@@ -1,6 +1,6 @@
 use Prim.{tt}
 use native.Mathlib.Omega.{arith}
-use Rattle.log_lines.proofs.WriteLaws.{also, wrote-line, wrote-length}
+use Rattle.log_write.proofs.WriteLaws.{also, wrote-line, wrote-length}
 use borrow.Author.Needs.{needs}
 use Rattle.log.proofs.told.put_ended.Statement.{statement}
 use Rattle.log.proofs.told.put_ended.Tie as tie

@@ -1,6 +1,6 @@
 use Prim.{tt}
 use native.Mathlib.Omega.{arith}
-use Rattle.log_lines.proofs.WriteLaws.{wrote-length, wrote-line}
+use Rattle.log_write.proofs.WriteLaws.{wrote-length, wrote-line}
 use Rattle.log.proofs.ToldLaws.{named-end, named-drop, lines-none}
 use borrow.Author.Needs.{needs}
 use Rattle.log.proofs.told.put_lines.Statement.{statement}

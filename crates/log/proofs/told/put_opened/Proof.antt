@@ -1,6 +1,6 @@
 use Prim.{tt}
 use native.Mathlib.Omega.{arith}
-use Rattle.log_lines.proofs.WriteLaws.{wrote-line, wrote-length}
+use Rattle.log_write.proofs.WriteLaws.{wrote-line, wrote-length}
 use Rattle.log.proofs.ToldLaws.{opened-wrote}
 use Rattle.log.proofs.told.put_opened.Statement.{statement}
 use Rattle.log.proofs.told.put_opened.Tie as tie

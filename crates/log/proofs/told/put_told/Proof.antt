@@ -1,4 +1,4 @@
-use Rattle.log_lines.proofs.WriteLaws.{wrote-length}
+use Rattle.log_write.proofs.WriteLaws.{wrote-length}
 use Prim.{tt}
 use native.Mathlib.Omega.{arith}
 use Rattle.log.proofs.ToldLaws.{told-no, told-yes}

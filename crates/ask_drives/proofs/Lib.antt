@@ -1,0 +1,4 @@
+pub mod Keep
+pub mod Steps
+pub mod Asked
+pub mod Drops

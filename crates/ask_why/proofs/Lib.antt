@@ -1,0 +1,4 @@
+pub mod WalkLaws
+pub mod FollowLaws
+pub mod AskLaws
+pub mod WhyLaws

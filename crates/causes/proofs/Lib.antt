@@ -1,3 +1,0 @@
-pub mod WalkLaws
-pub mod FollowLaws
-pub mod AskLaws

@@ -1,4 +1,0 @@
-pub mod Cause
-pub mod Chain
-pub mod Alike
-pub mod Exact

@@ -1,0 +1,70 @@
+use Rattle.theory.proofs.Lowest.{lowestFrom, lowest-first, lowest-turn, lowest-hit, lowest-out}
+use Rattle.theory.specs.Times.{lowest}
+use Rattle.plan.specs.Value.{at}
+use mathlib.Core.Bool.{_&&_}
+use mathlib.Core.Path.{_≡_}
+use lib.Dec.{eqb}
+use borrow.Author.Tests.{not-true}
+use Prim.Native.Nat.{_-_, _≤_}
+use native.Mathlib.Omega.{arith}
+use borrow.Author.Needs.{needs}
+use Rattle.engine.proofs.idle_drop.Statement.{statement}
+use Rattle.engine.proofs.idle_drop.Tie as tie
+
+abbrev Inv-loop : tie.InvT-loop
+Inv-loop waits dropped tasks i₀ i =
+    (i ≤ tasks) × (lowestFrom i tasks (λ j. eqb (at dropped j) 1 && eqb (at waits j) 0) ≡ lowest tasks (λ j. eqb (at dropped j) 1 && eqb (at waits j) 0))
+
+abbrev μ-loop : tie.MeasureT-loop
+μ-loop waits dropped tasks i₀ i = tasks - i
+
+loop-holds : tie.Need-loop-holds Inv-loop μ-loop
+loop-holds c = (omega arith, lowest-first _ _)
+
+element-copy-out-if1 : tie.Need-element-copy-out-if1 Inv-loop μ-loop
+element-copy-out-if1 c = search needs
+
+mul-if1 : tie.Need-mul-if1 Inv-loop μ-loop
+mul-if1 c = search needs
+
+element-copy-out-if1-2 : tie.Need-element-copy-out-if1-2 Inv-loop μ-loop
+element-copy-out-if1-2 c = search needs
+
+add-result : tie.Need-add-result Inv-loop μ-loop
+add-result c = search needs
+
+cast-result : tie.Need-cast-result Inv-loop μ-loop
+cast-result c = search needs
+
+returns : tie.Need-returns Inv-loop μ-loop
+returns c = lowest-hit _ _ (c .before .before .before .before .loop .i) (c .before .before .before .before .loop .inv .1) (omega arith) (c .if1 .taken)
+
+add-i : tie.Need-add-i Inv-loop μ-loop
+add-i c = search needs
+
+loop-less : tie.Need-loop-less Inv-loop μ-loop
+loop-less c = search needs
+
+loop-again : tie.Need-loop-again Inv-loop μ-loop
+loop-again c = (omega arith, lowest-turn _ _ (c .before .before .before .before .loop .i) (c .before .before .before .before .loop .inv .1) (omega arith) (c .if1 .left))
+
+returns-2 : tie.Need-returns-2 Inv-loop μ-loop
+returns-2 c = lowest-out _ _ (c .before .loop .i) (c .before .loop .inv .1) (omega arith)
+
+pub idle-drop-spec : {M : Type 1} → statement M
+idle-drop-spec =
+    tie.close
+    (tie.spec
+    Inv-loop
+    μ-loop
+    loop-holds
+    element-copy-out-if1
+    mul-if1
+    element-copy-out-if1-2
+    add-result
+    cast-result
+    returns
+    add-i
+    loop-less
+    loop-again
+    returns-2)

@@ -1,6 +1,0 @@
-pub mod Said
-pub mod Lines
-pub mod Orders
-pub mod Agreed
-pub mod Alike
-pub mod Promises

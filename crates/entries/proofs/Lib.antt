@@ -1,3 +1,0 @@
-pub mod EntryLaws
-pub mod TextLaws
-pub mod RuleLaws

@@ -1,4 +1,0 @@
-pub mod Shown
-pub mod Engine
-pub mod Runs
-pub mod Promises

@@ -1,2 +1,0 @@
-pub mod SignedLaws
-pub mod LineLaws

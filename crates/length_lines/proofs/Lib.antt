@@ -1,2 +1,0 @@
-pub mod TaskLaws
-pub mod LineLaws

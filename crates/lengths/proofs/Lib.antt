@@ -1,4 +1,0 @@
-pub mod SaidLaws
-pub mod NoteLaws
-pub mod WalkLaws
-pub mod WholeLaws

@@ -1,3 +1,0 @@
-pub mod LengthLine
-pub mod LengthText
-pub mod Promises

@@ -1,3 +1,0 @@
-pub mod RangedLaws
-pub mod FaultLaws
-pub mod Alike

@@ -1,3 +1,0 @@
-pub mod LengthLaws
-pub mod PairLaws
-pub mod TestLaws

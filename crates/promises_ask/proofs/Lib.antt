@@ -1,0 +1,12 @@
+pub mod Shown
+pub mod Engine
+pub mod Runs
+pub mod PromisesExact
+pub mod Given
+pub mod Links
+pub mod PromisesWhy
+pub mod Lists
+pub mod Few
+pub mod Drives
+pub mod Checks
+pub mod PromisesSheets

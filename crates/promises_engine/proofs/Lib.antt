@@ -1,0 +1,9 @@
+pub mod Said
+pub mod Lines
+pub mod Orders
+pub mod Agreed
+pub mod Alike
+pub mod PromisesEngine
+pub mod LengthLine
+pub mod LengthText
+pub mod PromisesLengths

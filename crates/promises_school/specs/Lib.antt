@@ -1,0 +1,3 @@
+pub mod Own
+pub mod Lines
+pub mod Judged

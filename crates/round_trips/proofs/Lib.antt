@@ -1,6 +1,0 @@
-pub mod RoundLines
-pub mod RoundText
-pub mod RoundBack
-pub mod RoundLength
-pub mod RoundPlan
-pub mod RoundWrite

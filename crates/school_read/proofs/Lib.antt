@@ -1,0 +1,5 @@
+pub mod PartLaws
+pub mod FormLaws
+pub mod ReadLaws
+pub mod NoteLaws
+pub mod WalkLaws

@@ -1,3 +1,0 @@
-pub mod Keep
-pub mod Steps
-pub mod Asked

@@ -1,0 +1,10 @@
+pub mod Answers
+pub mod ItemLaws
+pub mod ListFields
+pub mod Lists
+pub mod Rise
+pub mod Shared
+pub mod RangedLaws
+pub mod FaultLaws
+pub mod Alike
+pub mod UnlessLaws

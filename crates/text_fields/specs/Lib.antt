@@ -1,0 +1,3 @@
+pub mod Items
+pub mod private
+pub mod Faults

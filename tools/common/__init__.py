@@ -1,0 +1,1 @@
+"""What the commands in Python share."""
