@@ -69,7 +69,7 @@ fn an_export_is_read_as_it_is_written() {
             field("out", Kind::Lent),
             field("tick", number("i32")),
         ],
-        answer: Kind::Struct("Written".to_string()),
+        answer: Kind::Struct("WriteResult".to_string()),
     };
     assert_eq!(exports_in(&without_comments(source)), [wanted]);
 }

@@ -301,8 +301,8 @@ fn a_wrong_field_place_or_size_is_refused_by_the_compiler() {
         ("uint8_t rule;          /*", "uint64_t rule; /*"),
         ("CloverBook, mark, 1352)", "CloverBook, mark, 1353)"),
         (
-            "CLOVER_SIZE(CloverKept, 7924)",
-            "CLOVER_SIZE(CloverKept, 7925)",
+            "CLOVER_SIZE(CloverBookAndSheet, 7924)",
+            "CLOVER_SIZE(CloverBookAndSheet, 7925)",
         ),
         ("defined(__x86_64__)", "defined(__aarch64__)"),
     ] {
