@@ -71,12 +71,18 @@ tell_crate() {
 
 # prove CRATE FILE: rt beside this script, which a signal reaches while it waits; what rt says is in the file.
 prove() {
-    local status own_group=''
+    local status own_group='' ended='' tick
     ! command -v setsid >/dev/null || own_group=setsid
     (cd "$root" && exec $own_group rt check "$1") >"$2" 2>&1 </dev/null &
     prover=$!
-    wait "$prover"
-    status=$?
+    # Bash does not look at a signal that comes just before it waits: so no wait is long.
+    while [ "$ended" != "$prover" ]; do
+        sleep 0.5 &
+        tick=$!
+        wait -n -p ended "$prover" "$tick"
+        status=$?
+    done
+    { kill "$tick" && wait "$tick"; } 2>/dev/null
     prover=''
     return "$status"
 }
