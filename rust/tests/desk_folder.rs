@@ -294,7 +294,11 @@ fn processes_in(folder: &Path) -> Vec<PathBuf> {
 fn no_process_outlives_the_command() {
     for signal in ["KILL", "TERM", "HUP"] {
         let folder = plan_folder(&format!("desk-signal-{signal}"), PLAN_A);
-        let mut live = Live::start(desk_command(&folder));
+        // so too if the tests themselves were told to ignore it
+        let mut command = Command::new("env");
+        command.arg("--default-signal=TERM,HUP");
+        command.arg(at_root("desk")).arg(&folder);
+        let mut live = Live::start(command);
         live.answer();
         live.ask(b"end\t2\t3\n");
         assert_eq!(processes_in(&folder).len(), 2);

@@ -9,6 +9,7 @@ import pty
 import signal
 import sys
 
+from on_terminal import hear_signals
 from traced import CALLS, ENTRY, become, follow
 
 LONGEST_WAIT = 60
@@ -52,6 +53,7 @@ def main():
     times, command = int(sys.argv[1]), sys.argv[2:]
     child, terminal = pty.fork()
     if child == 0:
+        hear_signals()
         become(command)
     # a desk that waits for a key all the same is killed together with this process
     signal.alarm(LONGEST_WAIT)

@@ -6,11 +6,18 @@ import os
 import pty
 import re
 import select
+import signal
 import sys
 import time
 
 # A step that is not reached by then, from the one before, is never reached. The command is killed.
 LONGEST_WAIT = 60
+
+
+def hear_signals():
+    """As a user's shell starts a command: a suite that runs in the background may have been told to ignore these."""
+    for number in (signal.SIGINT, signal.SIGQUIT, signal.SIGHUP, signal.SIGTERM):
+        signal.signal(number, signal.SIG_DFL)
 
 
 def press(terminal, keys):
@@ -43,6 +50,7 @@ def main():
     given = [os.fsencode(word) for word in sys.argv[1:split]]
     child, terminal = pty.fork()
     if child == 0:
+        hear_signals()
         os.execvp(command[0], command)
     shown, is_over = watch(terminal, list(zip(given[::2], given[1::2])))
     if not is_over:
@@ -53,4 +61,5 @@ def main():
     sys.exit(128 + os.WTERMSIG(status) if os.WIFSIGNALED(status) else os.WEXITSTATUS(status))
 
 
-main()
+if __name__ == "__main__":
+    main()
