@@ -125,4 +125,4 @@ pub later-run : (plan : Plan) (book : Book) (events : List Event) → Later plan
 unfolding run
 later-run plan book [] = later_refl plan book
 later-run plan book (event ∷ rest) =
-    later_trans plan book (book_after plan book event) _ (later-after plan book event) (later-run plan _ rest)
+    later_trans plan book (book_after plan book event) _ (later-after plan book event) (later-run plan (book_after plan book event) rest)

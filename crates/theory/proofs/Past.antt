@@ -98,7 +98,7 @@ pub past-run : (plan : Plan) (book : Book) (events : List Event) → SamePast pl
 unfolding run
 past-run plan book [] = past-refl plan book
 past-run plan book (event ∷ later) =
-    past-trans plan _ (book_after plan book event) book (past-run plan _ later) (go (book_after plan book event) (said plan book event))
+    past-trans plan _ (book_after plan book event) book (past-run plan (book_after plan book event) later) (go (book_after plan book event) (said plan book event))
   where
     go : (after : Book) → Said plan book event after → SamePast plan after book
     go after (Said.taken z e) = rw e (past-step plan book event (code-taken plan book event z))

@@ -1,0 +1,9 @@
+use borrow.Author.Rules.{rules}
+use Rattle.log_read.proofs.EntryLaws.{drop-refused, drop-says}
+use Rattle.log_read.proofs.read_drop.Goals as goal
+
+pub returns-then-not-is_faultless : goal.returns-then-not-is_faultless
+returns-then-not-is_faultless c = drop-refused _ _ c.requires c.field-2.ensures c.field.ensures c.word_code.ensures c.read_ranged-task.ensures c.end_code.ensures c.is_faultless.ensures c.if-not-is_faultless.true-raw c.fault_of.ensures c.refused.ensures
+
+pub returns : goal.returns
+returns c = drop-says _ _ c.requires c.field-2.ensures c.field.ensures c.word_code.ensures c.read_ranged-task.ensures c.end_code.ensures c.is_faultless.ensures c.if-not-is_faultless.false-raw

@@ -1,0 +1,7 @@
+use borrow.Author.Tests.{le-leb}
+use borrow.Author.Rules.{rules}
+use Rattle.log_write.proofs.put_task.Goals as goal
+
+pub returns : goal.returns
+returns c =
+    rw (le-leb _ 7 c.requires, c.early_by-early.ensures, c.wide.ensures) at c.put_line.ensures

@@ -1,0 +1,6 @@
+use Rattle.plan.proofs.PlanRows.{part-row}
+use borrow.Author.Rules.{rules}
+use Rattle.plan_ranges.proofs.after_ok.Goals as goal
+
+pub returns : goal.returns
+returns c = rw part-row at c.list_ok.ensures

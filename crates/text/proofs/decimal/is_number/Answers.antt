@@ -1,0 +1,10 @@
+use borrow.Author.Rules.{rules}
+use mathlib.Core.Path.{◌∙◌}
+use Rattle.text.proofs.Spell.{number-no, number-rest}
+use Rattle.text.proofs.decimal.is_number.Goals as goal
+
+pub returns-then-not-starts_well : goal.returns-then-not-starts_well
+returns-then-not-starts_well c = number-no _ _ c.starts_well.ensures c.if-not-starts_well.true-raw
+
+pub returns : goal.returns
+returns c = c.all_digits.ensures ∙ number-rest _ _ c.starts_well.ensures c.if-not-starts_well.false-raw

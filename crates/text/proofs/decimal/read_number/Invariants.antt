@@ -1,0 +1,25 @@
+use borrow.Author.Rules.{rules}
+use Prim.Native.Nat.{◌+◌, ◌-◌, ◌≤◌}
+use mathlib.Core.Path.{◌≡◌, refl, sym, ◌∙◌}
+use mathlib.Core.Bool.{true, false}
+use native.Mathlib.Omega.{arith}
+use lib.ListN.{length, drop}
+use borrow.Author.Tests.{not-true, not-false}
+use Rattle.laws.specs.Lists.{all_of, first_not}
+use Rattle.laws.proofs.Lists.{first-stop, first_next, first-end}
+use Rattle.laws.specs.Digits.{value_after}
+use Rattle.text.specs.Number.{is_digit, value_of}
+use Rattle.text.proofs.Spell.{all-stop, all-next, all_done, number-no, number-rest, stop-empty, stop-zero, stop-well, digit-range, held, held-turn, held-end, read-misspelt, read-value, read-over}
+use Rattle.text.proofs.decimal.read_number.Given as goal
+
+-- `text::decimal::read_number` meets its contract: the rest is all digits where the whole is; the value so far, with the digits of the rest after it, is the whole's; both held.
+abbrev pub invariant-loop-i : goal.invariant-loop-i
+invariant-loop-i l =
+    (l.i ≤ length l.field)
+    × (l.v ≤ 1000001)
+    × (all_of is_digit (drop l.i l.field) ≡ all_of is_digit l.field)
+    × (held (value_after l.v (drop l.i l.field)) ≡ held (value_of l.field))
+    × (l.i + first_not is_digit (drop l.i l.field) ≡ first_not is_digit l.field)
+
+abbrev pub decreases-loop-i : goal.decreases-loop-i
+decreases-loop-i l = length l.field - l.i

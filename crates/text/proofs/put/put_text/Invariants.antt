@@ -1,0 +1,19 @@
+use borrow.Author.Rules.{rules}
+use Prim.Native.Nat.{◌+◌, ◌-◌, ◌≤◌}
+use mathlib.Core.Path.{◌≡◌}
+use native.Mathlib.Omega.{arith}
+use lib.ListN.{length, drop, length-set}
+use lib.Seq.{sets}
+use Rattle.text.proofs.Store.{has, has-not, put-none, put_whole, copy_start, copy-turn, copy-end}
+use Rattle.text.proofs.put.put_text.Given as goal
+
+-- `text::put::put_text` meets its contract: the rest stored from where the copy stands gives the whole stored.
+abbrev pub invariant-loop-i : goal.invariant-loop-i
+invariant-loop-i l =
+    (l.i ≤ length l.s)
+    × (l.at + length l.s ≤ length l.initial.out)
+    × (length l.out ≡ length l.initial.out)
+    × (sets l.out (l.at + l.i) (drop l.i l.s) ≡ sets l.initial.out l.at l.s)
+
+abbrev pub decreases-loop-i : goal.decreases-loop-i
+decreases-loop-i l = length l.s - l.i

@@ -1,0 +1,10 @@
+use borrow.Author.Rules.{rules}
+use Rattle.text_fields.proofs.ItemLaws.{number-none, number-some}
+use Rattle.text_fields.proofs.list.item_number.Goals as goal
+
+pub returns-then-not-starts_item : goal.returns-then-not-starts_item
+returns-then-not-starts_item c = number-none _ _ c.starts_item.ensures c.if-not-starts_item.true-raw
+
+pub returns : goal.returns
+returns c =
+    number-some _ _ c.starts_item.ensures c.if-not-starts_item.false-raw c.digits_in.ensures c.read_number.ensures

@@ -1,0 +1,26 @@
+use borrow.Author.Rules.{rules}
+use Prim.Native.Nat.{◌≤◌}
+use mathlib.Core.Path.{◌≡◌, sym, ◌∙◌, refl}
+use mathlib.Core.Bool.{true}
+use native.Mathlib.Omega.{arith}
+use lib.ListN.{length, length-set}
+use Rattle.laws.specs.Lists.{all_of}
+use Rattle.laws.specs.Split.{split_on}
+use Rattle.text_fields.specs.Items.{COMMA}
+use Rattle.text_fields.specs.Private.Lettered.{is_item}
+use Rattle.text.proofs.Parts.{after_less, past-part}
+use Rattle.text_fields.proofs.ItemLaws.{number-spelt, value-item, value-is, over-is, item-digits}
+use Rattle.text_fields.proofs.Rise.{items_left, spelt_read, items-start, all-spelt, refused-is, refuse, keep-last, keep-more, refuse-over, passed, first_passes, parts_next, parts-end}
+use Rattle.text_fields.proofs.list.read_items.Given as goal
+
+-- `lists::read_items` meets its contract: what is kept, with what the rest gives, is the answer where all parts are items; there are never more items than the last number.
+abbrev pub invariant-loop-n : goal.invariant-loop-n
+invariant-loop-n l =
+    (l.count ≤ l.last)
+    × (l.last ≤ l.high)
+    × (length l.items ≡ 64)
+    × (all_of (is_item l.lettered) (split_on COMMA l.rest) ≡ all_of (is_item l.lettered) (split_on COMMA l.s))
+    × (items_left l.lettered l.high (length l.s) l.items l.count l.last (split_on COMMA l.rest) ≡ spelt_read l.lettered l.high (length l.s) (split_on COMMA l.s))
+
+abbrev pub decreases-loop-n : goal.decreases-loop-n
+decreases-loop-n l = length l.rest

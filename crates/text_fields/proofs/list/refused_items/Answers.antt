@@ -1,0 +1,55 @@
+use borrow.Author.Rules.{rules}
+use Prim.Native.Nat.{◌+◌, ◌-◌, ◌≤◌}
+use mathlib.Core.Path.{◌≡◌, refl, ◌∙◌}
+use native.Mathlib.Omega.{arith}
+use lib.ListN.{length}
+use Rattle.laws.specs.Lists.{all_of}
+use Rattle.laws.specs.Split.{split_on}
+use Rattle.text_fields.specs.Items.{COMMA}
+use Rattle.text_fields.specs.Private.Lettered.{is_item, parts_stop}
+use Rattle.text.proofs.Parts.{after_less, past-part, part-within}
+use Rattle.text_fields.proofs.ItemLaws.{item-stop-le}
+use Rattle.text_fields.proofs.Rise.{parts_next, refused-three, refused-four, refused-next}
+use Rattle.text_fields.proofs.list.refused_items.Goals as goal
+
+pub loop-rest-init : goal.loop-rest-init
+loop-rest-init c = (omega arith, refl, omega arith)
+
+pub overflow_add-begin : goal.overflow_add-begin
+overflow_add-begin c =
+    record {
+      fits = omega (
+        arith,
+        item-stop-le c.args.lettered c.part_before-part.result.now,
+        part-within COMMA _ _ c.part_before-part.ensures,
+        c.loop-rest.invariant.0,
+        c.item_stop.ensures,
+      );
+    }
+
+pub returns-then-not-is_item : goal.returns-then-not-is_item
+returns-then-not-is_item c =
+    c.no_items.ensures
+    ∙ refused-three _ _ _ _ c.part_before-part.ensures c.loop-rest.invariant.0 c.loop-rest.invariant.1 c.loop-rest.invariant.2
+    c.is_item.ensures c.if-not-is_item.true-raw c.item_stop.ensures
+
+pub returns-then-part-rest : goal.returns-then-part-rest
+returns-then-part-rest c =
+    c.no_items-then-part-rest.ensures
+    ∙ refused-four _ _ _ _ c.part_before-part.ensures c.loop-rest.invariant.0 c.loop-rest.invariant.1 c.loop-rest.invariant.2
+    c.is_item.ensures c.if-not-is_item.false-raw c.if-part-rest.true
+
+pub loop-rest-smaller : goal.loop-rest-smaller
+loop-rest-smaller c =
+    after_less COMMA _ _ c.part_before-part.ensures _ c.if-part-rest.false (past-part COMMA _ _ c.part_before-part.ensures _ c.past-next.ensures)
+
+pub loop-rest-preserved : goal.loop-rest-preserved
+loop-rest-preserved c =
+    let part = c.part_before-part.ensures in
+    let inv = c.loop-rest.invariant in
+    let next = past-part COMMA _ _ part _ c.past-next.ensures in
+    let less = after_less COMMA _ _ part _ c.if-part-rest.false next in (
+      omega (arith, less, inv.0),
+      parts_next (is_item _) _ _ _ part inv.1 _ _ c.is_item.ensures c.if-not-is_item.false-raw c.if-part-rest.false next,
+      refused-next _ _ _ _ part inv.0 inv.1 inv.2 c.is_item.ensures c.if-not-is_item.false-raw c.if-part-rest.false next less,
+    )
