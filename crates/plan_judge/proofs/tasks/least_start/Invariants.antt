@@ -1,0 +1,11 @@
+use Prim.Native.Nat.{◌-◌, ◌≤◌}
+use native.Mathlib.Omega.{arith}
+use Rattle.plan_judge.proofs.StartLaws.{LeastTo, least_first, least-next, least-out}
+use borrow.Author.Rules.{rules}
+use Rattle.plan_judge.proofs.tasks.least_start.Given as goal
+
+abbrev pub invariant-loop-k : goal.invariant-loop-k
+invariant-loop-k l = (l.k ≤ l.tasks) × LeastTo l.begin l.k l.least
+
+abbrev pub decreases-loop-k : goal.decreases-loop-k
+decreases-loop-k l = l.tasks - l.k
