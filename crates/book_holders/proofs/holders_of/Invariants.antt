@@ -1,0 +1,17 @@
+use Prim.Native.Nat.{◌+◌, ◌-◌, ◌≤◌}
+use native.Mathlib.Omega.{arith}
+use mathlib.Core.Path.{◌≡◌, refl}
+use Rattle.laws.specs.Bits.{set_of, sets_to}
+use Rattle.laws.specs.Each.{each}
+use Rattle.plan.proofs.PlanRows.{part-row}
+use Rattle.book_holders.specs.Holders.{holds_drive, keeps_drive, holders_of}
+use Rattle.laws.proofs.Noted.{sets-length, sets_more}
+use borrow.Author.Rules.{rules}
+use Rattle.book_holders.proofs.holders_of.Given as goal
+
+abbrev pub invariant-loop-k : goal.invariant-loop-k
+invariant-loop-k l =
+    (l.k ≤ 64) × (l.held ≡ sets_to 32 l.k (λ d. holds_drive l.holds (d + 1))) × (l.exclusive ≡ sets_to 32 l.k (λ d. keeps_drive l.holds (d + 1)))
+
+abbrev pub decreases-loop-k : goal.decreases-loop-k
+decreases-loop-k l = 64 - l.k
