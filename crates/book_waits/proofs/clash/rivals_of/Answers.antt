@@ -1,0 +1,6 @@
+use Rattle.plan.proofs.PlanRows.{part-row}
+use borrow.Author.Rules.{rules}
+use Rattle.book_waits.proofs.clash.rivals_of.Goals as goal
+
+pub returns : goal.returns
+returns c = rw part-row at c.rivals.ensures

@@ -1,0 +1,28 @@
+use Prim.Native.Nat.{◌-◌}
+use native.Mathlib.Omega.{arith}
+use lib.ListN.{length}
+use Rattle.laws.proofs.Gather.{SetFrom, gather-start, gather-stop, gather-out, gather-turn}
+use Rattle.plan.specs.Pairs.{is_listed}
+use Rattle.book_waits.proofs.ListLaws.{named, its-bit}
+use borrow.Author.Rules.{rules}
+use Rattle.book_waits.proofs.listed.listed_set.Goals as goal
+
+pub loop-i-init : goal.loop-i-init
+loop-i-init c = gather-start 64 named _
+
+pub returns-then-n-eq0 : goal.returns-then-n-eq0
+unfolding is_listed
+returns-then-n-eq0 c = gather-stop 64 named _ _ _ c.loop-i.invariant c.loop-i-test.true c.if-n-eq0.true
+
+pub number_bit-set-requires : goal.number_bit-set-requires
+number_bit-set-requires c = omega arith
+
+pub loop-i-preserved : goal.loop-i-preserved
+loop-i-preserved c =
+    let item = c.if-n-eq0.false in
+    gather-turn 64 named _ _ _ c.loop-i.invariant c.loop-i-test.true item
+    (its-bit _ (omega (arith, item)) c.number_bit-set.ensures)
+
+pub returns : goal.returns
+unfolding is_listed
+returns c = gather-out 64 named _ _ _ c.loop-i.invariant c.loop-i-test.false

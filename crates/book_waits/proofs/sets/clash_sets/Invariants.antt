@@ -1,0 +1,14 @@
+use Prim.Native.Nat.{◌-◌, ◌≤◌}
+use native.Mathlib.Omega.{arith}
+use mathlib.Core.Path.{◌≡◌, refl}
+use Rattle.laws.specs.Each.{each}
+use Rattle.book_waits.proofs.SetLaws.{clash-more}
+use Rattle.book_waits.specs.Private.Arrays.{clash_sets}
+use borrow.Author.Rules.{rules}
+use Rattle.book_waits.proofs.sets.clash_sets.Given as goal
+
+abbrev pub invariant-loop-i : goal.invariant-loop-i
+invariant-loop-i l = (l.i ≤ l.tasks) × (l.sets ≡ clash_sets l.initial.sets l.board l.holds l.after l.tasks l.i)
+
+abbrev pub decreases-loop-i : goal.decreases-loop-i
+decreases-loop-i l = l.tasks - l.i
