@@ -4,7 +4,7 @@ pub mod faults;
 pub mod list;
 
 // What a list field says: code 0 with its items, zeros after them, or 3 or 4 with none; and where its reader stopped.
-#[derive(Drop)]
+#[derive(Clone, Copy)]
 pub struct Items {
     pub code: u8,
     pub stop: usize,
@@ -13,7 +13,7 @@ pub struct Items {
 }
 
 // A number in a range: code 0 with its value, or 3 or 4 with 0.
-#[derive(Drop)]
+#[derive(Clone, Copy)]
 pub struct Ranged {
     pub code: u8,
     pub value: u32,
