@@ -6,7 +6,7 @@ ghost use Rattle.plan.specs.Answer.{refuse};
 
 // The refusal number and the table's two numbers; all 0 where nothing is refused.
 #[repr(C)]
-#[derive(Drop)]
+#[derive(Clone, Copy)]
 pub struct Answer {
     pub code: u32,
     pub first: u32,
@@ -26,7 +26,7 @@ pub fn refuse(code: u32, first: u32, second: u32) -> Answer
 
 // Task k from 0: its holds are the 32 places from 32 k, its after the 64 places from 64 k, items first, 0 after the last.
 #[repr(C)]
-#[derive(Drop)]
+#[derive(Clone, Copy)]
 pub struct Plan {
     pub edition: u8,
     pub boards: u8,
