@@ -16,7 +16,7 @@ use text_fields::Fault;
 use text_fields::faults::{end_code, fault_of, is_faultless, read_ranged, word_code};
 
 // What a line says: a task's end at a tick, a task that is dropped, or the code and the column that refuse the line.
-#[derive(Drop)]
+#[derive(Clone, Copy)]
 pub enum Entry {
     End(u32, u32),
     Drop(u32),
@@ -24,7 +24,7 @@ pub enum Entry {
 }
 
 // What the first line says of the rule: nothing, that it is clash, or at which column it is malformed.
-#[derive(Drop)]
+#[derive(Clone, Copy)]
 pub enum Choice {
     Unsaid,
     Chosen,
