@@ -16,7 +16,7 @@ use text::put::put_text;
 
 // Drive d: its running holders are the 8 places from 8 (d - 1), by rising task number, 0 past the last; its next holder, or 0, is place d - 1.
 #[repr(C)]
-#[derive(Drop)]
+#[derive(Clone, Copy)]
 pub struct Sheet {
     pub running: [u8; 256],
     pub next: [u8; 32],
@@ -24,7 +24,7 @@ pub struct Sheet {
 
 // Who runs and who waits, as sets.
 #[repr(C)]
-#[derive(Drop)]
+#[derive(Clone, Copy)]
 pub struct Standing {
     pub runs: u64,
     pub waits: u64,

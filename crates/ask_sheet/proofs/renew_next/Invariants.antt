@@ -1,0 +1,13 @@
+use native.Mathlib.Omega.{arith}
+use Prim.Native.Nat.{◌-◌, ◌≤◌}
+use mathlib.Core.Path.{◌≡◌, refl, sym, ap, ◌∙◌}
+use mathlib.Core.Logic.{⊎_elim}
+use Rattle.ask_sheet.proofs.Turns.{NextTo, next_start, next-written, next-kept, next-end}
+use borrow.Author.Rules.{rules}
+use Rattle.ask_sheet.proofs.renew_next.Given as goal
+
+abbrev pub invariant-loop-d : goal.invariant-loop-d
+invariant-loop-d l = (l.d ≤ 32) × NextTo l.held l.was l.is l.begin l.initial.next l.d l.next
+
+abbrev pub decreases-loop-d : goal.decreases-loop-d
+decreases-loop-d l = 32 - l.d
