@@ -1,0 +1,14 @@
+use mathlib.Core.Path.{refl, sym}
+use lib.ListN.{length}
+use lib.Seq.{length-take-le}
+use Rattle.text.proofs.Parts.{found-le}
+use Rattle.school_read.proofs.WalkLaws.{Walk, names-few, rest-less, walk_start, walk-room, walk-unended, walk_end, walk-stops, walk-goes}
+use borrow.Author.Rules.{rules}
+use Rattle.school_read.proofs.read_log.Given as goal
+
+-- `read_log` meets its contract: what is kept is what the lines so far say, and the rest goes on from there.
+abbrev pub invariant-loop-line : goal.invariant-loop-line
+invariant-loop-line l = Walk l.boards l.tasks l.most l.log l.found l.line l.rest
+
+abbrev pub decreases-loop-line : goal.decreases-loop-line
+decreases-loop-line l = length l.rest

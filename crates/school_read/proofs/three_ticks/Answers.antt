@@ -1,0 +1,6 @@
+use Rattle.school_read.proofs.FormLaws.{three-is}
+use borrow.Author.Rules.{rules}
+use Rattle.school_read.proofs.three_ticks.Goals as goal
+
+pub returns : goal.returns
+returns c = three-is _ _ _ c.part_before-first.ensures c.past-others.ensures c.is_ranged.ensures c.two_ticks.ensures
