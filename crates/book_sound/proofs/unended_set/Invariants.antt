@@ -1,0 +1,16 @@
+use Rattle.book_view.proofs.Turns.{set_more}
+use Rattle.laws.specs.Bits.{set_of}
+use Rattle.plan.specs.Value.{at}
+use Rattle.theory.specs.Book.{ended}
+use native.Mathlib.Omega.{arith}
+use mathlib.Core.Bool.{not}
+use mathlib.Core.Path.{◌≡◌, refl}
+use Prim.Native.Nat.{◌-◌, ◌≤◌}
+use borrow.Author.Rules.{rules}
+use Rattle.book_sound.proofs.unended_set.Given as goal
+
+abbrev pub invariant-loop-j : goal.invariant-loop-j
+invariant-loop-j l = (l.j ≤ l.tasks) × (l.set ≡ set_of l.j (λ k. not (ended (at l.mark) k)))
+
+abbrev pub decreases-loop-j : goal.decreases-loop-j
+decreases-loop-j l = l.tasks - l.j
