@@ -1,0 +1,6 @@
+use Rattle.desk_read.proofs.ReadLaws.{number_is}
+use borrow.Author.Rules.{rules}
+use Rattle.desk_read.proofs.number_in.Goals as goal
+
+pub returns : goal.returns
+returns c = number_is c.args.line.now c.field.ensures c.read_ranged-number.ensures
