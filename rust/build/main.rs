@@ -22,7 +22,7 @@ use std::path::{Path, PathBuf};
 use std::process::Command;
 use std::{env, fs};
 
-/// A folder with the library compiled for this processor, as `tools/bench` makes it on Arm.
+/// A folder with the library compiled for this processor, where that is not x86-64.
 const NATIVE: &str = "CLOVERDUSK_NATIVE";
 
 /// `peer`: the peer is asked on x86-64 too.
