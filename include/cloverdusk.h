@@ -1,7 +1,7 @@
 /*
  * Cloverdusk: a proved dispatcher for a school of gate control, from C (C11) and C++ (C++17).
  *
- * Link target/staticlib/libcloverdusk.a, which `rt staticlib cloverdusk` proves and builds for x86-64
+ * Link crates/cloverdusk/out/libcloverdusk.a, which `tools/library` proves and builds for x86-64
  * (System V calls: Linux and its like). docs/EMBEDDING.md says what to do on another processor.
  *
  * Every call is a function of its arguments: no state is kept, no memory is allocated, no file is touched,

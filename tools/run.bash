@@ -7,16 +7,22 @@ root=$(dirname "$(dirname "$(readlink -f "${BASH_SOURCE[0]}")")")
 # What goes on beside this script, so that a signal can end it.
 prover='' teller=''
 
-# is_built PROGRAM: a folder is newer too if a file was removed from it.
+# built_at NAME: where `rt run` and `rt ci` put the program.
+built_at() {
+    printf '%s/crates/%s/out/%s' "$root" "$1" "$1"
+}
+
+# is_built PROGRAM: a folder is newer too if a file was removed from it. What rt keeps beside these folders counts for nothing.
 is_built() {
-    [ -x "$1" ] && [ -z "$(find "$root/crates.txt" "$root/crates" -newer "$1" -print -quit)" ]
+    [ -x "$1" ] || return 1
+    [ -z "$(find "$root/crates.txt" "$root"/crates/*/{src,specs,proofs} -newer "$1" -print -quit 2>/dev/null)" ]
 }
 
 # crates_needed NAME: the crates that the program is made of, lowest first: in crates.txt a crate names only crates above it.
 crates_needed() {
     awk -F: -v program="$1" '
         { sub(/#.*/, "") }
-        NF == 2 { name[++count] = $1; below[$1] = $2 }
+        NF == 2 { split($1, said, " "); name[++count] = said[1]; below[said[1]] = $2 }
         END {
             needed[program] = 1
             for (k = count; k > 0; k--)
@@ -28,10 +34,13 @@ crates_needed() {
         }' "$root/crates.txt"
 }
 
+# can_build CRATE..: rt keeps its work in a folder out/ of each crate.
 can_build() {
     command -v rt >/dev/null || die 'the program is not built, and the Rattle toolchain (rt) is not here to build it'
-    if ! mkdir -p "$root/target" 2>/dev/null || [ -n "$(find "$root/target" -maxdepth 1 -type d ! -writable -print -quit)" ]; then
-        die "the program has to be built first, and $root/target cannot be written"
+    local crate rooms=()
+    for crate in "$@"; do rooms+=("$root/crates/$crate/out"); done
+    if ! mkdir -p "${rooms[@]}" 2>/dev/null || [ -n "$(find "${rooms[@]}" -maxdepth 1 -type d ! -writable -print -quit)" ]; then
+        die "the program has to be built first, and the folders out/ of $root/crates cannot be written"
     fi
 }
 
@@ -69,11 +78,11 @@ tell_crate() {
     teller=$!
 }
 
-# prove CRATE FILE: rt beside this script, which a signal reaches while it waits; what rt says is in the file.
+# prove CRATE VERB FILE: rt beside this script, which a signal reaches while it waits; what rt says is in the file.
 prove() {
     local status own_group='' ended='' tick
     ! command -v setsid >/dev/null || own_group=setsid
-    (cd "$root" && exec $own_group rt check "$1") >"$2" 2>&1 </dev/null &
+    (cd "$root/crates/$1" && exec $own_group rt "$2") >"$3" 2>&1 </dev/null &
     prover=$!
     # Bash does not look at a signal that comes just before it waits: so no wait is long.
     while [ "$ended" != "$prover" ]; do
@@ -84,15 +93,17 @@ prove() {
     done
     { kill "$tick" && wait "$tick"; } 2>/dev/null
     prover=''
+    # `rt run` runs what it has built, where there is nothing to read: how that ends says nothing of the proof.
+    ! grep -q "^rt: running out/$1;" "$3" || status=0
     return "$status"
 }
 
 # build NAME PROGRAM: one crate after the other, so that what is told is what is going on.
 build() {
-    can_build
-    local name=$1 crates crate said status=0 heard k=0 anew=0
-    heard=$(mktemp) || die 'there is no room for a temporary file'
+    local name=$1 crates crate verb said status=0 heard k=0 anew=0
     mapfile -t crates < <(crates_needed "$name")
+    can_build "${crates[@]}"
+    heard=$(mktemp) || die 'there is no room for a temporary file'
     printf '%s: first the program is proved and built: minutes from nothing, seconds where all is proved already\n' "$name" >&2
     printf '%s: Ctrl-C is safe: the next call goes on where this one stopped\n' "$name" >&2
     trap 'break_off INT "$name" "$heard"' INT
@@ -101,21 +112,24 @@ build() {
     for crate in "${crates[@]}"; do
         k=$((k + 1))
         tell_crate "$name: proving $k of ${#crates[@]}: $crate"
-        prove "$crate" "$heard"
+        verb=lib
+        [ "$crate" != "$name" ] || verb=run
+        prove "$crate" "$verb" "$heard"
         status=$?
         said=$(<"$heard")
         stop_beside
         [ "$status" -eq 0 ] || break
-        [[ $said == *"rt: $crate proved (unchanged since"* ]] || anew=$((anew + 1))
+        # rt says nothing of a library that is proved already
+        [[ $said != *logic=proved* ]] || anew=$((anew + 1))
     done
     trap - INT TERM HUP
     rm -f "$heard"
     case $status in
     0) ;;
     1) die "it is not proved:"$'\n'"$said" ;;
-    *) die "rt check $crate ended with status $status:"$'\n'"$said" ;;
+    *) die "rt $verb in crates/$crate ended with status $status:"$'\n'"$said" ;;
     esac
-    [ -x "$2" ] || die "it is proved, and target/bin/$name is missing all the same: remove target/ and call again"
+    [ -x "$2" ] || die "it is proved, and crates/$name/out/$name is missing all the same: remove crates/$name/out and call again"
     touch "$2"
     tell_built "$name" "${#crates[@]}" "$anew"
 }
@@ -129,7 +143,7 @@ tell_built() {
     fi
 }
 
-# On another processor the toolchain's emulator runs the program.
+# On another processor an emulator of the toolchain runs the program.
 can_run() {
     [ "$(uname -m)" = x86_64 ] || [ -n "${RATTLE_HOME:-}" ] || command -v rt >/dev/null ||
         die 'on this processor the Rattle toolchain (rt) runs the program, and it is not here'
@@ -137,7 +151,8 @@ can_run() {
 
 # make_ready NAME: the program is built, and can be run.
 make_ready() {
-    local program=$root/target/bin/$1
+    local program
+    program=$(built_at "$1")
     is_built "$program" || build "$1" "$program"
     can_run
 }

@@ -22,7 +22,7 @@ use std::path::{Path, PathBuf};
 use std::process::Command;
 use std::{env, fs};
 
-/// A folder with the library compiled for this processor, as `tools/bench` makes it on Arm.
+/// A folder with the library compiled for this processor, where that is not x86-64.
 const NATIVE: &str = "CLOVERDUSK_NATIVE";
 
 /// `peer`: the peer is asked on x86-64 too.
@@ -30,7 +30,7 @@ const CALLS: &str = "CLOVERDUSK_CALLS";
 
 fn main() {
     let package = PathBuf::from(variable("CARGO_MANIFEST_DIR"));
-    let folder = package.join("../target/staticlib");
+    let folder = package.join("../crates/cloverdusk/out");
     let library = folder.join("libcloverdusk.a");
     let table = Table::of(&package.join(".."));
     println!("cargo:rerun-if-changed={}", package.join("build").display());
@@ -50,7 +50,7 @@ fn check_age(library: &Path, sources: &[PathBuf]) {
     for file in sources.iter().map(PathBuf::as_path).chain([library]) {
         println!("cargo:rerun-if-changed={}", file.display());
         if built.is_none() || built < age(file) {
-            panic!("the static library is missing or old: run `rt staticlib cloverdusk` first");
+            panic!("the static library is missing or old: run `tools/library` first");
         }
     }
 }
@@ -101,7 +101,7 @@ fn link(folder: Option<PathBuf>) {
 
 /// Builds the peer, and tells the crate what builds and runs such a program.
 fn build_peer(package: &Path, library: &Path) {
-    let kit = Kit::of(kit_folder().join("on").join(env::consts::ARCH));
+    let kit = Kit::of(kit_folder());
     let (source, peer) = (package.join("peer/peer.c"), out("peer"));
     let mut compiler = kit.compiler(&package.join(".."));
     let object = out("peer.o");
@@ -119,7 +119,6 @@ fn build_peer(package: &Path, library: &Path) {
     for path in [&source, &package.join("c")] {
         println!("cargo:rerun-if-changed={}", path.display());
     }
-    println!("cargo:rerun-if-env-changed=RATTLE_HOME");
     println!("cargo:rustc-env=PEER={}", peer.display());
     println!("cargo:rustc-env=KIT={}", kit.folder.display());
     // A toolchain that has moved is looked for again.
@@ -128,10 +127,10 @@ fn build_peer(package: &Path, library: &Path) {
     }
 }
 
-/// The toolchain's folder: it has the guide that `rt doc` names in `docs`.
+/// The toolchain's folder: the guide that `rt doc` names lies in it.
 fn kit_folder() -> PathBuf {
     let guide = run(Command::new("rt").arg("doc"));
-    let folder = Path::new(guide.trim_end()).parent().and_then(Path::parent);
+    let folder = Path::new(guide.trim_end()).parent();
     folder.expect("the guide is in a folder").to_path_buf()
 }
 

@@ -83,7 +83,7 @@ fn needed_by(sections: &[Section<'_>]) -> BTreeSet<String> {
 
 #[test]
 fn the_library_keeps_nothing_and_needs_three_functions_of_the_c_library() {
-    let archive = fs::read(at_root("target/staticlib/libcloverdusk.a")).unwrap();
+    let archive = fs::read(at_root("crates/cloverdusk/out/libcloverdusk.a")).unwrap();
     let objects = objects_in(&archive);
     assert_eq!(objects.len(), 1);
     let sections = sections_of(objects[0]);

@@ -14,7 +14,8 @@ const README: &str = "# Made up
 ## Read on
 ";
 
-const CRATES: &str = "laws:\nlow: laws\nhigh: low\nshow: high\npromises: high\ncloverdusk: high\n";
+const CRATES: &str =
+    "laws:\nlow: laws\nhigh: low\nshow: high\npromises: high\ncloverdusk staticlib: high\n";
 
 const STATEMENTS: [&str; 6] = [
     "Demand1",
@@ -27,12 +28,14 @@ const STATEMENTS: [&str; 6] = [
 
 /// A function that says that it answers by the definition, which stands at that place.
 fn function(head: &str, place: &str, definition: &str) -> String {
-    let using = format!("ghost use Rattle·{place}.{{{definition}}};\n");
-    format!("{using}{head}(n: u32) -> u32\n    ensures {{ λ r. ⌜ r ≡ {definition} n ⌝ }}\n{{\n    n\n}}\n")
+    let using = format!("ghost use Rattle.{place}.{{{definition}}};\n");
+    format!(
+        "{using}{head}(n: u32) -> u32\n    ensures {{ result ≡ {definition} n }}\n{{\n    n\n}}\n"
+    )
 }
 
 fn definition(name: &str, on: &str) -> String {
-    format!("use Prim.Native.Nat.{{ℕ}}\n{on}\n-- a comment\npub {name} : ℕ → ℕ\n{name} n = n\n")
+    format!("use Rattle.std.specs.Prelude.{{ℕ}}\n{on}\n-- a comment\npub {name} : ℕ → ℕ\n{name} n = n\n")
 }
 
 /// Outside this repository, in which every source is to be of a crate; and gone after the test, passed or failed.
@@ -56,7 +59,7 @@ impl MadeUp {
             made.put(&format!("crates/promises/proofs/{name}.antt"), "");
         }
         let claim =
-            "use Rattle·high.specs.words.Word.{word}\n\npub claim : word 0 ≡ 0\nclaim = refl\n";
+            "use Rattle.high.specs.Words.Word.{word}\n\npub claim : word 0 ≡ 0\nclaim = refl\n";
         made.put("crates/promises/proofs/Claims.antt", claim);
         made
     }
@@ -68,38 +71,38 @@ impl MadeUp {
     }
 
     fn put_functions(&self) {
-        let method = function("pub fn method", "high.specs.Method", "methodOf");
+        let method = function("pub fn method", "high.specs.Method", "method_of");
         let (using, method) = method.split_once('\n').unwrap();
-        let outer = function("pub fn outer", "high.specs.Outer", "outerOf");
-        let own = function("fn own", "high.specs.private.Own", "ownOf");
+        let outer = function("pub fn outer", "high.specs.Outer", "outer_of");
+        let own = function("fn own", "high.specs.Private.Own", "own_of");
         let high = format!("{using}\n{outer}{own}impl Kept {{\n{method}}}\n");
         self.put("crates/high/src/lib.rt", &high);
-        let deep = function("pub fn deeper", "high.specs.Deep", "deepOf");
+        let deep = function("pub fn deeper", "high.specs.Deep", "deep_of");
         self.put("crates/high/src/deep.rt", &deep);
-        let inner = function("pub fn inner", "low.specs.Trick", "trickOf");
+        let inner = function("pub fn inner", "low.specs.Trick", "trick_of");
         self.put("crates/low/src/lib.rt", &inner);
-        let shown = function("fn put_shown", "high.specs.Shown", "shownOf");
+        let shown = function("fn put_shown", "high.specs.Shown", "shown_of");
         self.put("crates/show/src/main.rt", &shown);
-        let exported = "pub extern \"C\" fn clover_it";
-        let exported = function(exported, "high.specs.Exported", "exportedOf");
+        let exported = "#[unsafe(no_mangle)]\npub extern \"C\" fn clover_it";
+        let exported = function(exported, "high.specs.Exported", "exported_of");
         self.put("crates/cloverdusk/src/lib.rt", &exported);
     }
 
     fn put_definitions(&self) {
         for (path, name) in [
-            ("low/specs/Trick", "trickOf"),
-            ("low/specs/Rest", "restOf"),
-            ("high/specs/Deep", "deepOf"),
-            ("high/specs/Exported", "exportedOf"),
-            ("high/specs/Method", "methodOf"),
-            ("high/specs/Shown", "shownOf"),
-            ("high/specs/words/Word", "word"),
-            ("high/specs/private/Own", "ownOf"),
+            ("low/specs/Trick", "trick_of"),
+            ("low/specs/Rest", "rest_of"),
+            ("high/specs/Deep", "deep_of"),
+            ("high/specs/Exported", "exported_of"),
+            ("high/specs/Method", "method_of"),
+            ("high/specs/Shown", "shown_of"),
+            ("high/specs/Words/Word", "word"),
+            ("high/specs/Private/Own", "own_of"),
         ] {
             self.put(&format!("crates/{path}.antt"), &definition(name, ""));
         }
-        let outer = definition("outerOf", "use Rattle·low.specs.Rest.{restOf}");
-        let outer = outer.replace("outerOf n = n", "outerOf n = restOf n");
+        let outer = definition("outer_of", "use Rattle.low.specs.Rest.{rest_of}");
+        let outer = outer.replace("outer_of n = n", "outer_of n = rest_of n");
         self.put("crates/high/specs/Outer.antt", &outer);
     }
 
@@ -146,7 +149,7 @@ fn what_callers_believe_stands_apart_from_inner_functions_and_statements() {
         "| | in all | 6 | 12 |",
     ];
     let inner = ["| `low` | Trick | 1 | 2 |", "| | in all | 1 | 2 |"];
-    let words = ["| `high` | words/Word | 1 | 2 |", "| | in all | 1 | 2 |"];
+    let words = ["| `high` | Words/Word | 1 | 2 |", "| | in all | 1 | 2 |"];
     let trusted = [
         "| all calls of the library | 1 | 2 |",
         "| what `show` prints | 1 | 2 |",
@@ -207,27 +210,27 @@ fn a_readme_that_lists_nothing_is_refused() {
 #[test]
 fn a_definition_in_a_wrong_room_is_refused() {
     let made = MadeUp::new("believed-rooms");
-    for room in ["", "words/", "private/"] {
+    for room in ["", "Words/", "Private/"] {
         let place = format!("crates/high/specs/{room}Free.antt");
-        made.put(&place, &definition("freeOf", ""));
+        made.put(&place, &definition("free_of", ""));
     }
     made.expect_refused(&[], &[
-        "no public contract rests on freeOf of crates/high/specs/Free.antt: it belongs to specs/words/, specs/private/ or proofs/",
-        "no function says or asks freeOf of crates/high/specs/private/Free.antt: it belongs to proofs/",
-        "no statement of the promises uses freeOf of crates/high/specs/words/Free.antt: it belongs to specs/private/ or proofs/",
+        "no public contract rests on free_of of crates/high/specs/Free.antt: it belongs to specs/Words/, specs/Private/ or proofs/",
+        "no function says or asks free_of of crates/high/specs/Private/Free.antt: it belongs to proofs/",
+        "no statement of the promises uses free_of of crates/high/specs/Words/Free.antt: it belongs to specs/Private/ or proofs/",
     ]);
 }
 
 #[test]
 fn a_public_contract_that_cites_a_word_or_a_private_name_is_refused() {
     let made = MadeUp::new("believed-cited");
-    let inner = function("pub fn inner", "low.specs.Trick", "trickOf");
-    let word = function("pub fn told", "high.specs.words.Word", "word");
-    let own = function("pub fn owned", "high.specs.private.Own", "ownOf");
+    let inner = function("pub fn inner", "low.specs.Trick", "trick_of");
+    let word = function("pub fn told", "high.specs.Words.Word", "word");
+    let own = function("pub fn owned", "high.specs.Private.Own", "own_of");
     made.put("crates/low/src/lib.rt", &(inner + &word + &own));
     made.expect_refused(&[], &[
-        "a public contract rests on word of crates/high/specs/words/Word.antt, by fn told of crates/low/src/lib.rt",
-        "a public contract rests on ownOf of crates/high/specs/private/Own.antt, by fn owned of crates/low/src/lib.rt",
+        "a public contract rests on word of crates/high/specs/Words/Word.antt, by fn told of crates/low/src/lib.rt",
+        "a public contract rests on own_of of crates/high/specs/Private/Own.antt, by fn owned of crates/low/src/lib.rt",
     ]);
 }
 
@@ -236,12 +239,13 @@ fn the_promises_of_a_request_stand_in_a_crate_of_their_own() {
     let made = MadeUp::new("believed-own");
     made.put("crates.txt", &format!("{CRATES}promises_own: high\n"));
     let place = "crates/promises_own/specs/Said.antt";
-    made.put(place, &definition("saidOf", ""));
+    made.put(place, &definition("said_of", ""));
     made.expect_refused(&[], &[
         "there is no crates/promises_own/proofs/Promises*.antt",
-        "no statement of the promises uses saidOf of crates/promises_own/specs/Said.antt: it belongs to specs/private/ or proofs/",
+        "no statement of the promises uses said_of of crates/promises_own/specs/Said.antt: it belongs to specs/Private/ or proofs/",
     ]);
-    let claim = "use Rattle·promises_own·specs.specs.Said.{saidOf}\n\npub claim : saidOf 0 ≡ 0\nclaim = refl\n";
+    let claim =
+        "use Rattle.promises_own.specs.Said.{said_of}\n\npub claim : said_of 0 ≡ 0\nclaim = refl\n";
     made.put("crates/promises_own/proofs/PromisesSaid.antt", claim);
     let (status, printed) = made.counted(&[]);
     assert_eq!(status, 0, "{printed}");

@@ -12,7 +12,7 @@ use std::path::{Path, PathBuf};
 use std::process::{Command, Output};
 use std::{env, fs};
 
-const COMMANDS: [&str; 12] = [
+const COMMANDS: [&str; 13] = [
     "runlog",
     "desk",
     "convert",
@@ -22,6 +22,7 @@ const COMMANDS: [&str; 12] = [
     "explain",
     "test",
     "tools/bench",
+    "tools/library",
     "tools/program",
     "tools/picture",
     "tools/year",
@@ -164,21 +165,25 @@ fn a_reader_that_goes_away_is_no_failure() {
 }
 
 /// A project of two programs and three crates, one of which both do without, with the command in it and an `rt`
-/// that proves nothing: it notes what it is asked for, and talks as much as the real one.
+/// that proves nothing: it notes what it is asked for and in which crate's folder, and talks as much as the real one.
 fn project(command: &str, name: &str, rt: &str) -> PathBuf {
     let root = new_folder(name);
-    fs::create_dir_all(root.join("crates")).unwrap();
     fs::create_dir_all(root.join("examples/plan-a")).unwrap();
     let crates =
         "# NAME: DEP DEP\nlow:\nhigh: low io\nbeside: low high\nconvert: low\nrunlog: high os\ntimetable: low\njudgelog: low\ndesk: low\n";
     fs::write(root.join("crates.txt"), crates).unwrap();
+    for line in crates.lines().skip(1) {
+        let (name, _) = line.split_once(':').unwrap();
+        fs::create_dir_all(root.join("crates").join(name)).unwrap();
+    }
     put_script(&root.join("tools/program"), "echo \"$* ran\"");
     for script in [command, "tools/run.bash", "tools/use.bash"] {
         copy_command(script, &root);
     }
     copy_files("tools/common", &root);
     copy_files("tools/desk", &root);
-    put_script(&root.join("own/rt"), &format!("echo \"$*\" >>asked\n{rt}"));
+    let noted = "name=${PWD##*/}; cd ../..; echo \"$* $name\" >>asked";
+    put_script(&root.join("own/rt"), &format!("{noted}\n{rt}"));
     root
 }
 
@@ -199,7 +204,7 @@ fn run_unbuilt(command: &str, name: &str, rt: &str) -> (Output, String) {
     (output, asked_in(&root))
 }
 
-const BUILDS: &str = "echo \"rt: $2 proved (1 s)\"; echo loud >&2; mkdir -p target/bin; touch target/bin/$2; chmod +x target/bin/$2";
+const BUILDS: &str = "echo 'logic=proved functions=1'; echo loud >&2; mkdir -p crates/$name/out; touch crates/$name/out/$name; chmod +x crates/$name/out/$name";
 const FIRST_WORDS: &str =
     "runlog: first the program is proved and built: minutes from nothing, seconds where all is proved already
 runlog: Ctrl-C is safe: the next call goes on where this one stopped
@@ -217,13 +222,13 @@ runlog: proved and built, 3 of 3 crates anew, ";
     let seconds = said.strip_prefix(crates).unwrap();
     assert!(seconds.trim_end_matches(" s\n").parse::<u32>().is_ok());
     assert_eq!(output.status.code(), Some(0));
-    assert_eq!(asked, "check low\ncheck high\ncheck runlog\n");
+    assert_eq!(asked, "lib low\nlib high\nrun runlog\n");
 }
 
 #[test]
 fn the_script_says_where_all_was_proved_already() {
-    let unchanged =
-        format!("{BUILDS}; echo \"rt: $2 proved (unchanged since it was last proved)\"");
+    // Of a library that is proved already rt says nothing, and of a program that nothing has changed.
+    let unchanged = BUILDS.replace("logic=proved", "rt: nothing has changed");
     let (output, _) = run_unbuilt("runlog", "proved-already", &unchanged);
     assert_eq!(text(&output.stdout), "runlog ran\n");
     let said = text(&output.stderr);
@@ -243,7 +248,7 @@ fn each_script_builds_and_runs_its_own_program() {
         said.contains("convert: proving 2 of 2: convert\n"),
         "{said}"
     );
-    assert_eq!(asked, "check low\ncheck convert\n");
+    assert_eq!(asked, "lib low\nrun convert\n");
 }
 
 /// The desk writes into its folder, so it takes no example where none is named.
@@ -256,7 +261,7 @@ fn the_desk_builds_its_program_and_runs_it_in_the_folder_named() {
     assert_eq!(text(&output.stdout), "desk ran\n");
     let said = text(&output.stderr);
     assert!(said.contains("desk: proving 2 of 2: desk\n"), "{said}");
-    assert_eq!(asked_in(&root), "check low\ncheck desk\n");
+    assert_eq!(asked_in(&root), "lib low\nrun desk\n");
 
     let output = call(&root.join("desk"), &[]);
     let said = text(&output.stderr);
@@ -269,21 +274,33 @@ fn the_desk_builds_its_program_and_runs_it_in_the_folder_named() {
 
 #[test]
 fn the_script_stops_at_the_first_crate_that_is_not_proved() {
-    let refusing = "[ \"$2\" = low ] || { echo \"rt: $2 NOT PROVED\"; exit 1; }";
+    let refusing = "[ \"$name\" = low ] || { echo \"rt: $name NOT PROVED\"; exit 1; }";
     let (output, asked) = run_unbuilt("runlog", "not-proved", refusing);
     assert_eq!(text(&output.stdout), "");
     let said = text(&output.stderr);
     let ending = "proving 2 of 3: high\nrunlog: it is not proved:\nrt: high NOT PROVED\n";
     assert!(said.ends_with(ending), "{said}");
     assert_eq!(output.status.code(), Some(2));
-    assert_eq!(asked, "check low\ncheck high\n");
+    assert_eq!(asked, "lib low\nlib high\n");
+}
+
+/// `rt run` runs what it has built, and ends with the program's own status.
+#[test]
+fn how_the_program_ends_that_is_only_built_says_nothing_of_its_proof() {
+    let failing =
+        format!("{BUILDS}; [ $1 = lib ] || {{ echo \"rt: running out/$name; so\"; exit 1; }}");
+    let (output, asked) = run_unbuilt("runlog", "fails-in-its-folder", &failing);
+    assert_eq!(text(&output.stdout), "runlog ran\n");
+    assert_eq!(output.status.code(), Some(0));
+    assert_eq!(asked, "lib low\nlib high\nrun runlog\n");
 }
 
 #[test]
 fn an_rt_that_fails_is_not_called_a_failed_proof() {
     let (output, _) = run_unbuilt("runlog", "rt-fails", "echo 'rt: no room'; exit 2");
     let said = text(&output.stderr);
-    let ending = "proving 1 of 3: low\nrunlog: rt check low ended with status 2:\nrt: no room\n";
+    let ending =
+        "proving 1 of 3: low\nrunlog: rt lib in crates/low ended with status 2:\nrt: no room\n";
     assert!(said.ends_with(ending), "{said}");
     assert_eq!(output.status.code(), Some(2));
 }
@@ -291,17 +308,19 @@ fn an_rt_that_fails_is_not_called_a_failed_proof() {
 #[test]
 fn a_clone_that_cannot_be_written_is_said_before_anything_is_proved() {
     let root = project("runlog", "read-only", BUILDS);
-    fs::set_permissions(&root, fs::Permissions::from_mode(0o555)).unwrap();
+    let crate_folder = root.join("crates/high");
+    fs::set_permissions(&crate_folder, fs::Permissions::from_mode(0o555)).unwrap();
     let output = call_in(&root, without_rights(&root.join("runlog"), &[]));
-    fs::set_permissions(&root, fs::Permissions::from_mode(0o755)).unwrap();
-    expect_failed(&output, "target cannot be written");
+    fs::set_permissions(&crate_folder, fs::Permissions::from_mode(0o755)).unwrap();
+    expect_failed(&output, "crates cannot be written");
     assert_eq!(asked_in(&root), "");
 
-    // So too where a folder below target/ is another's.
-    fs::create_dir_all(root.join("target/stamp")).unwrap();
-    fs::set_permissions(root.join("target/stamp"), fs::Permissions::from_mode(0o555)).unwrap();
+    // So too where a folder of what rt keeps is another's.
+    let kept = root.join("crates/high/out/incremental");
+    fs::create_dir_all(&kept).unwrap();
+    fs::set_permissions(&kept, fs::Permissions::from_mode(0o555)).unwrap();
     let output = call_in(&root, without_rights(&root.join("runlog"), &[]));
-    expect_failed(&output, "target cannot be written");
+    expect_failed(&output, "crates cannot be written");
 }
 
 /// The commands that the scripts use, in a folder of their own: so `rt` is not among them.
@@ -334,7 +353,7 @@ fn a_missing_toolchain_is_said() {
 #[test]
 fn a_missing_toolchain_is_said_where_it_runs_the_program() {
     let root = project("runlog", "without-rt-on-arm", "");
-    put_script(&root.join("target/bin/runlog"), "");
+    put_script(&root.join("crates/runlog/out/runlog"), "");
     let path = path_without_rt(&root);
     fs::remove_file(path.join("uname")).unwrap();
     put_script(&path.join("uname"), "echo aarch64");
@@ -349,7 +368,7 @@ fn a_missing_toolchain_is_said_where_it_runs_the_program() {
 #[test]
 fn a_program_that_ends_without_a_word_is_a_failure() {
     let root = project("runlog", "killed", "");
-    put_script(&root.join("target/bin/runlog"), "");
+    put_script(&root.join("crates/runlog/out/runlog"), "");
     put_script(&root.join("tools/program"), "kill -KILL $$");
     let output = call_in(&root, Command::new(root.join("runlog")));
     expect_failed(&output, "the program ended with status 137");
@@ -367,7 +386,7 @@ fn runlog_on_terminal(root: &Path, steps: &[&str]) -> (String, Option<i32>) {
 /// A crate is proved once its line was seen, and the second one once that was seen to count.
 #[test]
 fn on_a_terminal_the_line_tells_the_seconds_and_is_gone_in_the_end() {
-    let slow = format!("until [ -e seen-$2 ]; do sleep 0.1; done; {BUILDS}");
+    let slow = format!("until [ -e seen-$name ]; do sleep 0.1; done; {BUILDS}");
     let root = project("runlog", "terminal", &slow);
     let line = |words: &str| format!("\r\x1b\\[Krunlog: proving {words}");
     let seen = |name: &str| format!("touch:{}", root.join(format!("seen-{name}")).display());
@@ -392,9 +411,9 @@ fn on_a_terminal_the_line_tells_the_seconds_and_is_gone_in_the_end() {
 }
 
 /// An `rt` as the real one: it keeps what it has proved, and proves beside itself, where Ctrl-C is not heard.
-const KEEPS: &str = "if [ -e proved-$2 ]; then echo \"rt: $2 proved (unchanged since it was last proved)\"; exit; fi
-[ \"$2\" != high ] || [ -e again ] || { touch again; sh -c 'echo $$ >prover; sleep 600; touch late' & wait; }
-touch proved-$2; mkdir -p target/bin; touch target/bin/$2; chmod +x target/bin/$2";
+const KEEPS: &str = "if [ -e proved-$name ]; then exit; fi
+[ \"$name\" != high ] || [ -e again ] || { touch again; sh -c 'echo $$ >prover; sleep 600; touch late' & wait; }
+echo 'logic=proved functions=1'; touch proved-$name; mkdir -p crates/$name/out; touch crates/$name/out/$name; chmod +x crates/$name/out/$name";
 
 #[test]
 fn ctrl_c_leaves_nothing_running_and_the_next_call_goes_on() {

@@ -43,7 +43,7 @@ fn built_morning(folder: &Path) -> PathBuf {
         .arg(&object));
     run(&mut kit.linker(
         &object,
-        &root.join("target/staticlib/libcloverdusk.a"),
+        &root.join("crates/cloverdusk/out/libcloverdusk.a"),
         &program,
     ));
     program
@@ -258,7 +258,7 @@ fn the_readme_builds_and_runs_it_with_a_c_compiler_of_the_system() {
         .rsplit_once('\n')
         .expect("it is built, then run");
     let build = build
-        .strip_prefix("rt staticlib cloverdusk\n")
+        .strip_prefix("tools/library\n")
         .expect("the library first");
     let mut shell = Command::new("sh");
     run(shell.args(["-ec", build]).current_dir(at_root(".")));

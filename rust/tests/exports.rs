@@ -18,7 +18,7 @@ use std::fs;
 /// The names that the archive's index lists: a count, so many offsets of 4 bytes, so many names.
 fn names_in_archive() -> Vec<String> {
     const INDEX: usize = 8 + 60;
-    let archive = fs::read(at_root("target/staticlib/libcloverdusk.a")).unwrap();
+    let archive = fs::read(at_root("crates/cloverdusk/out/libcloverdusk.a")).unwrap();
     assert!(
         archive.starts_with(b"!<arch>\n/ "),
         "no archive with an index"
@@ -57,9 +57,9 @@ fn number(name: &str) -> Kind {
 
 #[test]
 fn an_export_is_read_as_it_is_written() {
-    let source = "// pub extern \"C\" fn no() -> u8\n#[no_mangle]\npub extern \"C\" fn clover_all(\n    \
+    let source = "// pub extern \"C\" fn no() -> u8\n#[unsafe(no_mangle)]\npub extern \"C\" fn clover_all(\n    \
         plan: Plan, // a comment\n    text: &[u8],\n    clash: bool,\n    out: &mut [u8],\n    tick: i32,\n) -> WriteResult\n    \
-        ensures { λ r. ⌜ r ≡ (λ (x : Nat). x) 1 ⌝ }\n{\n}\n\nfn own(yes: bool) -> u32\n{\n}\n";
+        ensures { result ≡ (λ (x : ℕ). x) 1 }\n{\n}\n\nfn own(yes: bool) -> u32\n{\n}\n";
     let wanted = Export {
         name: "clover_all".to_string(),
         arguments: vec![
@@ -76,7 +76,7 @@ fn an_export_is_read_as_it_is_written() {
 
 #[test]
 fn a_struct_is_read_and_laid_out_as_c_does() {
-    let source = "#[repr(C)]\npub struct Sheet {\n    pub known: u8,\n    pub next: [[u16; 8]; 32],\n    pub sum: u64,\n    pub last: u8,\n}\n";
+    let source = "#[repr(C)]\n#[derive(Drop)]\npub struct Sheet {\n    pub known: u8,\n    pub next: [[u16; 8]; 32],\n    pub sum: u64,\n    pub last: u8,\n}\n";
     let sheet = struct_in(source, "Sheet").expect("it is there");
     assert_eq!(struct_in(source, "Sheets"), None);
     let rows = Kind::Array(Box::new(Kind::Array(Box::new(number("u16")), 8)), 32);
@@ -92,11 +92,11 @@ fn a_struct_is_read_and_laid_out_as_c_does() {
 #[test]
 #[should_panic(expected = "there is no way yet to hand over &[u32]")]
 fn a_kind_that_is_not_known_stops_the_build() {
-    exports_in("#[no_mangle]\npub extern \"C\" fn clover_sum(of: &[u32]) -> u32\n{\n}\n");
+    exports_in("#[unsafe(no_mangle)]\npub extern \"C\" fn clover_sum(of: &[u32]) -> u32\n{\n}\n");
 }
 
 #[test]
-#[should_panic(expected = "clover_one is not marked #[no_mangle]")]
+#[should_panic(expected = "clover_one is not marked #[unsafe(no_mangle)]")]
 fn an_export_that_the_archive_does_not_name_stops_the_build() {
     exports_in("pub extern \"C\" fn clover_one() -> u32\n{\n}\n");
 }

@@ -97,7 +97,11 @@ fn a_crate_that_has_not_its_familys_name_is_refused() {
         "crate dialogues is of family tables, whose crates are named tables or tables_NAME",
     ]);
     let copied = Copied::new("families-own-name");
-    copied.change("crates.txt", "\ncloverdusk:", "\nlibrary:");
+    copied.change(
+        "crates.txt",
+        "\ncloverdusk staticlib:",
+        "\nlibrary staticlib:",
+    );
     copied
         .expect_refused(&["crate library is of family library, whose crates are named cloverdusk"]);
 }

@@ -81,12 +81,12 @@ fn defined(path: &str, name: &str) -> u32 {
 
 #[test]
 fn sizes_and_bytes_are_those_of_the_source_and_of_the_values() {
-    let log = defined("crates/log/specs/Log.antt", "logMost");
-    let converted = defined("crates/plan_convert/specs/Renewed.antt", "textMost");
-    let timetable = defined("crates/engine_write/specs/Rows.antt", "tableMost");
-    let judged = defined("crates/school/specs/Text.antt", "judgedMost");
-    let report = defined("crates/year_write/specs/Report.antt", "reportMost");
-    let logs = defined("crates/year_rules/specs/Totals.antt", "logsMost");
+    let log = defined("crates/log_run/specs/Log.antt", "log_most");
+    let converted = defined("crates/plan_convert/specs/Renewed.antt", "text_most");
+    let timetable = defined("crates/engine_write/specs/Rows.antt", "table_most");
+    let judged = defined("crates/school/specs/Text.antt", "judged_most");
+    let report = defined("crates/year_write/specs/Report.antt", "report_most");
+    let logs = defined("crates/year_rules/specs/Totals.antt", "logs_most");
     assert_eq!(log as usize, proved::LONGEST_LOG);
     assert_eq!(converted as usize, proved::CONVERTED_ROOM);
     assert_eq!(timetable as usize, proved::LONGEST_TIMETABLE);

@@ -408,7 +408,7 @@ fn project(name: &str, program: &str) -> PathBuf {
         copy_command(file, &root);
     }
     put_script(&root.join("tools/program"), program);
-    put_script(&root.join("target/bin/year"), "");
+    put_script(&root.join("crates/year/out/year"), "");
     fs::write(root.join("list"), b"").unwrap();
     root
 }

@@ -66,7 +66,7 @@ def functions_of(house, path):
         parameters = set(re.findall(r"(\w+)\s*:", text[start:end]))
         names = collections.defaultdict(set)
         for kind, clause in clauses(text, end):
-            names[kind] |= cited(clause.replace("⌜", " ").replace("⌝", " ")) - parameters
+            names[kind] |= cited(clause) - parameters
         owner = next((name for name, begin, last in types if begin <= m.start() < last), None)
         yield Function(path, m.group(2), owner, bool(m.group(1)), names, source)
 

@@ -21,7 +21,7 @@ class House:
     def crates(self):
         """in the order of crates.txt, lowest first"""
         lines = (line.split("#")[0] for line in read(self.path("crates.txt")).split("\n"))
-        return [line.partition(":")[0].strip() for line in lines if line.strip()]
+        return [line.partition(":")[0].split()[0] for line in lines if line.strip()]
 
     def is_program(self, crate):
         return os.path.exists(self.path("crates", crate, "src", "main.rt"))

@@ -1,6 +1,6 @@
 """The rooms of specs/: a path tells whether a file must be believed.
 
-`specs/` has what public contracts rest on, `specs/words/` what only the statements of the promises add, `specs/private/` what
+`specs/` has what public contracts rest on, `specs/Words/` what only the statements of the promises add, `specs/Private/` what
 only private functions say and ask. What proofs alone use stands in `proofs/`. Some crates have no function: the specs/ of
 `promises` and of each `promises_NAME` are words as a whole, and those of `tables` and of each `tables_NAME` are the rows of their
 own theorems.
@@ -17,12 +17,12 @@ def is_promises(crate):
 
 
 def room_of(place):
-    """'words', 'rows' or 'private', '' for specs/ itself, none for another folder"""
+    """'Words', 'Rows' or 'Private', '' for specs/ itself, none for another folder"""
     _, crate, folder, *rest = place.split("/")
     if folder != "specs":
         return None
-    whole = "words" if is_promises(crate) else "rows" if is_named(crate, ROWS) else ""
-    return rest[0] if rest[0] in ("words", "private") else whole
+    whole = "Words" if is_promises(crate) else "Rows" if is_named(crate, ROWS) else ""
+    return rest[0] if rest[0] in ("Words", "Private") else whole
 
 
 def hidden(contracts):
@@ -35,9 +35,9 @@ def hidden(contracts):
 def misplaced(house, contracts, promised, private):
     """what stands in a room that it does not belong to"""
     rooms = {
-        "": (contracts, "no public contract rests on %s of %s: it belongs to specs/words/, specs/private/ or proofs/"),
-        "words": (promised, "no statement of the promises uses %s of %s: it belongs to specs/private/ or proofs/"),
-        "private": (private, "no function says or asks %s of %s: it belongs to proofs/"),
+        "": (contracts, "no public contract rests on %s of %s: it belongs to specs/Words/, specs/Private/ or proofs/"),
+        "Words": (promised, "no statement of the promises uses %s of %s: it belongs to specs/Private/ or proofs/"),
+        "Private": (private, "no function says or asks %s of %s: it belongs to proofs/"),
     }
     places = (place for crate in house.crates() for place in house.files("crates/%s/specs" % crate, ".antt"))
     for place in (p for p in places if room_of(p) in rooms):

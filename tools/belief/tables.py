@@ -23,7 +23,7 @@ def basic(definitions):
 
 
 def files_named(definitions):
-    """`Book, Plan, words/Events`, with the room where it is not specs/"""
+    """`Book, Plan, Words/Events`, with the room where it is not specs/"""
     names = set()
     for d in definitions:
         room, _, rest = d.place[:-len(".antt")].split("/", 2)[2].partition("/")

@@ -2,9 +2,10 @@
 import collections
 import re
 
+HOLE = "◌"
 NAME = r"[^\s(){}\[\],;.\"]+"
 IMPORT = re.compile(r"^\s*(?:ghost\s+|pub\s+)*use\s+([^\s{;]+?)(?:\.\{([^}]*)\}|\s+as\s+(%s))?\s*;?\s*$" % NAME, re.M)
-PLACE = re.compile(r"^Rattle·([\w-]+?)(?:·(?:specs|proofs))?\.(specs|proofs)\.(.+)$")
+PLACE = re.compile(r"^Rattle\.([\w-]+)\.(specs|proofs)\.(.+)$")
 SIGNATURE = re.compile(r"^\s*((?:(?:pub|abbrev|unfoldable|opaque)\s+)*)(?:(data|record)\s+)?(%s)(?:\s+\{[^}]*\})*\s*(.*)$" % NAME, re.S)
 
 Definition = collections.namedtuple("Definition", "place name public entries lines above")
@@ -41,9 +42,9 @@ def cited_in_clause(text):
 
 
 def spoken(name):
-    """how a name is written where it is used: `_∙_` as `∙`"""
-    parts = [p for p in name.split("_") if p]
-    return parts[0] if name.startswith("_") or name.endswith("_") else name
+    """how a name is written where it is used: `◌∙◌` as `∙`"""
+    parts = [p for p in name.split(HOLE) if p]
+    return parts[0] if name.startswith(HOLE) or name.endswith(HOLE) else name
 
 
 # ---- one file of definitions

@@ -25,7 +25,7 @@ def places_of(text):
         if colon:
             if not places:
                 places.append(Place("", "", "", []))
-            places[-1].crates.append(Crate(name.strip(), purpose_in(above), needs.split()))
+            places[-1].crates.append(Crate(name.split()[0], purpose_in(above), needs.split()))
         above = line
     return places
 

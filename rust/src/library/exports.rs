@@ -178,19 +178,41 @@ impl Source {
             let (file, text) = (self.file.clone(), self.text.clone());
             return Source { file, text };
         }
-        let used = self.text.lines().find_map(|line| {
-            let path = line.trim().strip_prefix("use ")?.strip_suffix(';')?;
-            path.strip_suffix(name).filter(|path| path.ends_with("::"))
-        });
-        let used =
+        let used = items_used(&self.text)
+            .into_iter()
+            .find(|(_, item)| *item == name);
+        let (used, _) =
             used.unwrap_or_else(|| panic!("{} does not say whose {name} is", self.file.display()));
-        let home = Source::of(root, used);
+        let home = Source::of(root, &format!("{used}::"));
         assert!(
             struct_in(&home.text, name).is_some(),
             "{used} has no {name}"
         );
         home
     }
+}
+
+/// What the `use` items of a source name, one or several in braces: the path up to the name, and the name.
+fn items_used(text: &str) -> Vec<(&str, &str)> {
+    let mut items = Vec::new();
+    for piece in text.split(';') {
+        let used = piece
+            .rsplit_once("use ")
+            .filter(|(before, _)| before.is_empty() || before.ends_with('\n'));
+        let Some((path, listed)) = used.and_then(|(_, used)| used.rsplit_once("::")) else {
+            continue;
+        };
+        let listed = listed.trim_matches(['{', '}']).split(',');
+        items.extend(listed.map(|item| (path, item.trim())));
+    }
+    items
+}
+
+/// Whether the mark is among the attributes, a line each, in which the text ends.
+fn is_marked(before: &str, mark: &str) -> bool {
+    let lines = before.trim_end().lines().rev();
+    let mut attributes = lines.take_while(|line| line.starts_with("#["));
+    attributes.any(|line| line.trim_end() == mark)
 }
 
 pub fn without_comments(text: &str) -> String {
@@ -207,8 +229,12 @@ pub fn exports_in(text: &str) -> Vec<Export> {
     let mut exports = Vec::new();
     for piece in pieces {
         let export = export_in(piece);
-        let is_marked = before.trim_end().ends_with("#[no_mangle]");
-        assert!(is_marked, "{} is not marked #[no_mangle]", export.name);
+        let is_marked = is_marked(before, "#[unsafe(no_mangle)]");
+        assert!(
+            is_marked,
+            "{} is not marked #[unsafe(no_mangle)]",
+            export.name
+        );
         exports.push(export);
         before = piece;
     }
@@ -233,7 +259,7 @@ fn export_in(text: &str) -> Export {
 /// The struct of that name, if the source declares it.
 pub fn struct_in(text: &str, name: &str) -> Option<Struct> {
     let (before, after) = text.split_once(&format!("pub struct {name} {{"))?;
-    let is_marked = before.trim_end().ends_with("#[repr(C)]");
+    let is_marked = is_marked(before, "#[repr(C)]");
     assert!(is_marked, "{name} is not marked #[repr(C)]");
     let (fields, _) = after.split_once('}')?;
     Some(Struct {

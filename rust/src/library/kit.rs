@@ -5,7 +5,7 @@ use std::process::Command;
 
 const TARGET: &str = "x86_64-unknown-linux-gnu";
 
-/// The toolchain's folder for this processor.
+/// The toolchain's folder.
 pub struct Kit {
     pub folder: PathBuf,
 }

@@ -53,10 +53,11 @@ pub fn program_by_script(name: &str, folder: &Path) -> Command {
 
 /// A test fails if its program is not built.
 fn built_program(name: &str) -> PathBuf {
-    let program = at_root("target/bin").join(name);
+    let program = at_root(&format!("crates/{name}/out/{name}"));
     assert!(
         program.exists(),
-        "target/bin/{name} is missing: run `rt check {name}` first"
+        "{} is missing: run `rt run` in crates/{name} first",
+        program.display()
     );
     program
 }
