@@ -12,7 +12,7 @@ use school::JudgedLog;
 
 // Accepted and refused logs; of boards 1 to 8 the tasks ended, their ticks early at end summed, the greatest and the least.
 #[repr(C)]
-#[derive(Drop)]
+#[derive(Clone, Copy)]
 pub struct Totals {
     pub accepted: u32,
     pub refused: u32,
