@@ -1,0 +1,12 @@
+use native.Mathlib.Omega.{arith}
+use borrow.Author.Rules.{rules}
+use Rattle.year_write.proofs.LineLaws.{field-wrote}
+use Rattle.year_write.proofs.put_field.Reads as reads
+use Rattle.year_write.proofs.put_field.Lts as lts
+use Rattle.text.proofs.put.put_byte.Reads as put-byte-reads
+use Rattle.text.proofs.wide.put_wide.Reads as put-wide-reads
+use Rattle.year_write.proofs.put_field.Goals as goal
+
+-- src/lib.rt:31:1
+pub returns : goal.returns
+returns c = field-wrote (omega (arith, c.ranges.n)) c.requires c.put_byte-next.ensures c.put_wide.ensures

@@ -1,0 +1,20 @@
+use native.Mathlib.Omega.{arith}
+use borrow.Author.Rules.{rules}
+use Rattle.year_write.proofs.LineLaws.{By, by-wrote, by_next, tail-wrote}
+use Rattle.year_write.proofs.put_tail.Reads as reads
+use Rattle.year_write.proofs.put_tail.Lts as lts
+use Rattle.text.proofs.put.put_byte.Reads as put-byte-reads
+use Rattle.year_write.proofs.put_field.Reads as put-field-reads
+use Rattle.year_write.proofs.put_or_none.Reads as put-or-none-reads
+use Rattle.year_write.proofs.put_short.Reads as put-short-reads
+use Rattle.year_write.proofs.put_tail.Goals as goal
+
+-- src/lib.rt:59:1
+pub returns : goal.returns
+returns c =
+    let x = c.put_short-past_ended.ensures in
+    let y = c.put_field-past_sum.ensures in
+    let z = c.put_or_none-past_greatest.ensures in
+    let u = c.put_or_none-past_least.ensures in
+    let h = by_next (by_next (by_next (by-wrote x) y) z) u in
+    tail-wrote c.args.tally x y z u (omega (arith, h.place, h.size, c.requires)) c.put_byte.ensures
