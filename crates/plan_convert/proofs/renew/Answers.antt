@@ -1,0 +1,16 @@
+use borrow.Author.Rules.{rules}
+use Rattle.plan_convert.proofs.ConvertLaws.{renew-mended, renew-refused, renew-converted}
+use Rattle.plan_convert.proofs.renew.Goals as goal
+
+pub returns-then-not-same : goal.returns-then-not-same
+returns-then-not-same c =
+    renew-mended _ (rw (c.field.ensures, c.part_before.ensures) at c.same.ensures) c.if-not-same.true-raw c.read_exclusive.ensures
+
+pub returns-then-first-ne0 : goal.returns-then-first-ne0
+returns-then-first-ne0 c =
+    renew-refused _ (rw (c.field.ensures, c.part_before.ensures) at c.same.ensures) c.if-not-same.false-raw c.read_plan-read.ensures c.if-first-ne0.true
+
+pub returns : goal.returns
+returns c =
+    renew-converted _ (rw (c.field.ensures, c.part_before.ensures) at c.same.ensures) c.if-not-same.false-raw c.read_plan-read.ensures c.if-first-ne0.false
+    c.convert.ensures
