@@ -1,0 +1,18 @@
+use Rattle.school_judge.proofs.FoundLaws.{laid_out}
+use native.Mathlib.Omega.{arith}
+use Prim.Native.Nat.{◌-◌, ◌≤◌}
+use mathlib.Core.Path.{◌≡◌}
+use Rattle.school_judge.specs.Private.Laid.{tick_in}
+use Rattle.book_view.specs.View.{laid}
+use Rattle.book_view.proofs.Laid.{laid-first, laid_more}
+use borrow.Author.Rules.{rules}
+use Rattle.school_judge.proofs.lay.known_ticks.Goals as goal
+
+pub loop-i-init : goal.loop-i-init
+loop-i-init c = (omega arith, laid-first _)
+
+pub loop-i-preserved : goal.loop-i-preserved
+loop-i-preserved c = (omega arith, laid_more _ _ c.loop-i.invariant.1 c.tick_if.ensures)
+
+pub returns : goal.returns
+returns c = laid_out _ c.loop-i.i _ c.loop-i.invariant.1 (omega arith) (omega arith)

@@ -1,0 +1,23 @@
+use native.Mathlib.Omega.{arith}
+use Prim.Native.Nat.{◌-◌, ◌≤◌}
+use mathlib.Core.Path.{◌≡◌, sym, ap, ◌∙◌}
+use mathlib.Core.Bool.{true, not}
+use Rattle.plan.specs.Value.{at}
+use Rattle.school_judge.specs.Tests.{is_sooner_by}
+use Rattle.school_judge.proofs.PairLaws.{every-none}
+use Rattle.laws.proofs.Every.{every-pass, every-out, every-not}
+use Rattle.laws.specs.Every.{every, any}
+use borrow.Author.Rules.{rules}
+use Rattle.school_judge.proofs.pairs.are_clean.Goals as goal
+
+pub loop-j-init : goal.loop-j-init
+loop-j-init c = (omega arith, every-none _)
+
+pub returns-then-is_preceded : goal.returns-then-is_preceded
+returns-then-is_preceded c = let j = c.loop-j.j in sym (every-not _ _ j (omega arith) (ap not (sym c.is_preceded.ensures ∙ c.if-is_preceded.true)))
+
+pub loop-j-preserved : goal.loop-j-preserved
+loop-j-preserved c = let j = c.loop-j.j in (omega arith, every-pass j _ c.loop-j.invariant.1 (ap not (sym c.is_preceded.ensures ∙ c.if-is_preceded.false)))
+
+pub returns : goal.returns
+returns c = every-out _ c.loop-j.j _ c.loop-j.invariant.1 (omega arith)

@@ -1,0 +1,17 @@
+use native.Mathlib.Omega.{arith}
+use Prim.Native.Nat.{◌-◌, ◌≤◌}
+use mathlib.Core.Path.{◌≡◌, sym, ◌∙◌}
+use mathlib.Core.List.{[]}
+use Rattle.school_judge.specs.Tests.{times_of}
+use Rattle.school.specs.Tests.{is_mislong}
+use Rattle.plan.specs.Value.{at}
+use Rattle.theory.specs.Times.{lowest}
+use Rattle.theory.proofs.Lowest.{lowest_from, lowest-first, lowest-turn, lowest-hit, lowest-out}
+use borrow.Author.Rules.{rules}
+use Rattle.school_judge.proofs.tasks.mislong.Given as goal
+
+abbrev pub invariant-loop-i : goal.invariant-loop-i
+invariant-loop-i l = (l.i ≤ l.tasks) × (lowest_from l.i l.tasks (is_mislong (times_of [] l.begin l.finish) (at l.start) (at l.end)) ≡ lowest l.tasks (is_mislong (times_of [] l.begin l.finish) (at l.start) (at l.end)))
+
+abbrev pub decreases-loop-i : goal.decreases-loop-i
+decreases-loop-i l = l.tasks - l.i

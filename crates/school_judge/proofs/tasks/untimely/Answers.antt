@@ -1,0 +1,23 @@
+use native.Mathlib.Omega.{arith}
+use Prim.Native.Nat.{◌-◌, ◌≤◌}
+use mathlib.Core.Path.{◌≡◌}
+use mathlib.Core.List.{[]}
+use Rattle.school_judge.specs.Tests.{times_of}
+use Rattle.school.specs.Tests.{is_untimely}
+use Rattle.plan.specs.Value.{at}
+use Rattle.theory.specs.Times.{lowest}
+use Rattle.theory.proofs.Lowest.{lowest_from, lowest-first, lowest-turn, lowest-hit, lowest-out}
+use borrow.Author.Rules.{rules}
+use Rattle.school_judge.proofs.tasks.untimely.Goals as goal
+
+pub loop-i-init : goal.loop-i-init
+loop-i-init c = (omega arith, lowest-first _ _)
+
+pub returns-then-begin-i : goal.returns-then-begin-i
+returns-then-begin-i c = lowest-hit _ _ c.loop-i.i c.loop-i.invariant.1 (omega arith) c.if-begin-i.true
+
+pub loop-i-preserved : goal.loop-i-preserved
+loop-i-preserved c = (omega arith, lowest-turn _ _ c.loop-i.i c.loop-i.invariant.1 (omega arith) c.if-begin-i.false)
+
+pub returns : goal.returns
+returns c = lowest-out _ _ c.loop-i.i c.loop-i.invariant.1 (omega arith)
