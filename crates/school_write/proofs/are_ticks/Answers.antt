@@ -1,0 +1,16 @@
+use native.Mathlib.Omega.{arith}
+use Prim.Native.Nat.{◌-◌, ◌≤◌}
+use mathlib.Core.Path.{◌≡◌}
+use Rattle.school_write.proofs.LineLaws.{ticks-none, ticks-turn, ticks-out}
+use Rattle.school_write.specs.Lines.{are_ticks}
+use borrow.Author.Rules.{rules}
+use Rattle.school_write.proofs.are_ticks.Goals as goal
+
+pub loop-i-init : goal.loop-i-init
+loop-i-init c = (omega arith, ticks-none c.args.finish.now c.args.end.now)
+
+pub loop-i-preserved : goal.loop-i-preserved
+loop-i-preserved c = (omega arith, ticks-turn c.loop-i.i c.args.finish.now c.args.end.now c.loop-i.invariant.1)
+
+pub returns : goal.returns
+returns c = ticks-out c.args.tasks c.loop-i.i c.args.finish.now c.args.end.now c.loop-i.invariant.1 (omega arith) (omega arith)

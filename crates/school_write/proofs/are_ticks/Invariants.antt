@@ -1,0 +1,13 @@
+use native.Mathlib.Omega.{arith}
+use Prim.Native.Nat.{◌-◌, ◌≤◌}
+use mathlib.Core.Path.{◌≡◌}
+use Rattle.school_write.proofs.LineLaws.{ticks-none, ticks-turn, ticks-out}
+use Rattle.school_write.specs.Lines.{are_ticks}
+use borrow.Author.Rules.{rules}
+use Rattle.school_write.proofs.are_ticks.Given as goal
+
+abbrev pub invariant-loop-i : goal.invariant-loop-i
+invariant-loop-i l = (l.i ≤ l.tasks) × (l.all ≡ are_ticks l.i l.finish l.end)
+
+abbrev pub decreases-loop-i : goal.decreases-loop-i
+decreases-loop-i l = l.tasks - l.i
