@@ -42,7 +42,7 @@ pub fn number_of(rule: Rule) -> u8
 
 // rule: 0 Early Start, 1 clash; mark: 0 waiting, 1 running, 2 ended; dropped: 1 for a dropped task, 0 for any other.
 #[repr(C)]
-#[derive(Drop)]
+#[derive(Clone, Copy)]
 pub struct Book {
     pub edition: u8,
     pub boards: u8,
@@ -77,7 +77,7 @@ pub struct Figure {
 }
 
 // The arrays that a step changes.
-#[derive(Drop)]
+#[derive(Clone, Copy)]
 pub(crate) struct StepArrays {
     pub mark: [u8; 64],
     pub start: [u32; 64],

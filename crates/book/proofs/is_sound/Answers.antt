@@ -1,0 +1,6 @@
+use Rattle.book.proofs.WaitLaws.{its-soundness}
+use borrow.Author.Rules.{rules}
+use Rattle.book.proofs.is_sound.Goals as goal
+
+pub returns : goal.returns
+returns c = its-soundness c.args.book c.judged-waits.ensures

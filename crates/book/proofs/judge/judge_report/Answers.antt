@@ -1,0 +1,7 @@
+use Rattle.book.specs.Private.Coded.{coded_report}
+use borrow.Author.Rules.{rules}
+use Rattle.book.proofs.judge.judge_report.Goals as goal
+
+pub returns : goal.returns
+unfolding coded_report
+returns c = rw (c.report_code-code.ensures, c.sound_waits-waits.ensures)

@@ -1,0 +1,18 @@
+use Rattle.book_view.proofs.Turns.{every-passed}
+use Rattle.book.specs.Private.Table.{has_ended, row_ended}
+use Rattle.plan.specs.Value.{at}
+use Rattle.laws.specs.Every.{every}
+use Rattle.laws.proofs.Every.{every-not}
+use borrow.Author.Tests.{not-true, not-false}
+use mathlib.Core.Bool.{true}
+use native.Mathlib.Omega.{arith}
+use mathlib.Core.Path.{◌≡◌, refl, sym, ◌∙◌}
+use Prim.Native.Nat.{◌-◌, ◌≤◌}
+use borrow.Author.Rules.{rules}
+use Rattle.book.proofs.start.row_ended.Given as goal
+
+abbrev pub invariant-loop-j : goal.invariant-loop-j
+invariant-loop-j l = (l.j ≤ 8) × (every l.j (λ x. has_ended (at l.mark) (at l.row x)) ≡ true)
+
+abbrev pub decreases-loop-j : goal.decreases-loop-j
+decreases-loop-j l = 8 - l.j
