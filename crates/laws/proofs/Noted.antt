@@ -11,7 +11,6 @@ use lib.ListN.{length, get_or, set, drop, replicate, length-set, length-replicat
 use lib.Seq.{get_or-set_same, get_or-set_other, ext_get_or}
 use borrow.Author.Tests.{eq-eqb, ne_eqb}
 use Rattle.laws.specs.Bits.{has, set_of, sets_to}
-use Rattle.laws.specs.Each.{each}
 use Rattle.laws.specs.Lists.{any_of}
 use Rattle.laws.specs.Private.Noted.{noted}
 use Rattle.laws.specs.Split.{before}
