@@ -1,0 +1,15 @@
+use Rattle.engine.proofs.FillLaws.{Timed, timed-first, start-known, end_known_lem, end-small, timed-more, starts-laid, ends-laid, undone, fewer-left, free-undone}
+use Rattle.book_view.proofs.Turns.{latest-placed}
+use Rattle.engine.specs.Private.Worked.{FreeTask}
+use Rattle.laws.specs.Private.Count.{count}
+use Prim.Native.Nat.{◌<◌}
+use native.Mathlib.Omega.{arith}
+use mathlib.Core.Path.{◌≡◌, ◌∙◌}
+use borrow.Author.Rules.{rules}
+use Rattle.engine.proofs.fill.work_all.Given as goal
+
+abbrev pub invariant-loop-i : goal.invariant-loop-i
+invariant-loop-i l = Timed l.tasks l.ready l.waits l.length l.dropped l.done l.start l.end × FreeTask l.waits l.done l.tasks l.i
+
+abbrev pub decreases-loop-i : goal.decreases-loop-i
+decreases-loop-i l = count l.tasks (undone l.done)

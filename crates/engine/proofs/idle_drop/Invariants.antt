@@ -1,0 +1,18 @@
+use Rattle.theory.proofs.Lowest.{lowest_from, lowest-first, lowest-turn, lowest-hit, lowest-out}
+use Rattle.theory.specs.Times.{lowest}
+use Rattle.plan.specs.Value.{at}
+use mathlib.Core.Bool.{◌&&◌}
+use mathlib.Core.Path.{◌≡◌}
+use lib.Dec.{eqb}
+use borrow.Author.Tests.{not-true}
+use Prim.Native.Nat.{◌-◌, ◌≤◌}
+use native.Mathlib.Omega.{arith}
+use borrow.Author.Rules.{rules}
+use Rattle.engine.proofs.idle_drop.Given as goal
+
+abbrev pub invariant-loop-i : goal.invariant-loop-i
+invariant-loop-i l =
+    (l.i ≤ l.tasks) × (lowest_from l.i l.tasks (λ j. eqb (at l.dropped j) 1 && eqb (at l.waits j) 0) ≡ lowest l.tasks (λ j. eqb (at l.dropped j) 1 && eqb (at l.waits j) 0))
+
+abbrev pub decreases-loop-i : goal.decreases-loop-i
+decreases-loop-i l = l.tasks - l.i
