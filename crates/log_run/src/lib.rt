@@ -26,7 +26,7 @@ use told::{early_after, put_opened};
 pub const LOG_MOST: usize = 212992;
 
 // An answer, the book after it, and that book's figure M.
-#[derive(Drop)]
+#[derive(Clone, Copy)]
 pub struct StepOutcome {
     pub answer: Answer,
     pub book: Book,

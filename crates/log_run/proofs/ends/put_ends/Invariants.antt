@@ -1,0 +1,13 @@
+use Prim.{tt}
+use native.Mathlib.Omega.{arith}
+use lib.ListN.{length}
+use Rattle.log_write.proofs.WriteLaws.{wrote-length}
+use Rattle.log_run.proofs.ReportLaws.{told_names}
+use Rattle.log_run.proofs.EndsLaws.{Walk, walk_start, walk-short, walk_end, walk-stops, walk-less, walk-goes}
+use Rattle.log_run.proofs.ends.put_ends.Given as goal
+
+abbrev pub invariant-loop-rest : goal.invariant-loop-rest
+invariant-loop-rest l = Walk l.initial.out l.at l.initial.book l.initial.line l.ends l.out l.book l.place l.line l.rest
+
+abbrev pub decreases-loop-rest : goal.decreases-loop-rest
+decreases-loop-rest l = length l.rest
