@@ -25,7 +25,7 @@ entry_code-requires c = tt
 
 pub returns-then-entry_code-ne0 : goal.returns-then-entry_code-ne0
 returns-then-entry_code-ne0 c =
-    walk-stops c.loop-rest.invariant c.loop-rest-test.ensures c.loop-rest-test.true c.next_entry-entry.ensures
+    walk-stops c.loop-rest.invariant c.next_entry-entry.ensures c.loop-rest-test.true c.tell-told.ensures
     c.put_told-place.ensures c.entry_code.ensures c.if-entry_code-ne0.true
 
 pub shape_of-out-then-entry_code-ne0 : goal.shape_of-out-then-entry_code-ne0
@@ -36,15 +36,15 @@ part_after-next-requires c = tt
 
 pub overflow_add-line : goal.overflow_add-line
 overflow_add-line c =
-    omega (arith, c.loop-rest.invariant.lines, c.requires.short, c.loop-rest.true)
+    omega (arith, c.loop-rest.invariant.lines, c.requires.short, c.loop-rest-test.true)
 
 pub loop-rest-smaller : goal.loop-rest-smaller
 loop-rest-smaller c =
-    walk-less c.loop-rest.invariant c.loop-rest-test.ensures c.entry_code.ensures c.if-entry_code-ne0.false c.part_after-next.ensures
+    walk-less c.loop-rest.invariant c.next_entry-entry.ensures c.entry_code.ensures c.if-entry_code-ne0.false c.part_after-next.ensures
 
 pub loop-rest-preserved : goal.loop-rest-preserved
 loop-rest-preserved c =
-    walk-goes c.loop-rest.invariant c.loop-rest-test.ensures c.loop-rest-test.true c.next_entry-entry.ensures
+    walk-goes c.loop-rest.invariant c.next_entry-entry.ensures c.loop-rest-test.true c.tell-told.ensures
     c.put_told-place.ensures c.entry_code.ensures c.if-entry_code-ne0.false c.part_after-next.ensures
 
 pub returns : goal.returns

@@ -3,7 +3,6 @@ use native.Mathlib.Omega.{arith}
 use Rattle.log_write.proofs.WriteLaws.{wrote-length, wrote-line}
 use Rattle.log_run.proofs.ToldLaws.{named_end, named-drop, lines_none}
 use borrow.Author.Rules.{rules}
-use borrow.Enum.Refused.{opened}
 use Rattle.log_run.proofs.told.put_lines.Goals as goal
 
 pub put_ended-requires : goal.put_ended-requires
@@ -31,4 +30,4 @@ pub shape_of-out-in-Drop : goal.shape_of-out-in-Drop
 shape_of-out-in-Drop c = wrote-length (returns-in-Drop c)
 
 pub returns-in-Refused : goal.returns-in-Refused
-returns-in-Refused c = lines_none c.args.old.now c.args.book c.args.entry (opened c.in-Refused.in-Refused-own.keys3)
+returns-in-Refused c = lines_none c.args.old.now c.args.book c.args.entry c.in-Refused.in-Refused-own.keys3
