@@ -1,0 +1,24 @@
+use Rattle.ask_exact.proofs.StepLaws.{early_step, shown-first, shown-taken, shown-passed}
+use Rattle.ask_exact.specs.Shown.{shown}
+use Rattle.theory.specs.Exact.{not_started}
+use Rattle.laws.specs.Picked.{least}
+use Rattle.book_view.specs.View.{book_seen}
+use mathlib.Core.List.{[]}
+use mathlib.Core.Logic.{⊎_elim}
+use native.Mathlib.Omega.{arith}
+use mathlib.Core.Path.{◌≡◌, ◌∙◌}
+use Prim.Native.Nat.{◌-◌, ◌≤◌}
+use borrow.Author.Rules.{rules}
+use Rattle.ask_exact.proofs.least_of.Goals as goal
+use Rattle.ask_exact.proofs.least_of.Goals.{else-mark-i,then-mark-i}
+
+pub loop-i-init : goal.loop-i-init
+loop-i-init c = (omega arith, shown-first _ _)
+
+pub loop-i-preserved : goal.loop-i-preserved
+loop-i-preserved c =
+    elim c.if-mark-i.branch [ then-mark-i w ↦ (omega arith, shown-taken _ _ _ c.loop-i.invariant.1 w.if-mark-i.true w.early_at.ensures (w.found-is ∙ w.lesser-next.ensures)) | else-mark-i w ↦ (omega arith, shown-passed _ _ _ c.loop-i.invariant.1 w.if-mark-i.false w.found-is) ]
+
+pub returns : goal.returns
+returns c =
+    let e : c.loop-i.i ≡ c.args.n = omega arith in rw e at c.loop-i.invariant.1
