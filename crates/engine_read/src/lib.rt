@@ -20,7 +20,7 @@ use text_fields::faults::{end_code, fault_of, is_faultless, read_ranged, word_co
 use text_fields::{Fault, Ranged};
 
 // What a line says: a task's length in ticks, a task that is dropped, or the code and the column that refuse the line.
-#[derive(Drop)]
+#[derive(Clone, Copy)]
 pub enum LengthLine {
     Length(u32, u32),
     Drop(u32),

@@ -1,0 +1,14 @@
+use native.Mathlib.Omega.{arith}
+use Prim.Native.Nat.{◌≤◌, ◌-◌}
+use Rattle.engine_read.proofs.NoteLaws.{Planned, planned-none, planned-turn, planned-end}
+use borrow.Author.Rules.{rules}
+use Rattle.engine_read.proofs.planned.Goals as goal
+
+pub loop-i-init : goal.loop-i-init
+loop-i-init c = (omega arith, planned-none c.args.begin.now c.args.finish.now)
+
+pub loop-i-preserved : goal.loop-i-preserved
+loop-i-preserved c = (omega arith, planned-turn c.args.begin.now c.args.finish.now _ c.loop-i.invariant.1 c.ticks_between.ensures)
+
+pub returns : goal.returns
+returns c = planned-end c.args.begin.now c.args.finish.now c.loop-i.invariant.0 c.loop-i-test.false c.loop-i.invariant.1

@@ -1,0 +1,13 @@
+use native.Mathlib.Omega.{arith}
+use lib.ListN.{length}
+use Rattle.engine_read.proofs.NoteLaws.{noted-none}
+use Rattle.engine_read.proofs.WalkLaws.{after_less, Walk, walk_start, walk_end, walk-short, walk-notes, walk-stops, walk-goes}
+use borrow.Author.Rules.{rules}
+use Rattle.engine_read.proofs.read_lines.Given as goal
+
+-- `read_lines` meets its contract: what is kept is what the lines so far say, and the rest goes on from there.
+abbrev pub invariant-loop-rest : goal.invariant-loop-rest
+invariant-loop-rest l = Walk l.tasks l.begin l.finish l.initial.line l.text l.noted l.line l.rest
+
+abbrev pub decreases-loop-rest : goal.decreases-loop-rest
+decreases-loop-rest l = length l.rest
