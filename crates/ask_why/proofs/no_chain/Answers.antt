@@ -1,0 +1,5 @@
+use borrow.Author.Rules.{rules}
+use Rattle.ask_why.proofs.no_chain.Goals as goal
+
+pub returns : goal.returns
+returns c = rw c.refuse.ensures

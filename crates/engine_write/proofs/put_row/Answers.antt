@@ -1,0 +1,8 @@
+use Rattle.log_write.proofs.WriteLaws.{wrote-line}
+use borrow.Author.Rules.{rules}
+use Rattle.engine_write.proofs.put_row.Goals as goal
+
+pub returns : goal.returns
+returns c =
+    wrote-line c.requires
+    (rw c.wide.ensures at c.put_line.ensures)

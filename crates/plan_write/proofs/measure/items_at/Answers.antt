@@ -1,0 +1,7 @@
+use mathlib.Core.Path.{◌∙◌}
+use Rattle.plan_write.proofs.WriteLaws.{part-items}
+use borrow.Author.Rules.{rules}
+use Rattle.plan_write.proofs.measure.items_at.Goals as goal
+
+pub returns : goal.returns
+returns c = c.part_before.ensures ∙ part-items c.args.start c.args.places c.args.rows.now

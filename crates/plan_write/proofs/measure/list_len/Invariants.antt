@@ -1,0 +1,18 @@
+use Prim.Native.Nat.{◌+◌, ◌-◌, ◌*◌, ◌≤◌}
+use mathlib.Core.Path.{◌≡◌, sym, ap}
+use native.Mathlib.Omega.{arith}
+use lib.ListN.{length, drop}
+use Rattle.text_fields.specs.Items.{list_text}
+use Rattle.plan_write.specs.Private.WriteParts.{item_text}
+use Rattle.plan_write.proofs.WriteLaws.{later_text, list-none, len-start, len-turn, len-end}
+use borrow.Author.Rules.{rules}
+use Rattle.plan_write.proofs.measure.list_len.Given as goal
+
+abbrev pub invariant-loop-i : goal.invariant-loop-i
+invariant-loop-i l =
+    (l.i ≤ length l.items)
+    × (l.n + 1 ≤ 12 * l.i)
+    × (l.n + length (later_text (item_text l.lettered) (drop l.i l.items)) ≡ length (list_text (item_text l.lettered) l.items))
+
+abbrev pub decreases-loop-i : goal.decreases-loop-i
+decreases-loop-i l = length l.items - l.i

@@ -1,0 +1,7 @@
+use native.Mathlib.Omega.{arith}
+use Rattle.plan_write.proofs.WriteLaws.{sizes-length}
+use borrow.Author.Rules.{rules}
+use Rattle.plan_write.proofs.measure.sizes_len.Goals as goal
+
+pub returns : goal.returns
+returns c = omega (arith, sizes-length _ _ _ c.wide-3.ensures c.wide.ensures c.wide-2.ensures)

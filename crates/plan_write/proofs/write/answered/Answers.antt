@@ -1,0 +1,5 @@
+use borrow.Author.Rules.{rules}
+use Rattle.plan_write.proofs.write.answered.Goals as goal
+
+pub returns : goal.returns
+returns c = rw c.refuse.ensures
