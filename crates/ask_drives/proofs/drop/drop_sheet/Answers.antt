@@ -35,4 +35,4 @@ returns c =
     let look = seen-is c.args.book c.args.sheet l c.seen_in-seen.ensures in
     let code = c.judge_drop-code.ensures in
     elim c.if-code-eq0.branch [ then-code-eq0 w ↦ drop-kept-granted c.args.book c.args.sheet c.args.task l look code c.answer_of.ensures c.kept_sheet-next.ensures w.if-code-eq0.true
-    (search rules) (search rules) (search rules) (search rules) w.1 | else-code-eq0 w ↦ drop-kept-refused c.args.book c.args.sheet c.args.task l look code c.answer_of.ensures c.kept_sheet-next.ensures w.if-code-eq0.false w.1 ]
+    (search rules) (search rules) (search rules) (search rules) w.book-is | else-code-eq0 w ↦ drop-kept-refused c.args.book c.args.sheet c.args.task l look code c.answer_of.ensures c.kept_sheet-next.ensures w.if-code-eq0.false w.book-is ]
