@@ -1,0 +1,12 @@
+use Rattle.desk_answers.proofs.AnswerLaws.{now-no, now-few, now-fits, now-yes}
+use borrow.Author.Rules.{rules}
+use Rattle.desk_answers.proofs.running.answer_now.Goals as goal
+
+pub returns-then-not-is_sound : goal.returns-then-not-is_sound
+returns-then-not-is_sound c = now-no c.args.book c.is_sound.ensures c.if-not-is_sound.true-raw c.refuse.ensures c.answer_refused.ensures
+
+pub put_running-counted-requires : goal.put_running-counted-requires
+put_running-counted-requires c = (now-few c.args.book c.is_sound.ensures c.if-not-is_sound.false-raw, search rules, now-fits c.args.book c.is_sound.ensures c.if-not-is_sound.false-raw)
+
+pub returns : goal.returns
+returns c = now-yes c.args.book c.is_sound.ensures c.if-not-is_sound.false-raw (search rules) c.put_running-counted.ensures c.put_now.ensures
