@@ -41,8 +41,8 @@ ours-started plan rule size ok events = rw (ours (opened_book plan rule) events)
 abbrev freed : Book → ℕ → ℕ
 freed book i = as_number (all_ended (plan_view book) (at book.mark) i)
 
-all_ended : (book : Book) (i : ℕ) → freed book i ≡ 1 → AllEnded book i
-all_ended book i e =
+all_ended_lem : (book : Book) (i : ℕ) → freed book i ≡ 1 → AllEnded book i
+all_ended_lem book i e =
     all-ended-at (plan_view book) (at book.mark) i (as-true (all_ended (plan_view book) (at book.mark) i) e)
 
 -- the book handed back unaltered: after end 2 at 3 task 3 runs from 3, and in the unaltered book it waits
@@ -56,7 +56,7 @@ module _ (dispatch : Dispatcher) (book : Book) (size : Sized book) (sound : is_s
       (answer_to book (end task tick)).code ≡ 0 → i < book.tasks → Waiting book i → Waiting (dispatch book (end task tick)) i
       → freed (dispatch book (end task tick)) i ≡ 1 → StartsWhenFree dispatch → ⊥
   left-waiting taken l idle still free every =
-      (every book size sound task tick taken i l idle).when_free.1 (all_ended (dispatch book (end task tick)) i free) still
+      (every book size sound task tick taken i l idle).when_free.1 (all_ended_lem (dispatch book (end task tick)) i free) still
 
 -- at clock 4 end 3 at 6 is taken, and task 4 waits; after it all that task 4 waits for have ended, and two dispatchers let it wait
 abbrev asked_four : Book → List ℕ
@@ -99,7 +99,7 @@ pub first-only-started : StartedWhenFree first_only → ⊥
 first-only-started every =
     let book = book_by first_only (opened_book plan_a EarlyStart) to_six in
     let tasks : book.tasks ≡ 5 = at_place at-six 0 in
-    (every plan_a EarlyStart sized_a accepted-a to_six 3 (omega arith)).1 (all_ended book 3 (at_place at-six 2)) (at_place at-six 1)
+    (every plan_a EarlyStart sized_a accepted-a to_six 3 (omega arith)).1 (all_ended_lem book 3 (at_place at-six 2)) (at_place at-six 1)
 
 -- looking on the reporter's board only: the end of task 3 lets task 5 go on its board, and not task 4 on the other
 pub own-board-shortcut :
