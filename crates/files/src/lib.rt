@@ -100,7 +100,9 @@ const EINVAL: i32 = 22;
 const EILSEQ: i32 = 84;
 
 // std opens a file by a name in UTF-8 alone, and a NUL is in no name. Of any other name the system's words are said.
-fn name_of(path: &[u8]) -> io::Result<&str> {
+fn name_of(path: &[u8]) -> io::Result<&str>
+    ensures { IfOk result (λ name. name.now ≡ path.now) }
+{
     if path.contains(&0) {
         return Err(Error::from_raw_os_error(EINVAL));
     }

@@ -1,4 +1,6 @@
 // What is said on standard error. It is bytes, since the name of a file need not be text.
+ghost use Rattle.std.specs.Io.{StartsWith};
+
 use std::fmt::InlineText;
 use std::io::Error;
 
@@ -18,7 +20,9 @@ impl Say for HostRuntime {
 }
 
 // What an error says, without the number that std puts behind the system's words.
-fn before_number(words: &str) -> &str {
+fn before_number(words: &str) -> &str
+    ensures { StartsWith words.now result.now }
+{
     match words.split_once(" (os error ") {
         Some((before, _)) => before,
         None => words,
