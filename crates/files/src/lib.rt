@@ -26,7 +26,8 @@ pub struct Text {
 }
 
 fn failed() -> Text
-    ensures { result.length ≡ 0 }
+    ensures failed { result.failed ≡ true }
+    ensures length { result.length ≡ 0 }
 {
     Text {
         failed: true,
@@ -130,13 +131,21 @@ fn unopened(rt: &impl Say, path: &[u8], error: Error) -> Text
     }
 }
 
+// Reads as much of an open file as the buffer holds, and closes it.
+fn read_open<F: Read + Drop>(rt: &impl Say, mut file: F, path: &[u8], text: &mut [u8]) -> Text
+    ensures prefix_len { IsPrefixLen result.length text.new }
+    ensures length_value { result.failed ≡ true → result.length ≡ 0 }
+{
+    read_all(rt, &mut file, path, text)
+}
+
 // Reads as much of a file as the buffer holds.
 pub fn read_text(rt: &(impl Files + Say), path: &[u8], text: &mut [u8]) -> Text
     ensures prefix_len { IsPrefixLen result.length text.new }
     ensures length_value { result.failed ≡ true → result.length ≡ 0 }
 {
     match open(rt, path) {
-        Ok(mut file) => read_all(rt, &mut file, path, text),
+        Ok(file) => read_open(rt, file, path, text),
         Err(error) => unopened(rt, path, error),
     }
 }
@@ -147,7 +156,7 @@ pub fn read_present(rt: &(impl Files + Say), path: &[u8], text: &mut [u8]) -> Te
     ensures length_value { result.failed ≡ true → result.length ≡ 0 }
 {
     match open(rt, path) {
-        Ok(mut file) => read_all(rt, &mut file, path, text),
+        Ok(file) => read_open(rt, file, path, text),
         Err(error) => {
             fail(rt, path, error);
             failed()
