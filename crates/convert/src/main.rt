@@ -18,14 +18,14 @@ fn put_converted(plan: &[u8], out: &mut [u8; TEXT_MOST]) -> usize
     convert_text(plan, out)
 }
 
-fn main() {
+fn main(rt: HostRuntime) {
     let mut plan = [0u8; READ_MOST];
-    let read = read_text(b"plan.txt", &mut plan);
+    let read = read_text(&rt, b"plan.txt", &mut plan);
     if read.failed {
         return;
     }
     let read_length = read.length;
     let mut out = [0u8; TEXT_MOST];
     let length = put_converted(&plan[..read_length], &mut out);
-    print(&out[..length]);
+    print(&rt, &out[..length]);
 }

@@ -2,69 +2,58 @@
 ghost use Rattle.std.specs.Prelude.{◌≤◌};
 ghost use Rattle.io.specs.Counts.{IsPrefixLen};
 
-use libc::{ENOENT, STDERR_FILENO};
+use files::say::{Say, fail};
+use std::fs::{File, OpenFile};
+use std::io;
+use std::io::{Error, ErrorKind, Write};
+use std::rt::Files;
 use text::part::LF;
 use text::put::{put_byte, put_text};
 
-// One sentence on standard error.
-pub(crate) fn say(text: &[u8]) {
-    io::write_all(STDERR_FILENO, text);
-}
+const ENDS: &str = "ends.txt";
 
-fn failed() -> bool {
-    os::fail(b"ends.txt");
-    false
-}
-
-fn flush(fd: i32) -> bool {
-    if libc::fdatasync(fd) < 0 {
-        return failed();
+// One sentence on standard error where it could not be done.
+fn is_done(rt: &impl Say, done: io::Result<()>) -> bool {
+    match done {
+        Ok(()) => true,
+        Err(error) => {
+            fail(rt, ENDS.as_bytes(), error);
+            false
+        }
     }
-    true
 }
 
 // One write, so that a line is there whole or has no LF, and is cut off at the next start.
-fn append(fd: i32, text: &[u8]) -> bool {
-    let put = libc::write(fd, text);
-    if put < 0 {
-        return failed();
+fn append<F: Write + OpenFile>(file: &mut F, text: &[u8]) -> io::Result<()> {
+    if file.write(text)? < text.len() {
+        let message = "a line was not written whole";
+        return Err(Error::new(ErrorKind::WriteZero, message));
     }
-    if io::count(put, text) < text.len() {
-        say(b"ends.txt: a line was not written whole\n");
-        return false;
-    }
-    flush(fd)
+    file.sync_data()
 }
 
 // The folder's entry of a file that was made.
-fn flush_folder() -> bool {
-    let fd = os::open_read(b".");
-    if fd < 0 {
-        return failed();
-    }
-    let status = libc::fsync(fd);
-    if status < 0 {
-        return failed();
-    }
-    libc::close(fd);
-    true
+fn flush_folder(rt: &impl Files) -> io::Result<()> {
+    File::open(rt, ".")?.sync_all()
+}
+
+fn make(rt: &impl Files, text: &[u8]) -> io::Result<()> {
+    let mut file = File::options().write(true).create_new(true).open(rt, ENDS)?;
+    append(&mut file, text)
 }
 
 // The file is made at the first line.
-fn keep_first(text: &[u8]) -> bool {
-    if os::errno() != ENOENT {
-        return failed();
+fn keep_first(rt: &impl Files, text: &[u8]) -> io::Result<()> {
+    make(rt, text)?;
+    flush_folder(rt)
+}
+
+fn keep_text(rt: &impl Files, text: &[u8]) -> io::Result<()> {
+    match File::options().append(true).open(rt, ENDS) {
+        Ok(mut file) => append(&mut file, text),
+        Err(error) if error.kind() == ErrorKind::NotFound => keep_first(rt, text),
+        Err(error) => Err(error),
     }
-    let fd = os::create(b"ends.txt");
-    if fd < 0 {
-        return failed();
-    }
-    let is_written = append(fd, text);
-    libc::close(fd);
-    if !is_written {
-        return false;
-    }
-    flush_folder()
 }
 
 // The line and its LF.
@@ -76,33 +65,25 @@ fn put_line(line: &[u8], text: &mut [u8; 66]) -> usize
 }
 
 // Whether the line and its LF are on the disk; where they are not, standard error says why.
-pub(crate) fn keep(line: &[u8]) -> bool {
+pub(crate) fn keep(rt: &(impl Files + Say), line: &[u8]) -> bool {
     let mut text = [0u8; 66];
     let length = put_line(line, &mut text);
-    let fd = os::open_append(b"ends.txt");
-    if fd < 0 {
-        return keep_first(&text[..length]);
-    }
-    let is_written = append(fd, &text[..length]);
-    libc::close(fd);
-    is_written
+    is_done(rt, keep_text(rt, &text[..length]))
+}
+
+fn cut_to(rt: &impl Files, length: usize) -> io::Result<()> {
+    let file = File::options().read(true).write(true).open(rt, ENDS)?;
+    file.set_len(length as u64)?;
+    file.sync_data()
 }
 
 // What stands past so many bytes was never answered.
-pub(crate) fn cut(length: usize) -> bool
+pub(crate) fn cut(rt: &(impl Files + Say), length: usize) -> bool
     requires { length ≤ 32769 }
 {
-    let fd = os::open_update(b"ends.txt");
-    if fd < 0 {
-        return failed();
+    let is_cut = is_done(rt, cut_to(rt, length));
+    if is_cut {
+        rt.say(b"note: what followed the last LF of ends.txt was never answered, and is cut off\n");
     }
-    if libc::ftruncate(fd, length as i64) < 0 {
-        return failed();
-    }
-    if !flush(fd) {
-        return false;
-    }
-    libc::close(fd);
-    say(b"note: what followed the last LF of ends.txt was never answered, and is cut off\n");
-    true
+    is_cut
 }

@@ -13,10 +13,12 @@ ghost use Rattle.desk.specs.Printed.{TurnIs};
 use desk_start::{DeskOpening, Way, begin};
 use desk_turns::{Morning, Turn, take_line};
 use files::both::{READ_MOST, read_both};
+use files::say::Say;
 use files::{print, read_piece};
-use keeping::{cut, keep, say};
+use keeping::{cut, keep};
 use log_run::LOG_MOST;
 use log_write::ANSWER_MOST;
+use std::rt::Files;
 use text::part::{LF, part_before, past};
 use typing::{TypedLine, held_in, nothing, type_on};
 
@@ -64,22 +66,28 @@ fn after(number: u32) -> u32 {
 }
 
 // A line that is kept is on the disk before its answer is printed; where it cannot be kept, nothing is.
-fn kept_first(keeps: bool, line: &[u8]) -> bool {
+fn kept_first(rt: &(impl Files + Say), keeps: bool, line: &[u8]) -> bool {
     if keeps {
-        return keep(line);
+        return keep(rt, line);
     }
     true
 }
 
-fn answer(morning: Morning, number: u32, typed: TypedLine, ended: bool) -> Session {
+fn answer(
+    rt: &(impl Files + Print + Say),
+    morning: Morning,
+    number: u32,
+    typed: TypedLine,
+    ended: bool,
+) -> Session {
     let bytes = typed.bytes;
     let held = held_in(&bytes, typed.held);
     let mut out = [0u8; ANSWER_MOST];
     let turn = put_turn(morning, number, &bytes[..held], ended, &mut out);
     let length = turn.length;
-    let mut goes = kept_first(turn.keeps, &bytes[..held]);
+    let mut goes = kept_first(rt, turn.keeps, &bytes[..held]);
     if goes {
-        goes = print(&out[..length]);
+        goes = print(rt, &out[..length]);
     }
     let next = turn.morning;
     Session {
@@ -91,7 +99,7 @@ fn answer(morning: Morning, number: u32, typed: TypedLine, ended: bool) -> Sessi
 }
 
 // The lines that end in a piece, each answered before the next is looked at.
-fn serve(mut served: Session, piece: &[u8]) -> Session {
+fn serve(rt: &(impl Files + Print + Say), mut served: Session, piece: &[u8]) -> Session {
     let mut rest = piece;
     while 0 < rest.len() {
         if !served.goes {
@@ -105,7 +113,7 @@ fn serve(mut served: Session, piece: &[u8]) -> Session {
             return served;
         }
         let morning = served.morning;
-        let next = answer(morning, served.number, typed, true);
+        let next = answer(rt, morning, served.number, typed, true);
         served = next;
         let more = past(rest, part.len());
         rest = more;
@@ -114,7 +122,7 @@ fn serve(mut served: Session, piece: &[u8]) -> Session {
 }
 
 // Until standard input ends. A proved loop has to end, so the pieces are counted.
-fn listen(morning: Morning) -> Session {
+fn listen(rt: &(impl Input + Files + Print + Say), morning: Morning) -> Session {
     let mut served = Session {
         morning,
         number: 1,
@@ -122,12 +130,11 @@ fn listen(morning: Morning) -> Session {
         goes: true,
     };
     let mut piece = [0u8; 4096];
-    let mut turns = u64::MAX;
-    while 0 < turns {
+    for _ in 0..u64::MAX {
         if !served.goes {
             return served;
         }
-        let read = read_piece(&mut piece);
+        let read = read_piece(rt, &mut piece);
         if read.failed {
             served.goes = false;
             return served;
@@ -136,38 +143,37 @@ fn listen(morning: Morning) -> Session {
         if length == 0 {
             return served;
         }
-        let next = serve(served, &piece[..length]);
+        let next = serve(rt, served, &piece[..length]);
         served = next;
-        turns -= 1;
     }
     served
 }
 
 // A last line without its LF is answered, and never taken.
-fn last_line(served: Session) {
+fn last_line(rt: &(impl Files + Print + Say), served: Session) {
     let typed = served.typed;
     if served.goes & (0 < typed.held) {
         let morning = served.morning;
-        answer(morning, served.number, typed, false);
+        answer(rt, morning, served.number, typed, false);
     }
 }
 
 // What follows the last LF of ends.txt is cut off, where the desk goes on; whether that could be done.
-fn cut_tail(way: Way, kept: usize, length: usize) -> bool
+fn cut_tail(rt: &(impl Files + Say), way: &Way, kept: usize, length: usize) -> bool
     requires { length ≤ 32769 }
 {
     match way {
         Way::Refused => true,
         Way::Stops => true,
-        Way::Goes => kept >= length || cut(kept),
+        Way::Goes => kept >= length || cut(rt, kept),
     }
 }
 
 // Nothing is printed before both files are read and ends.txt has its whole lines alone.
-fn main() {
+fn main(rt: HostRuntime) {
     let mut plan = [0u8; READ_MOST];
     let mut ends = [0u8; READ_MOST];
-    let read = read_both(b"ends.txt", &mut plan, &mut ends);
+    let read = read_both(&rt, b"ends.txt", &mut plan, &mut ends);
     if read.failed {
         return;
     }
@@ -178,15 +184,15 @@ fn main() {
     let length = begun.length;
     let morning = begun.morning;
     let way = begun.way;
-    if !cut_tail(way, morning.kept, ends_length) {
+    if !cut_tail(&rt, &way, morning.kept, ends_length) {
         return;
     }
-    if !print(&out[..length]) {
+    if !print(&rt, &out[..length]) {
         return;
     }
     match way {
         Way::Refused => {}
-        Way::Stops => say(b"ends.txt: runlog stops in it; nothing was changed\n"),
-        Way::Goes => last_line(listen(morning)),
+        Way::Stops => rt.say(b"ends.txt: runlog stops in it; nothing was changed\n"),
+        Way::Goes => last_line(&rt, listen(&rt, morning)),
     }
 }

@@ -2,6 +2,8 @@
 ghost use Rattle.io.specs.Counts.{IsPrefixLen};
 
 use crate::read_text;
+use crate::say::Say;
+use std::rt::Files;
 
 // One byte more than a text may have: enough to see that a file is too long.
 pub const READ_MOST: usize = 32769;
@@ -15,11 +17,16 @@ pub struct PlanAndText {
 }
 
 // Reads plan.txt and then the file beside it. If one cannot be read the other is of no use, and one sentence is said.
-pub fn read_both(name: &[u8], plan: &mut [u8], text: &mut [u8]) -> PlanAndText
+pub fn read_both(
+    rt: &(impl Files + Say),
+    name: &[u8],
+    plan: &mut [u8],
+    text: &mut [u8],
+) -> PlanAndText
     ensures prefix_len { IsPrefixLen result.plan plan.new }
     ensures prefix_len_2 { IsPrefixLen result.text text.new }
 {
-    let planned = read_text(b"plan.txt", plan);
+    let planned = read_text(rt, b"plan.txt", plan);
     if planned.failed {
         return PlanAndText {
             failed: true,
@@ -27,7 +34,7 @@ pub fn read_both(name: &[u8], plan: &mut [u8], text: &mut [u8]) -> PlanAndText
             text: 0,
         };
     }
-    let beside = read_text(name, text);
+    let beside = read_text(rt, name, text);
     PlanAndText {
         failed: beside.failed,
         plan: planned.length,

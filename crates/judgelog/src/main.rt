@@ -18,10 +18,10 @@ fn put_verdict(plan: &[u8], log: &[u8], out: &mut [u8; JUDGED_MOST]) -> usize
 }
 
 // Nothing is printed before both files are read.
-fn main() {
+fn main(rt: HostRuntime) {
     let mut plan = [0u8; READ_MOST];
     let mut log = [0u8; READ_MOST];
-    let read = read_both(b"log.txt", &mut plan, &mut log);
+    let read = read_both(&rt, b"log.txt", &mut plan, &mut log);
     if read.failed {
         return;
     }
@@ -29,5 +29,5 @@ fn main() {
     let log_length = read.text;
     let mut out = [0u8; JUDGED_MOST];
     let length = put_verdict(&plan[..plan_length], &log[..log_length], &mut out);
-    print(&out[..length]);
+    print(&rt, &out[..length]);
 }

@@ -18,10 +18,10 @@ fn put_log(plan: &[u8], ends: &[u8], out: &mut [u8; LOG_MOST]) -> usize
 }
 
 // Nothing is printed before both files are read.
-fn main() {
+fn main(rt: HostRuntime) {
     let mut plan = [0u8; READ_MOST];
     let mut ends = [0u8; READ_MOST];
-    let read = read_both(b"ends.txt", &mut plan, &mut ends);
+    let read = read_both(&rt, b"ends.txt", &mut plan, &mut ends);
     if read.failed {
         return;
     }
@@ -29,5 +29,5 @@ fn main() {
     let ends_length = read.text;
     let mut out = [0u8; LOG_MOST];
     let length = put_log(&plan[..plan_length], &ends[..ends_length], &mut out);
-    print(&out[..length]);
+    print(&rt, &out[..length]);
 }

@@ -18,10 +18,10 @@ fn put_table(plan: &[u8], lengths: &[u8], out: &mut [u8; TABLE_MOST]) -> usize
 }
 
 // Nothing is printed before both files are read.
-fn main() {
+fn main(rt: HostRuntime) {
     let mut plan = [0u8; READ_MOST];
     let mut lengths = [0u8; READ_MOST];
-    let read = read_both(b"lengths.txt", &mut plan, &mut lengths);
+    let read = read_both(&rt, b"lengths.txt", &mut plan, &mut lengths);
     if read.failed {
         return;
     }
@@ -29,5 +29,5 @@ fn main() {
     let lengths_length = read.text;
     let mut out = [0u8; TABLE_MOST];
     let length = put_table(&plan[..plan_length], &lengths[..lengths_length], &mut out);
-    print(&out[..length]);
+    print(&rt, &out[..length]);
 }

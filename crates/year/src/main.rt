@@ -6,8 +6,10 @@ ghost use Rattle.io.specs.Counts.{IsPrefixLen};
 ghost use Rattle.year_rules.specs.Totals.{zero_totals};
 ghost use Rattle.year_write.specs.Report.{year_text};
 
+use files::say::Say;
 use files::{ListPart, NAME_MOST, next_line, print, took};
-use libc::STDERR_FILENO;
+use std::fmt::InlineText;
+use std::rt::Files;
 use year_folders::add_folder;
 use year_rules::{LOGS_MOST, Totals};
 use year_write::{REPORT_MOST, write_report};
@@ -21,6 +23,9 @@ const PART: usize = 4096;
 // How many logs are done between two notes.
 const NOTED: u64 = 100;
 
+// No note is longer.
+const NOTE_MOST: usize = 64;
+
 // What the reading of the list has come to.
 #[derive(Drop)]
 enum State {
@@ -30,12 +35,8 @@ enum State {
     Failed,
 }
 
-fn is_reading(state: State) -> bool {
-    if let State::Reading = state {
-        true
-    } else {
-        false
-    }
+fn is_reading(state: &State) -> bool {
+    matches!(state, State::Reading)
 }
 
 #[derive(Drop)]
@@ -79,23 +80,24 @@ fn wide(x: u32) -> u64
     x as u64
 }
 
-fn logs_in(totals: Totals) -> u64 {
+fn logs_in(totals: &Totals) -> u64 {
     wide(totals.accepted) + wide(totals.refused)
 }
 
 // How many logs are done, which the command shows on a terminal. It is no failure, so it begins with a word of its own.
-fn note(done: u64) {
+fn note(rt: &impl Say, done: u64) {
     if done % NOTED == 0 {
-        io::write_all(STDERR_FILENO, b"note: ");
-        io::print_decimal(STDERR_FILENO, done);
-        io::write_all(STDERR_FILENO, b" logs are done\n");
+        let words: InlineText<NOTE_MOST> = InlineText::of(format_args!(
+            "note: {done} logs are done\n"
+        ));
+        rt.say(words.as_str().as_bytes());
     }
 }
 
 // A line that is longer than the room: as much of it as was read.
-fn fail_over(name: &[u8]) {
-    io::write_all(STDERR_FILENO, name);
-    io::write_all(STDERR_FILENO, b": longer than a path may be\n");
+fn fail_over(rt: &impl Say, name: &[u8]) {
+    rt.say(name);
+    rt.say(b": longer than a path may be\n");
 }
 
 fn come_to(state: State, totals: Totals) -> NameResult {
@@ -104,6 +106,7 @@ fn come_to(state: State, totals: Totals) -> NameResult {
 
 // From the 10,001st name on nothing is opened.
 fn add_name(
+    rt: &(impl Files + Say),
     name: &[u8],
     over: bool,
     plan: &mut [u8],
@@ -111,22 +114,22 @@ fn add_name(
     totals: Totals,
 ) -> NameResult {
     if name.len() == 0 {
-        io::write_all(STDERR_FILENO, b"LIST: a line is empty\n");
+        rt.say(b"LIST: a line is empty\n");
         return come_to(State::Failed, totals);
     }
-    if LOGS_MOST <= logs_in(totals) {
+    if LOGS_MOST <= logs_in(&totals) {
         return come_to(State::Past, totals);
     }
     if over {
-        fail_over(name);
+        fail_over(rt, name);
         return come_to(State::Failed, totals);
     }
-    let added = add_folder(name, plan, log, totals);
+    let added = add_folder(rt, name, plan, log, totals);
     let next = added.totals;
     if added.failed {
         return come_to(State::Failed, next);
     }
-    note(logs_in(next));
+    note(rt, logs_in(&next));
     come_to(State::Reading, next)
 }
 
@@ -140,6 +143,7 @@ fn listed(state: State, taken: ListPart, totals: Totals) -> List {
 
 // One name of the list.
 fn read_name(
+    rt: &(impl Input + Files + Say),
     name: &mut [u8],
     part: &mut [u8],
     plan: &mut [u8],
@@ -148,7 +152,7 @@ fn read_name(
 ) -> List {
     let totals = held.totals;
     let from = held.taken;
-    let found = next_line(name, part, from);
+    let found = next_line(rt, name, part, from);
     let taken = found.taken;
     if taken.failed {
         return listed(State::Failed, taken, totals);
@@ -157,7 +161,7 @@ fn read_name(
         return listed(State::Done, taken, totals);
     }
     let at = found.length;
-    let named = add_name(&name[..at], found.over, plan, log, totals);
+    let named = add_name(rt, &name[..at], found.over, plan, log, totals);
     let next = named.totals;
     let state = named.state;
     listed(state, taken, next)
@@ -165,48 +169,45 @@ fn read_name(
 
 // Arrays lent as what they are keep their length through a loop.
 fn read_next(
+    rt: &(impl Input + Files + Say),
     name: &mut [u8; NAME_MOST],
     part: &mut [u8; PART],
     plan: &mut [u8; READ_MOST],
     log: &mut [u8; READ_MOST],
     held: List,
 ) -> List {
-    read_name(name, part, plan, log, held)
+    read_name(rt, name, part, plan, log, held)
 }
 
-fn read_list(totals: Totals) -> List {
+fn read_list(rt: &(impl Input + Files + Say), totals: Totals) -> List {
     let mut name = [0u8; NAME_MOST];
     let mut part = [0u8; PART];
     let mut plan = [0u8; READ_MOST];
     let mut log = [0u8; READ_MOST];
     let mut held = listed(State::Reading, took(false, 0, 0), totals);
-    let mut turns = u64::MAX;
-    while 0 < turns {
-        let next = read_next(&mut name, &mut part, &mut plan, &mut log, held);
-        let state = next.state;
-        if !is_reading(state) {
+    for _ in 0..u64::MAX {
+        let next = read_next(rt, &mut name, &mut part, &mut plan, &mut log, held);
+        if !is_reading(&next.state) {
             return next;
         }
         held = next;
-        turns -= 1;
     }
     held
 }
 
-fn print_report(totals: Totals, past: bool) {
+fn print_report(rt: &(impl Print + Say), totals: Totals, past: bool) {
     let mut out = [0u8; REPORT_MOST];
     let length = put_report(totals, past, &mut out);
-    print(&out[..length]);
+    print(rt, &out[..length]);
 }
 
 // Nothing is printed before the whole list is read.
-fn main() {
-    let held = read_list(no_logs());
+fn main(rt: HostRuntime) {
+    let held = read_list(&rt, no_logs());
     let totals = held.totals;
-    let state = held.state;
-    match state {
+    match held.state {
         State::Failed => {}
-        State::Past => print_report(totals, true),
-        State::Done | State::Reading => print_report(totals, false),
+        State::Past => print_report(&rt, totals, true),
+        State::Done | State::Reading => print_report(&rt, totals, false),
     }
 }

@@ -4,6 +4,8 @@
 ghost use Rattle.std.specs.Prelude.{◌≡◌, true};
 
 use files::read_in;
+use files::say::Say;
+use std::rt::Files;
 use year_rules::Totals;
 use year_totals::add_texts;
 
@@ -21,14 +23,20 @@ fn after(failed: bool, totals: Totals) -> Folder
 }
 
 // Both files are read before the log is judged. The buffers hold what was read of them.
-pub fn add_folder(name: &[u8], plan: &mut [u8], log: &mut [u8], totals: Totals) -> Folder
+pub fn add_folder(
+    rt: &(impl Files + Say),
+    name: &[u8],
+    plan: &mut [u8],
+    log: &mut [u8],
+    totals: Totals,
+) -> Folder
     ensures { result.failed ≡ true → result.totals ≡ totals }
 {
-    let planned = read_in(name, b"/plan.txt", plan);
+    let planned = read_in(rt, name, b"/plan.txt", plan);
     if planned.failed {
         return after(true, totals);
     }
-    let logged = read_in(name, b"/log.txt", log);
+    let logged = read_in(rt, name, b"/log.txt", log);
     if logged.failed {
         return after(true, totals);
     }
