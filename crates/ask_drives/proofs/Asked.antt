@@ -1,25 +1,23 @@
 -- What is answered about a drive, and a sheet that is made.
 use Prim.Native.Nat.{ℕ, ◌+◌, ◌-◌, ◌*◌, ◌≤◌, ◌<◌}
 use native.Mathlib.Omega.{arith}
-use mathlib.Core.Path.{◌≡◌, refl, sym, ap, ◌∙◌}
+use mathlib.Core.Path.{◌≡◌, sym, ap, ◌∙◌}
 use mathlib.Core.Bool.{Bool, true, false, not, cond, ◌&&◌}
-use mathlib.Core.List.{List, [], ◌++◌, append-nil}
+use mathlib.Core.List.{List, ◌++◌, append-nil}
 use lib.Dec.{leb}
-use lib.ListN.{length, take, drop, replicate, length-take, length-drop, length-replicate, drop_of_length-le}
+use lib.ListN.{length, drop, replicate, length-take, length-drop, length-replicate, drop_of_length-le}
 use lib.Seq.{sets}
 use borrow.Author.Tests.{le-leb, leb-true, not-true, not-false}
 use Rattle.laws.proofs.Blank.{sets-front}
-use Rattle.laws.proofs.Cases.{by_bool, and_l, and_r}
+use Rattle.laws.proofs.Cases.{and_l, and_r}
 use Rattle.text_fields.specs.Items.{between}
 use Rattle.text.specs.Put.{Put}
 use Rattle.plan.specs.Answer.{refuse, granted}
 use Rattle.plan.specs.Value.{at, row}
 use Rattle.plan.specs.declared.Answer.{Answer}
-use Rattle.plan.proofs.PlanRows.{part-row}
 use Rattle.book_sound.specs.Sound.{sound_waits}
 use Rattle.book_waits.specs.declared.Waits.{Waits}
 use Rattle.ask_sheet.specs.Sheet.{zero_sheet}
-use Rattle.ask_sheet.specs.Sets.{same_sheet}
 use Rattle.ask_sheet.specs.declared.Sheet.{Sheet}
 use Rattle.book.specs.Sound.{is_sound, judged_in}
 use Rattle.book.specs.declared.Book.{Book}

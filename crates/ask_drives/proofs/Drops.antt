@@ -3,30 +3,24 @@ use Prim.Native.Nat.{ℕ, ◌-◌, ◌<◌}
 use native.Mathlib.Omega.{arith}
 use mathlib.Core.Path.{◌≡◌, sym, ap, ◌∙◌}
 use mathlib.Core.Bool.{Bool, true, false, not, cond, ◌&&◌, ◌||◌}
-use mathlib.Core.List.{List, []}
 use mathlib.Core.Logic.{◌≢◌}
 use lib.Dec.{eqb}
 use lib.ListN.{length, set}
-use borrow.Author.Tests.{eq-eqb, ne_eqb}
 use Rattle.laws.proofs.Cases.{by_bool, and_no}
-use Rattle.theory.specs.Report.{drop_code}
 use Rattle.plan.specs.Answer.{refuse}
 use Rattle.plan.specs.declared.Answer.{Answer}
-use Rattle.book_view.specs.View.{plan_seen, book_seen}
-use Rattle.ask_sheet.specs.Sets.{renewed_by, same_sheet}
+use Rattle.ask_sheet.specs.Sets.{renewed_by}
 use Rattle.ask_sheet.specs.declared.Sheet.{Sheet}
 use Rattle.book.specs.Sound.{is_sound, judged_in}
 use Rattle.book.specs.View.{plan_in}
 use Rattle.book.specs.Coded.{coded_drop}
-use Rattle.book.specs.Drop.{drop_code_of, dropped_in, dropped_of}
+use Rattle.book.specs.Drop.{drop_code_of, dropped_of}
 use Rattle.book.specs.declared.Book.{Book}
-use Rattle.book.specs.declared.BookResult.{BookResult}
 use Rattle.book.proofs.ReportLaws.{dropped-refused, dropped-granted, dropped-task, dropped-place, dropped-known, dropped-facts}
 use Rattle.book.proofs.LaidOut.{book_with, dropped-laid}
 use Rattle.book.proofs.WaitLaws.{drop-judged}
-use Rattle.ask_drives.specs.Sheets.{sheet_in, is_own, kept_with, dropped_with, standing_in}
+use Rattle.ask_drives.specs.Sheets.{is_own, kept_with, dropped_with, standing_in}
 use Rattle.ask_drives.specs.Private.Looked.{looked_at}
-use Rattle.ask_drives.specs.declared.BookAndSheet.{BookAndSheet}
 use Rattle.ask_drives.specs.declared.SheetCheck.{SheetCheck}
 use Rattle.ask_drives.proofs.Keep.{own-kept}
 use Rattle.ask_drives.proofs.Steps.{drop-step}

@@ -1,8 +1,7 @@
 -- A sheet kept through a step of its book is the sheet of the book after it.
 use Prim.Native.Nat.{ℕ}
-use native.Mathlib.Omega.{arith}
-use mathlib.Core.Path.{◌≡◌, refl, sym, ap, ◌∙◌}
-use mathlib.Core.Bool.{Bool, true, false, cond, ◌&&◌}
+use mathlib.Core.Path.{◌≡◌, sym, ap, ◌∙◌}
+use mathlib.Core.Bool.{true, false, cond}
 use mathlib.Core.List.{List}
 use mathlib.Core.Logic.{◌≢◌}
 use lib.Dec.{eqb}
@@ -13,7 +12,6 @@ use Rattle.laws.specs.Lists.{same}
 use Rattle.laws.proofs.Lists.{same-eq}
 use Rattle.theory.specs.Book as theory-book
 use Rattle.plan.specs.Answer.{refuse}
-use Rattle.plan.specs.declared.Answer.{Answer}
 use Rattle.plan.specs.declared.Plan.{Plan}
 use Rattle.book_holders.specs.Holders.{holders_of}
 use Rattle.book_holders.specs.declared.Holders.{Holders}
@@ -30,7 +28,6 @@ use Rattle.book.specs.declared.BookResult.{BookResult}
 use Rattle.ask_drives.specs.Sheets.{sheet_in, is_own, kept_with, standing_in}
 use Rattle.ask_drives.specs.Seen.{seen_by}
 use Rattle.ask_drives.specs.Private.Looked.{looked_at}
-use Rattle.ask_drives.specs.declared.BookAndSheet.{BookAndSheet}
 use Rattle.ask_drives.specs.declared.SheetCheck.{SheetCheck}
 
 -- two sheets that say the same are one

@@ -1,7 +1,7 @@
 -- A report and a drop as steps of a book.
 use Prim.Native.Nat.{ℕ, ◌-◌}
 use native.Mathlib.Omega.{arith}
-use mathlib.Core.Path.{◌≡◌, refl}
+use mathlib.Core.Path.{◌≡◌}
 use mathlib.Core.Bool.{true, false}
 use Rattle.laws.proofs.Cases.{by_bool}
 use Rattle.plan.specs.Answer.{refuse, is_granted}

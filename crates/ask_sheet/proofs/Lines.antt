@@ -1,12 +1,12 @@
 -- A drive's places, filled task by task; and who is next.
-use Prim.Native.Nat.{ℕ, zero, suc, ◌+◌, ◌-◌, ◌%◌, ◌≤◌, ◌<◌, min}
+use Prim.Native.Nat.{ℕ, ◌+◌, ◌-◌, ◌%◌, ◌≤◌, ◌<◌, min}
 use native.Mathlib.Omega.{arith}
 use mathlib.Core.Path.{◌≡◌, refl, sym, ap, ◌∙◌}
-use mathlib.Core.Bool.{Bool, true, false, cond, ◌&&◌, ◌||◌}
+use mathlib.Core.Bool.{Bool, true, false, ◌&&◌}
 use mathlib.Core.List.{List, [], ◌∷◌, ◌++◌}
 use mathlib.Core.Logic.{◌≢◌}
-use lib.Dec.{eqb, ltb}
-use lib.ListN.{length, get_or, set, replicate, length-append, length-set, length-replicate, get_or-append, get_or-eq_default}
+use lib.Dec.{ltb}
+use lib.ListN.{length, set, replicate, length-append, length-set, length-replicate, get_or-append}
 use lib.Seq.{ext_get_or, get_or-set_same, get_or-set_other, get_or-append_seam}
 use borrow.Author.Tests.{lt-ltb, le-ltb, eq-eqb, ne_eqb}
 use Rattle.laws.specs.Bits.{has}
@@ -18,8 +18,7 @@ use Rattle.plan.specs.Value.{at}
 use Rattle.book_view.proofs.Turns.{bit-seen}
 use Rattle.book_view.proofs.Short.{at-past}
 use Rattle.ask_sheet.specs.Sheet.{numbers, sooner, soonest, eight}
-use Rattle.ask_sheet.specs.Sets.{members}
-use Rattle.ask_sheet.proofs.Numbers.{numbers-taken, numbers-passed, numbers-none, soonest-more, sooner-low}
+use Rattle.ask_sheet.proofs.Numbers.{numbers-taken, numbers-passed, soonest-more, sooner-low}
 
 pub eight-length : (l : List ℕ) → length (eight l) ≡ 8
 eight-length l = length-each 8 (at l) (replicate 8 0) ∙ length-replicate {A = ℕ} 8 0

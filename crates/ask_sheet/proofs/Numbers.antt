@@ -1,15 +1,13 @@
 -- The numbers of those picked, turn by turn and as far as they are picked; the soonest of a list.
-use Prim.Native.Nat.{ℕ, zero, suc, ◌+◌, ◌-◌, ◌%◌, ◌≤◌, ◌<◌, min}
+use Prim.Native.Nat.{ℕ, zero, suc, ◌+◌, ◌-◌, ◌≤◌, ◌<◌}
 use native.Mathlib.Numerals.{add-one}
 use native.Mathlib.Omega.{arith}
 use mathlib.Core.Path.{◌≡◌, refl, sym, ap, ◌∙◌}
-use mathlib.Core.Bool.{Bool, true, false, cond, ◌&&◌}
+use mathlib.Core.Bool.{Bool, true, false, ◌&&◌}
 use mathlib.Core.List.{List, [], ◌∷◌, ◌++◌}
 use lib.Dec.{eqb, ltb}
-use lib.ListN.{length, length-append}
 use borrow.Author.Tests.{lt-ltb, le-ltb}
-use Rattle.laws.specs.Bits.{has}
-use Rattle.laws.proofs.Cases.{by_bool, by-eq, by_le}
+use Rattle.laws.proofs.Cases.{by_bool}
 use Rattle.ask_sheet.specs.Sheet.{numbers, sooner, soonest}
 
 module _ (n : ℕ) (w : ℕ → Bool) where

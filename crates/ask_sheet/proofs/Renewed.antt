@@ -1,12 +1,12 @@
 -- The sheet updated is the sheet worked out afresh.
-use Prim.Native.Nat.{ℕ, zero, suc, ◌+◌, ◌-◌, ◌*◌, ◌≤◌, ◌<◌, min}
+use Prim.Native.Nat.{ℕ, ◌+◌, ◌*◌, ◌<◌}
 use native.Mathlib.Omega.{arith}
 use mathlib.Core.Path.{◌≡◌, refl, sym, ap, ◌∙◌}
-use mathlib.Core.Bool.{Bool, true, false, cond}
-use mathlib.Core.List.{List, [], ◌∷◌, ◌++◌}
+use mathlib.Core.Bool.{cond}
+use mathlib.Core.List.{List, []}
 use lib.Bits.{bit_and}
 use lib.Dec.{eqb}
-use lib.ListN.{length, get_or, take, drop, replicate, length-replicate, length-take, length-drop, get_or-replicate}
+use lib.ListN.{length, drop, replicate, length-replicate, length-take, length-drop, get_or-replicate}
 use lib.Seq.{get_or-take, get_or-drop, ext_get_or}
 use borrow.Author.Tests.{eqb-true}
 use Rattle.laws.specs.Bits.{has}
@@ -16,9 +16,8 @@ use Rattle.laws.proofs.Cases.{by_bool, and_no}
 use Rattle.laws.proofs.Each.{length-rows, length-each, each_below, each-idle}
 use Rattle.laws.proofs.Rows.{row_at}
 use Rattle.plan.specs.Value.{at, row}
-use Rattle.ask_sheet.specs.Sheet.{numbers, soonest, eight, sheet_with, zero_sheet}
+use Rattle.ask_sheet.specs.Sheet.{soonest, eight, sheet_with, zero_sheet}
 use Rattle.ask_sheet.specs.Sets.{members, sheet_by, running_again, next_again, renewed_by}
-use Rattle.ask_sheet.specs.declared.Sheet.{Sheet}
 use Rattle.ask_sheet.specs.declared.Standing.{Standing}
 use Rattle.ask_sheet.proofs.Numbers.{numbers-none}
 use Rattle.ask_sheet.proofs.Lines.{eight-length, eight-at}

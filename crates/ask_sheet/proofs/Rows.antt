@@ -1,13 +1,12 @@
 -- Rows of eight and single places, written one after the other, some of them left as they stand.
-use Prim.Native.Nat.{ℕ, zero, suc, ◌+◌, ◌-◌, ◌*◌, ◌≤◌, ◌<◌, min}
+use Prim.Native.Nat.{ℕ, ◌+◌, ◌*◌, ◌≤◌, ◌<◌}
 use native.Mathlib.Omega.{arith}
-use mathlib.Core.Path.{◌≡◌, refl, sym, ap, ◌∙◌}
-use mathlib.Core.List.{List, [], ◌∷◌, ◌++◌, append_assoc, append-nil}
-use lib.ListN.{length, get_or, take, drop, length-take, length-drop, take-append-drop, drop_of_length-le}
+use mathlib.Core.Path.{◌≡◌, sym, ap, ◌∙◌}
+use mathlib.Core.List.{List, [], ◌++◌, append_assoc, append-nil}
+use lib.ListN.{length, take, drop, length-take, length-drop, take-append-drop, drop_of_length-le}
 use lib.Seq.{sets, sets-eq, ext_get_or, drop-drop}
 use Rattle.laws.specs.Each.{each, rows}
 use Rattle.laws.proofs.Blank.{sets-front}
-use Rattle.laws.proofs.Cases.{by-eq}
 use Rattle.laws.proofs.Each.{rows-turn, length-rows, length-each, each_below}
 use Rattle.laws.proofs.Rows.{row_at, rows-past, row-of-rows, rows_ext}
 

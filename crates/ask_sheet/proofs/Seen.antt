@@ -1,26 +1,25 @@
 -- The sheet by sets is the sheet worked out from the holds.
-use Prim.Native.Nat.{ℕ, zero, suc, ◌+◌, ◌-◌, ◌*◌, ◌≤◌, ◌<◌, min}
+use Prim.Native.Nat.{ℕ, ◌+◌, ◌*◌, ◌≤◌, ◌<◌, min}
 use native.Mathlib.Numerals.{add-one}
 use native.Mathlib.Omega.{arith}
 use mathlib.Core.Path.{◌≡◌, refl, sym, ap, ◌∙◌}
-use mathlib.Core.Bool.{Bool, true, false, cond, ◌&&◌}
-use mathlib.Core.List.{List, [], ◌∷◌}
+use mathlib.Core.Bool.{Bool, true, false, ◌&&◌}
+use mathlib.Core.List.{List}
 use lib.Bits.{bit_and}
 use lib.Dec.{eqb, ltb}
-use lib.ListN.{length, take, drop, drop_of_length-le}
-use Rattle.laws.specs.Bits.{has, set_of, sets_to}
-use Rattle.laws.specs.Lists.{any_of, same}
+use lib.ListN.{length, take, drop_of_length-le}
+use Rattle.laws.specs.Bits.{has, set_of}
+use Rattle.laws.specs.Lists.{any_of}
 use Rattle.laws.specs.Split.{index_of}
 use Rattle.laws.proofs.Bits.{has-and, has-set, has-below}
-use Rattle.laws.proofs.Cases.{and_l, and_r}
 use Rattle.laws.proofs.Noted.{set_at}
 use Rattle.theory.specs.Book.{Book}
 use Rattle.theory.specs.Figure.{has_begun}
 use Rattle.text_fields.specs.Items.{drive_of}
-use Rattle.plan.specs.Value.{at, row, items}
+use Rattle.plan.specs.Value.{at, items}
 use Rattle.book_view.proofs.Short.{short}
 use Rattle.book_holders.specs.Holders.{holds_drive, holders_of}
-use Rattle.ask_sheet.specs.Sheet.{is_waiting, numbers, soonest, sheet_with, holders_who, sheet_of}
+use Rattle.ask_sheet.specs.Sheet.{is_waiting, numbers, soonest, holders_who, sheet_of}
 use Rattle.ask_sheet.specs.Sets.{standing_of, members, sheet_by}
 use Rattle.ask_sheet.proofs.Numbers.{numbers-within, numbers-passed}
 use Rattle.ask_sheet.proofs.Renewed.{sheet-same}

@@ -9,9 +9,8 @@ use Rattle.theory.specs.Plan as theory-plan
 use Rattle.theory.specs.Book as theory-book
 use Rattle.theory.specs.Report.{goes, skips, skip_once, skip_times, let_go, next, blank, opened}
 use Rattle.theory.proofs.Step.{next-clock, next-dropped}
-use Rattle.laws.specs.Each.{each, rows}
 use native.Mathlib.Omega.{arith}
-use Rattle.plan.specs.Value.{at, plan_with, plan_of, zero_plan}
+use Rattle.plan.specs.Value.{at}
 use Rattle.plan.specs.declared.Plan.{Plan}
 use Rattle.book_view.specs.View.{plan_for, laid}
 use Rattle.book_view.proofs.Accepted.{plan-facts}

@@ -16,7 +16,7 @@ use Rattle.book_waits.specs.Waits.{waits_of}
 use Rattle.book_waits.specs.declared.Waits.{Waits}
 use Rattle.book_sound.specs.Sound.{sound_waits}
 use Rattle.book_sound.proofs.WaitLaws.{agree}
-use Rattle.book.specs.View.{plan_in, plan_view, book_view}
+use Rattle.book.specs.View.{plan_in, plan_view}
 use Rattle.book.specs.Sound.{is_sound, judged_in}
 use Rattle.book.specs.Report.{code_of}
 use Rattle.book.specs.Drop.{drop_code_of}

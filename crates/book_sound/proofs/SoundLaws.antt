@@ -1,14 +1,14 @@
 -- The ways out of the soundness test's loops, a task's state by its mark, and the test part by part.
-use Prim.Native.Nat.{ℕ, ◌≤◌, max}
+use Prim.Native.Nat.{ℕ, ◌≤◌}
 use native.Mathlib.Omega.{arith}
-use mathlib.Core.Bool.{Bool, true, false, not, cond, ◌&&◌, and-false, and-true, and_assoc}
+use mathlib.Core.Bool.{Bool, true, false, not, ◌&&◌, and-false, and-true, and_assoc}
 use mathlib.Core.List.{List}
-use mathlib.Core.Path.{◌≡◌, refl, sym, ap, ◌∙◌}
+use mathlib.Core.Path.{◌≡◌, sym, ap, ◌∙◌}
 use mathlib.Core.Logic.{◌≢◌}
 use lib.Bits.{bit_and}
 use lib.Dec.{eqb, ltb, leb}
-use borrow.Author.Tests.{eq-eqb, ne_eqb, eqb-true, le-leb, lt-leb, leb-true, lt-ltb, ltb-true, ltb-false, not-true, not-false}
-use Rattle.laws.proofs.Cases.{by_bool, by-eq, true-false, same_test, and_no, and_l, and_r, and-of}
+use borrow.Author.Tests.{eq-eqb, ne_eqb, eqb-true, le-leb, lt-leb, leb-true, lt-ltb, ltb-true, not-true, not-false}
+use Rattle.laws.proofs.Cases.{by-eq, true-false, same_test, and_no, and_l, and_r, and-of}
 use Rattle.laws.specs.Bits.{has, set_of}
 use Rattle.laws.proofs.Bits.{has-and, has-none, has-set, some-bit}
 use Rattle.laws.specs.Every.{every, any}

@@ -1,17 +1,15 @@
 -- Each answer, by the tests that lead to it.
-use Prim.Native.Nat.{ℕ, ◌+◌, ◌-◌, ◌*◌, ◌≤◌, ◌<◌}
-use mathlib.Core.Path.{◌≡◌, refl, sym, ap, ◌∙◌}
+use Prim.Native.Nat.{ℕ, ◌+◌, ◌*◌, ◌≤◌}
+use mathlib.Core.Path.{◌≡◌, sym, ◌∙◌}
 use mathlib.Core.Logic.{◌≢◌}
 use mathlib.Core.Bool.{Bool, true, false, not}
-use mathlib.Core.List.{List, [], ◌∷◌, ◌++◌}
+use mathlib.Core.List.{List, [], ◌∷◌}
 use native.Mathlib.Omega.{arith}
-use lib.Dec.{eqb}
 use lib.ListN.{length}
 use borrow.Author.Tests.{eq-eqb, ne_eqb, not-true, not-false}
 use Rattle.text.specs.Bytes.{bytes}
 use Rattle.theory.proofs.Order as order
 use Rattle.plan.specs.Answer.{refuse}
-use Rattle.plan.specs.Value.{at}
 use Rattle.plan.specs.declared.Answer.{Answer}
 use Rattle.book_view.proofs.Accepted.{plan-facts, plan-lawful}
 use Rattle.book.specs.View.{plan_in, plan_view, book_view}
@@ -26,7 +24,7 @@ use Rattle.log_write.specs.Lines.{numbers_line, refused_line, Lined}
 use Rattle.log_write.specs.Answers.{Answered}
 use Rattle.log_write.specs.Private.Wrote.{Wrote}
 use Rattle.log_write.proofs.WriteLaws.{wrote-line, wrote-length, also}
-use Rattle.desk_answers.specs.Answers.{unless_refused, lines_each, known_line, early_answer, exact_answer, running_in, runs_line, now_answer}
+use Rattle.desk_answers.specs.Answers.{unless_refused, known_line, early_answer, exact_answer, now_answer}
 use Rattle.desk_answers.specs.Private.Arrays.{LimitsFit, Running}
 
 pub answered : {out text : List ℕ} {a : ℕ} {m : List ℕ} {p : ℕ} → a ≤ 3432 → Wrote out 0 text a m p → Answered out text m p

@@ -1,6 +1,6 @@
 -- The links of a chain, one after the other.
 use Prim.Native.Nat.{ℕ, ◌+◌, ◌-◌, ◌*◌, ◌≤◌, ◌<◌, min}
-use mathlib.Core.Path.{◌≡◌, refl, sym, ap, subst, ◌∙◌}
+use mathlib.Core.Path.{◌≡◌, sym, ap, subst, ◌∙◌}
 use mathlib.Core.Logic.{◌≢◌}
 use mathlib.Core.List.{List, [], ◌∷◌, ◌++◌, map}
 use native.Mathlib.Omega.{arith}
@@ -24,7 +24,7 @@ use Rattle.log_write.specs.Lines.{numbers_line, refused_line, Lined}
 use Rattle.log_write.specs.Answers.{Answered}
 use Rattle.log_write.specs.Private.Wrote.{Wrote}
 use Rattle.log_write.proofs.WriteLaws.{also, looser, nothing, wrote-line, wrote-length}
-use Rattle.desk_answers.specs.Answers.{unless_refused, lines_each, known_line}
+use Rattle.desk_answers.specs.Answers.{lines_each, known_line}
 use Rattle.desk_answers.proofs.LineLaws.{each_last}
 use Rattle.desk_answers.proofs.AnswerLaws.{answered, unless-no, unless-yes}
 use Rattle.desk_answers.specs.Questions.{link_line, links_in, why_answer}

@@ -1,6 +1,6 @@
 -- The line of a drive, part by part.
-use Prim.Native.Nat.{ℕ, ◌+◌, ◌-◌, ◌*◌, ◌≤◌, ◌<◌}
-use mathlib.Core.Path.{◌≡◌, refl, sym, ap, subst, ◌∙◌}
+use Prim.Native.Nat.{ℕ, ◌+◌, ◌*◌, ◌≤◌, ◌<◌}
+use mathlib.Core.Path.{◌≡◌, sym, ap, subst, ◌∙◌}
 use mathlib.Core.Logic.{◌≢◌}
 use mathlib.Core.Bool.{not}
 use mathlib.Core.List.{List, [], ◌∷◌, ◌++◌, append_assoc}
@@ -14,19 +14,17 @@ use Rattle.laws.proofs.Width.{ten-digits}
 use Rattle.text.specs.Bytes.{bytes}
 use Rattle.text.specs.Put.{Put}
 use Rattle.text.specs.Line.{number_or}
-use Rattle.text_fields.specs.Items.{COMMA, NONE, list_text}
+use Rattle.text_fields.specs.Items.{list_text}
 use Rattle.plan.specs.Value.{items}
 use Rattle.plan_write.proofs.WriteLaws.{later_text, list-none, list-some, later-turn}
 use Rattle.book.specs.declared.Book.{Book}
 use Rattle.ask_drives.specs.Sheets.{made_of, on_drive_of}
 use Rattle.ask_drives.specs.declared.SheetResult.{SheetResult}
 use Rattle.ask_drives.specs.declared.OnDrive.{OnDrive}
-use Rattle.ask_sheet.specs.declared.Sheet.{Sheet}
 use Rattle.log_write.specs.Lines.{refused_line}
 use Rattle.log_write.specs.Answers.{Answered}
 use Rattle.log_write.specs.Private.Wrote.{Wrote}
-use Rattle.log_write.proofs.WriteLaws.{whole, looser, also, nothing, wrote-length, Left, left-all, left-turn, left-last}
-use Rattle.desk_answers.specs.Answers.{unless_refused}
+use Rattle.log_write.proofs.WriteLaws.{whole, looser, also, nothing, wrote-length, Left, left-turn, left-last}
 use Rattle.desk_answers.proofs.AnswerLaws.{answered, unless-no, unless-yes}
 use Rattle.desk_answers.specs.Questions.{drive_line, drive_answer}
 

@@ -1,5 +1,5 @@
 -- What is answered to a question about a book as a whole.
-use Rattle.std.specs.Prelude.{ℕ, ◌-◌, Bool, cond, List, [], ◌∷◌, ◌++◌, map, eqb, length}
+use Rattle.std.specs.Prelude.{ℕ, ◌-◌, Bool, cond, List, [], ◌∷◌, ◌++◌, map, length}
 use Rattle.laws.specs.Digits.{digits_of}
 use Rattle.text.specs.Bytes.{bytes}
 use Rattle.text.specs.Line.{line_text, number_or}

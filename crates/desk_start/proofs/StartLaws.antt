@@ -1,11 +1,11 @@
 -- The desk's start, by the tests that lead to it.
-use Prim.Native.Nat.{ℕ, zero, suc, ◌+◌, ◌-◌, ◌≤◌, ◌<◌}
+use Prim.Native.Nat.{ℕ, zero, suc, ◌-◌, ◌≤◌, ◌<◌}
 use mathlib.Core.Path.{◌≡◌, refl, sym, ap, subst, ◌∙◌}
 use mathlib.Core.Logic.{◌≢◌}
-use mathlib.Core.Bool.{Bool, true, false, cond, ◌||◌}
+use mathlib.Core.Bool.{Bool, true, false, ◌||◌}
 use mathlib.Core.List.{List, [], ◌∷◌}
 use native.Mathlib.Omega.{arith}
-use lib.Dec.{eqb, ltb}
+use lib.Dec.{ltb}
 use lib.ListN.{length, take}
 use lib.Seq.{sets}
 use types.Run.{OneOf}
@@ -34,8 +34,7 @@ use Rattle.log_read.specs.contracts.Entry.{the_type}
 use Rattle.log_read.specs.contracts.Choice.{the_type as choices}
 use Rattle.log_read.proofs.TextLaws.{line-used}
 use Rattle.log_run.specs.Log.{told_of, log_of, log_most, log_in}
-use Rattle.desk_turns.specs.declared.Morning.{Morning}
-use Rattle.desk_start.specs.Start.{line_end, whole_lines, text_in, stopping, going, walk_from, walk_in, walked_by, walked_of, way_of, start_log, begun_of}
+use Rattle.desk_start.specs.Start.{line_end, text_in, stopping, going, walk_from, walk_in, walked_by, walked_of, way_of, start_log, begun_of}
 use Rattle.desk_start.specs.declared.Way as ways
 use Rattle.desk_start.specs.declared.Way.TheVariants as way
 use Rattle.desk_start.specs.declared.EndsResult.{EndsResult}

@@ -2,7 +2,7 @@
 use Prim.Native.Nat.{ℕ, ◌+◌, ◌-◌, ◌≤◌, ◌<◌}
 use mathlib.Core.Path.{◌≡◌, refl, sym, ap, subst, ◌∙◌}
 use mathlib.Core.Logic.{◌≢◌}
-use mathlib.Core.Bool.{Bool, true, false, not, cond}
+use mathlib.Core.Bool.{Bool, true, false, not}
 use mathlib.Core.List.{List, [], ◌∷◌}
 use native.Mathlib.Omega.{arith}
 use lib.Dec.{leb, eqb}
@@ -10,8 +10,8 @@ use lib.ListN.{length}
 use types.Run.{OneOf}
 use denote.Enum.Declared
 use borrow.Author.Tests.{eq-eqb, ne_eqb, le-leb, lt-leb, leb-true, not-true, not-false}
-use Rattle.laws.proofs.Cases.{by_bool, by_le, by-eq}
-use Rattle.plan.specs.Answer.{refuse, is_granted}
+use Rattle.laws.proofs.Cases.{by_le, by-eq}
+use Rattle.plan.specs.Answer.{refuse}
 use Rattle.plan.specs.declared.Answer.{Answer}
 use Rattle.plan.specs.declared.Plan.{Plan}
 use Rattle.book.specs.View.{plan_in}
@@ -23,7 +23,7 @@ use Rattle.log_read.specs.declared.Entry.{Entry}
 use Rattle.log_read.specs.declared.Entry.TheVariants.{End, Drop, Refused}
 use Rattle.log_write.specs.Lines.{refused_line}
 use Rattle.log_write.specs.Answers.{Answered}
-use Rattle.log_run.specs.Log.{told_of, told_log, open_log}
+use Rattle.log_run.specs.Log.{told_of, told_log}
 use Rattle.log_run.specs.Answers.{entry_log, logged_of, opening_log, opening_logged}
 use Rattle.log_run.specs.Private.Writes.{Short}
 use Rattle.log_run.specs.declared.LogResult.{LogResult}
@@ -35,7 +35,7 @@ use Rattle.desk_read.specs.contracts.DeskLine.{the_type}
 use Rattle.desk_read.proofs.ReadLaws.{NearEntry}
 use Rattle.desk_answers.specs.Answers.{early_answer, exact_answer, now_answer}
 use Rattle.desk_answers.specs.Questions.{drive_answer, why_answer}
-use Rattle.desk_turns.specs.Turns.{Turned, saying, keeping, taking, entry_turn, rule_turn, turn_by, turn_of, Took}
+use Rattle.desk_turns.specs.Turns.{saying, taking, entry_turn, rule_turn, turn_by, turn_of, Took}
 use Rattle.desk_turns.specs.Private.Taken.{unmoved, taken_or, full_answer}
 use Rattle.desk_turns.specs.declared.Morning.{Morning}
 use Rattle.desk_turns.specs.declared.Turn.{Turn}

@@ -1,5 +1,5 @@
 -- The starts and ends of the tasks that are done, and who may be done next.
-use Prim.Native.Nat.{ℕ, zero, suc, ◌+◌, ◌%◌, ◌^◌, ◌≤◌, ◌<◌, max}
+use Prim.Native.Nat.{ℕ, ◌+◌, ◌%◌, ◌^◌, ◌≤◌, ◌<◌, max}
 use native.Mathlib.Nat.{mod-eq_of_lt}
 use native.Mathlib.Omega.{arith}
 use mathlib.Core.Path.{◌≡◌, refl, sym, ap, ◌∙◌}
@@ -8,9 +8,9 @@ use mathlib.Core.Bool.{Bool, true, false, not, cond, ◌&&◌, ◌||◌}
 use mathlib.Core.List.{List}
 use lib.Bits.{bit_and, bit_or}
 use lib.Dec.{eqb}
-use lib.ListN.{length, set, get_or, replicate, length-set}
+use lib.ListN.{length, set, replicate, length-set}
 use lib.Seq.{get_or-set_same, get_or-set_other}
-use borrow.Author.Tests.{eq-eqb, ne_eqb, eqb-true, not-true, not-false}
+use borrow.Author.Tests.{eq-eqb, eqb-true, not-true}
 use Rattle.laws.proofs.Cases.{by_bool, by-eq, true-false, and_l, and_r, and-of, or_l, or_r, or_at}
 use Rattle.laws.specs.Bits.{has}
 use Rattle.laws.proofs.Bits.{has-and, has-or, has-none, has-bit, same_bits}
@@ -20,8 +20,7 @@ use Rattle.laws.proofs.Least.{has-least, Least}
 use Rattle.laws.specs.Private.Count.{count}
 use Rattle.laws.proofs.Count.{count-lt}
 use Rattle.theory.specs.Plan as theory-plan
-use Rattle.theory.specs.Book.{is_dropped}
-use Rattle.theory.specs.Times.{start_from, end_from, start_time, end_time}
+use Rattle.theory.specs.Times.{start_time, end_time}
 use Rattle.plan.specs.Value.{at}
 use Rattle.book_view.specs.View.{laid}
 use Rattle.book_view.proofs.Laid.{laid-is, length-zeros, at-zeros}

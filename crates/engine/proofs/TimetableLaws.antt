@@ -9,9 +9,9 @@ use lib.Dec.{eqb}
 use borrow.Author.Tests.{eq-eqb, ne_eqb, ltb-true}
 use Rattle.laws.proofs.Cases.{by_bool, by-eq, true-false, and-of, and_l}
 use Rattle.laws.specs.Bits.{has, set_of}
-use Rattle.laws.proofs.Bits.{has-set, has-below, has-none, some-bit, set-none}
+use Rattle.laws.proofs.Bits.{has-set, has-below, has-none, set-none}
 use Rattle.laws.specs.Every.{any}
-use Rattle.laws.proofs.Every.{any_of, any_at, any-not}
+use Rattle.laws.proofs.Every.{any_at, any-not}
 use Rattle.theory.specs.Plan as theory-plan
 use Rattle.theory.proofs.Facts.{Lawful}
 use Rattle.theory.specs.Times.{start_time, end_time, lowest, bad_length, idle_drop}

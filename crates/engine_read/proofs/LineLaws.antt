@@ -13,7 +13,7 @@ use Rattle.laws.proofs.Lists.{all-at}
 use Rattle.laws.specs.Split.{index_of}
 use Rattle.text.specs.Bytes.{bytes}
 use Rattle.text.specs.Line.{LF, field}
-use Rattle.text.specs.Number.{value_of, most}
+use Rattle.text.specs.Number.{most}
 use Rattle.text_fields.specs.Faults.{field_code, ranged_read, word_code, end_code, field_codes, fault_of}
 use Rattle.text_fields.specs.declared.Ranged.{Ranged}
 use Rattle.text_fields.specs.declared.Fault.{Fault}

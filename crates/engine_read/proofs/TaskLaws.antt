@@ -2,14 +2,14 @@
 use Prim.Native.Nat.{ℕ, ◌≤◌, ◌-◌}
 use mathlib.Core.Path.{◌≡◌, refl, sym, ap, ◌∙◌}
 use mathlib.Core.Logic.{◌≢◌}
-use mathlib.Core.Bool.{Bool, true, false, cond, ◌&&◌}
+use mathlib.Core.Bool.{Bool, true, false, ◌&&◌}
 use mathlib.Core.List.{List}
 use native.Mathlib.Omega.{arith}
 use lib.Dec.{eqb}
 use lib.ListN.{length, get_or-eq_default}
 use borrow.Author.Tests.{eq-eqb, ne_eqb}
 use Rattle.laws.proofs.Cases.{by_bool, by-eq, and_no}
-use Rattle.text.specs.Number.{is_number, value_of, most}
+use Rattle.text.specs.Number.{value_of}
 use Rattle.text_fields.specs.Faults.{field_code, ranged_read}
 use Rattle.text_fields.specs.declared.Ranged.{Ranged}
 use Rattle.text_fields.proofs.RangedLaws.{InRange, field-zero, ranged-code, ranged-value}

@@ -12,9 +12,8 @@ use Rattle.text.specs.Line.{LF}
 use Rattle.plan.specs.Answer.{refuse, granted}
 use Rattle.plan.specs.declared.Answer.{Answer}
 use Rattle.book.specs.declared.Rule.{Rule}
-use Rattle.engine.specs.declared.Lengths.{Lengths}
 use Rattle.engine_read.specs.Lines.{marked, line_said, next_said, said_answer}
-use Rattle.engine_read.specs.Whole.{Told, told_from, told_in, given_of, asked_not, asked_by}
+use Rattle.engine_read.specs.Whole.{Told, told_from, told_in, asked_not, asked_by}
 use Rattle.engine_read.specs.Private.Noted.{note_of, Names, Short}
 use Rattle.engine_read.specs.declared.EngineInput.{EngineInput}
 use Rattle.engine_read.specs.declared.LengthNotes.{LengthNotes}

@@ -8,7 +8,7 @@ use lib.ListN.{length, length-drop, length-take}
 use types.Run.{OneOf}
 use denote.Enum.Declared
 use borrow.Author.Tests.{lt-ltb, le-ltb}
-use Rattle.laws.proofs.Cases.{by_bool, by_le}
+use Rattle.laws.proofs.Cases.{by_bool}
 use Rattle.laws.specs.Split.{index_of, after, before}
 use Rattle.laws.specs.Lists.{same}
 use Rattle.text.specs.Bytes.{bytes}
@@ -17,7 +17,6 @@ use Rattle.text_fields.specs.Faults.{fault_of}
 use Rattle.text_fields.proofs.FaultLaws.{column-most}
 use Rattle.plan.specs.Answer.{refuse}
 use Rattle.plan.specs.declared.Answer.{Answer}
-use Rattle.book.specs.declared.Rule.{Rule}
 use Rattle.book.specs.declared.Rule.TheVariants.{EarlyStart, Clash}
 use Rattle.log_read.specs.Rules.{rule_codes, choice_in, choice_of}
 use Rattle.log_read.specs.declared.Choice.{Choice}

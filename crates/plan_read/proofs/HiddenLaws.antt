@@ -9,7 +9,7 @@ use lib.Dec.{eqb}
 use lib.ListN.{length, get_or}
 use borrow.Author.Tests.{eq-eqb, ne_eqb}
 use Rattle.laws.proofs.Cases.{by_bool, by-eq, by_le}
-use Rattle.laws.specs.Lists.{all_of, same}
+use Rattle.laws.specs.Lists.{all_of}
 use Rattle.laws.specs.Split.{index_of}
 use Rattle.laws.proofs.Split.{index-first}
 use Rattle.text.specs.Number.{value_of, most}

@@ -15,7 +15,7 @@ use Rattle.theory.specs.Words.Events.{Event}
 use Rattle.theory.proofs.Facts.{event_code, run, accepted}
 use Rattle.theory.proofs.Same.{same-book}
 use Rattle.plan.specs.Answer.{granted, is_granted}
-use Rattle.plan.specs.Value.{at, is_accepted}
+use Rattle.plan.specs.Value.{is_accepted}
 use Rattle.plan.specs.declared.Plan.{Plan}
 use Rattle.book.specs.View.{plan_in, plan_view, book_view}
 use Rattle.book.specs.Sound.{is_sound}

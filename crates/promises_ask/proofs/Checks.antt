@@ -2,22 +2,20 @@
 use Prim.Native.Nat.{ℕ, ◌+◌, ◌-◌, ◌≤◌, ◌<◌}
 use native.Mathlib.Omega.{arith}
 use mathlib.Core.Path.{◌≡◌, refl, sym, ap, subst, ◌∙◌}
-use mathlib.Core.Bool.{Bool, true, false, not, cond, ◌&&◌}
+use mathlib.Core.Bool.{Bool, true, false, cond}
 use mathlib.Core.List.{List, [], ◌∷◌}
 use mathlib.Core.Logic.{◌≢◌, ◌↔◌, ◌⊎◌, inl, inr, ⊎_elim}
-use lib.Dec.{eqb, leb, ltb}
+use lib.Dec.{leb}
 use lib.ListN.{length}
-use borrow.Author.Tests.{eq-eqb, ne_eqb, eqb-true, eqb-false, le-leb, leb-true, lt-leb, leb-false, not-true, not-false}
-use Rattle.laws.specs.Lists.{same}
-use Rattle.laws.proofs.Cases.{by_bool, by-eq, by_le, and_l, and_r, and-of, and_no, true-false}
+use borrow.Author.Tests.{eq-eqb, ne_eqb, le-leb, leb-true}
+use Rattle.laws.proofs.Cases.{by_bool, by-eq, by_le, and_l, and_r, and-of, true-false}
 use Rattle.laws.proofs.Lists.{same_refl}
 use Rattle.theory.specs.Words.Events.{Event}
 use Rattle.text_fields.specs.Items.{between}
-use Rattle.plan.specs.Answer.{refuse, granted, is_granted}
+use Rattle.plan.specs.Answer.{refuse, granted}
 use Rattle.plan.specs.Value.{at, row, items}
 use Rattle.plan.specs.declared.Plan.{Plan}
 use Rattle.book_holders.specs.Holders.{holders_of}
-use Rattle.ask_sheet.specs.Sheet.{zero_sheet}
 use Rattle.ask_sheet.specs.Sets.{renewed_by, same_sheet}
 use Rattle.ask_sheet.specs.declared.Sheet.{Sheet}
 use Rattle.book.specs.View.{plan_in}
@@ -27,7 +25,6 @@ use Rattle.book.specs.Drop.{drop_answer, dropped_of}
 use Rattle.book.specs.Words.Event.{book_told}
 use Rattle.book.specs.declared.Book.{Book}
 use Rattle.book.specs.declared.BookResult.{BookResult}
-use Rattle.book.specs.declared.Rule.{Rule}
 use Rattle.ask_drives.specs.Sheets.{sheet_in, is_own, made_of, kept_with, reported_with, dropped_with, no_drive, on_drive_of, standing_in, updated_in}
 use Rattle.ask_drives.specs.declared.BookAndSheet.{BookAndSheet}
 use Rattle.ask_drives.proofs.Keep.{same-sheet, update-is}

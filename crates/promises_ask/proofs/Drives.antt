@@ -1,41 +1,36 @@
 -- What the sheet of a sound book says of a drive.
-use Prim.Native.Nat.{ℕ, suc, ◌+◌, ◌-◌, ◌≤◌, ◌<◌}
+use Prim.Native.Nat.{ℕ, ◌+◌, ◌≤◌, ◌<◌}
 use native.Mathlib.Omega.{arith}
 use mathlib.Core.Path.{◌≡◌, refl, sym, ap, subst, ◌∙◌}
-use mathlib.Core.Bool.{Bool, true, false, not, cond, ◌&&◌, ◌||◌}
+use mathlib.Core.Bool.{Bool, true, not, ◌&&◌, ◌||◌}
 use mathlib.Core.List.Memᴰ
 use mathlib.Core.List.{List, [], ◌∷◌, Memᴰ}
-use mathlib.Core.Logic.{◌≢◌, ◌⊎◌, inl, inr, ⊎_elim}
+use mathlib.Core.Logic.{◌≢◌, inl, inr, ⊎_elim}
 use lib.Dec.{eqb, leb, ltb}
 use lib.ListN.{length, replicate, length-replicate}
 use borrow.Author.Tests.{eq-eqb, ne_eqb, eqb-true, eqb-false, le-leb, leb-true, lt-ltb, ltb-true, not-true}
 use Rattle.laws.specs.Lists.{any_of}
-use Rattle.laws.specs.Each.{each, rows}
-use Rattle.laws.proofs.Cases.{by_bool, by-eq, and_l, and_r, and-of, or_at, or_l, or_r, true-false}
+use Rattle.laws.proofs.Cases.{by-eq, and_l, and_r, and-of, or_at, or_l, or_r, true-false}
 use Rattle.laws.proofs.Each.{each_below}
 use Rattle.theory.specs.Book.{waiting, running, is_dropped}
 use Rattle.theory.specs.Figure.{has_begun}
-use Rattle.text_fields.specs.Items.{drive_of, is_shared, between}
+use Rattle.text_fields.specs.Items.{drive_of}
 use Rattle.plan.specs.Answer.{granted}
-use Rattle.plan.specs.Pairs.{clash}
 use Rattle.plan.specs.Value.{at, row, items, task_at}
 use Rattle.book_view.proofs.Accepted.{plan-facts, clash-waits}
 use Rattle.book_holders.specs.Holders.{holds_drive}
-use Rattle.ask_sheet.specs.Sheet.{is_waiting, numbers, soonest, eight, sheet_with, holders_who, sheet_of}
-use Rattle.ask_sheet.specs.Sets.{same_sheet}
-use Rattle.ask_sheet.specs.declared.Sheet.{Sheet}
+use Rattle.ask_sheet.specs.Sheet.{is_waiting, soonest, eight, sheet_with, holders_who, sheet_of}
 use Rattle.ask_sheet.proofs.Lines.{eight-length}
 use Rattle.ask_sheet.proofs.Rows.{row_is}
-use Rattle.book.specs.View.{plan_in, plan_view, book_view}
-use Rattle.book.specs.Sound.{is_sound}
+use Rattle.book.specs.View.{plan_in, book_view}
 use Rattle.book.specs.declared.Book.{Book}
-use Rattle.ask_drives.specs.Sheets.{sheet_in, is_own, on_drive_of}
-use Rattle.promises.specs.Clashes.{CommonDrive, Clashes}
-use Rattle.promises.specs.Runs.{Sized, Running, Ended, Started, Dropped, start_of}
+use Rattle.ask_drives.specs.Sheets.{sheet_in}
+use Rattle.promises.specs.Clashes.{Clashes}
+use Rattle.promises.specs.Runs.{Running}
 use Rattle.promises.proofs.Demand3.{clash-is}
 use Rattle.promises.proofs.RunView.{Good}
 use Rattle.promises.proofs.SoundBook.{facts, started-free}
-use Rattle.promises_ask.specs.Words.{Holds, Keeps, IsOn, Awaits, Before, Next, DriveSays}
+use Rattle.promises_ask.specs.Words.{Holds, Keeps, IsOn, Awaits, Next, DriveSays}
 use Rattle.promises_ask.proofs.Lists.{among, listed, rise, items-eight, Soon, soon-is}
 use Rattle.promises_ask.proofs.Few.{few}
 

@@ -3,23 +3,22 @@ use Prim.Native.Nat.{ℕ, zero, suc, ◌+◌, ◌-◌, ◌≤◌, ◌<◌}
 use native.Mathlib.Numerals.{add-one}
 use native.Mathlib.Omega.{arith}
 use mathlib.Core.Path.{◌≡◌, refl, sym, ap, subst, ◌∙◌}
-use mathlib.Core.Bool.{Bool, true, false, not, cond, ◌&&◌, ◌||◌}
+use mathlib.Core.Bool.{Bool, true, false, not}
 use mathlib.Core.List.Memᴰ
 use mathlib.Core.List.{List, [], ◌∷◌, ◌++◌, Memᴰ}
-use mathlib.Core.Logic.{◌≢◌, ◌⊎◌, inl, inr, ⊎_elim}
-use lib.Dec.{eqb, ltb}
+use mathlib.Core.Logic.{◌⊎◌, inl, inr, ⊎_elim}
+use lib.Dec.{eqb}
 use lib.ListN.{length, get_or, replicate, length-append, length-replicate, get_or-replicate, get_or-append}
 use lib.Seq.{ext_get_or, get_or-append_seam, get_or-append-add}
-use borrow.Author.Tests.{eq-eqb, ne_eqb, lt-ltb, le-ltb, ltb-true}
+use borrow.Author.Tests.{ne_eqb}
 use Rattle.laws.specs.Lists.{all_of}
-use Rattle.laws.specs.Split.{before}
 use Rattle.laws.proofs.Blank.{before-blank, blank-zeros}
 use Rattle.laws.proofs.Split.{free}
 use Rattle.laws.proofs.Cases.{by_bool, by-eq, by_le, true-false, and-of, and_l, and_r}
 use Rattle.plan.specs.Value.{at, items}
 use Rattle.book_view.proofs.Short.{at-past}
 use Rattle.ask_sheet.specs.Sheet.{numbers, sooner, soonest, eight}
-use Rattle.ask_sheet.proofs.Numbers.{numbers-taken, numbers-passed, numbers-none, soonest-more}
+use Rattle.ask_sheet.proofs.Numbers.{numbers-taken, numbers-passed, soonest-more}
 use Rattle.ask_sheet.proofs.Lines.{eight-length, eight-at, sooner-first, sooner-less, sooner-kept}
 
 mem-left : {a : ℕ} (s t : List ℕ) → Memᴰ a s → Memᴰ a (s ++ t)

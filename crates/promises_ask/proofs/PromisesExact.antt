@@ -4,7 +4,7 @@ use mathlib.Core.Path.{◌≡◌}
 use mathlib.Core.Logic.{◌↔◌}
 use mathlib.Core.Bool.{true, false}
 use mathlib.Core.List.{List}
-use mathlib.Core.Option.{none, some}
+use mathlib.Core.Option.{none}
 use Rattle.theory.specs.Words.Events.{Event}
 use Rattle.theory.specs.Exact.{exact_early, step_early}
 use Rattle.theory.proofs.OneStep as one-step

@@ -3,7 +3,7 @@ use Prim.Native.Nat.{ℕ, zero, suc, ◌+◌, ◌≤◌, ◌<◌}
 use mathlib.Core.Path.{◌≡◌, refl, sym, ap, subst, ◌∙◌}
 use mathlib.Core.Logic.{◌≢◌}
 use mathlib.Core.Bool.{Bool, true, false, cond, ◌||◌}
-use mathlib.Core.List.{List, [], ◌∷◌, ◌++◌, append_assoc, append-nil}
+use mathlib.Core.List.{List, [], ◌++◌, append_assoc, append-nil}
 use native.Mathlib.Omega.{arith}
 use lib.Dec.{eqb, ltb}
 use lib.ListN.{length, length-append, length-take}
@@ -34,17 +34,16 @@ use Rattle.log_run.specs.Log.{told_of}
 use Rattle.log_run.specs.Answers.{entry_log, opening_log}
 use Rattle.log_run.proofs.BookLaws.{opening-book, report-refused, drop-refused}
 use Rattle.desk_read.specs.declared.DeskLine.TheVariants as asked
-use Rattle.desk_turns.specs.Turns.{Turned, taking, entry_turn, rule_turn, turn_of}
+use Rattle.desk_turns.specs.Turns.{Turned, entry_turn, turn_of}
 use Rattle.desk_turns.specs.declared.Morning.{Morning}
-use Rattle.desk_start.specs.Start.{line_end, whole_lines, text_in, stopping, going, walk_from, walk_in, walked_by, walked_of, way_of, begun_of}
+use Rattle.desk_start.specs.Start.{line_end, whole_lines, text_in, going, walk_from, walk_in, walked_by, walked_of, way_of, begun_of}
 use Rattle.desk_start.specs.declared.EndsResult.{EndsResult}
 use Rattle.desk_start.specs.declared.Way.{Way}
 use Rattle.desk_start.specs.declared.Way.TheVariants as way
-use Rattle.desk_start.specs.declared.DeskOpening.{DeskOpening}
 use Rattle.desk_start.proofs.StartLaws.{next_book, in-none, in-stop, in-turn}
 use Rattle.promises.specs.Says.{choice_answer, ChoiceSays}
 use Rattle.promises.proofs.Codes.RuleLine.{choice-says}
-use Rattle.promises_desk.specs.Sessions.{asked_at, HasRoom, Accepted, Session, nothing, session_from, session_of}
+use Rattle.promises_desk.specs.Sessions.{asked_at, HasRoom, Accepted, Session, session_from, session_of}
 use Rattle.promises_desk.proofs.Turns.{taking-yes, unkept-unchanged, kept-accepted, step-taken, rule-taken, entry-sound}
 use Rattle.promises_desk.proofs.ReadLines.{Read, is_read, choice-read, choice-none, empty-is, plan-accepted, session-empty, session-line}
 use Rattle.promises_desk.proofs.Sees.{seen_step, seen-rule}

@@ -1,11 +1,11 @@
 -- Lines of ends and drops: the desk answers them as the log of ends.txt has it.
-use Prim.Native.Nat.{ℕ, zero, suc, ◌+◌, ◌≤◌, ◌<◌}
-use mathlib.Core.Path.{◌≡◌, refl, sym, ap, subst, ◌∙◌}
+use Prim.Native.Nat.{ℕ, zero, suc, ◌+◌, ◌≤◌}
+use mathlib.Core.Path.{◌≡◌, refl, sym, ap, ◌∙◌}
 use mathlib.Core.Logic.{◌≢◌, ◌⊎◌, inl, inr}
 use mathlib.Core.Bool.{Bool, true, false, cond}
 use mathlib.Core.List.{List, [], ◌∷◌, ◌++◌, append-nil}
 use native.Mathlib.Omega.{arith}
-use lib.Dec.{eqb, ltb}
+use lib.Dec.{eqb}
 use lib.ListN.{length, get_or, length-append, length-take, length-drop}
 use borrow.Author.Tests.{eq-eqb, ne_eqb, le-ltb, ltb-true}
 use Rattle.laws.proofs.Cases.{by_bool, by-eq}
@@ -17,12 +17,12 @@ use Rattle.laws.proofs.Width.{ten-digits}
 use Rattle.text.specs.Bytes.{bytes}
 use Rattle.text.specs.Line.{LF, has_line, fields, field}
 use Rattle.text.specs.Number.{most}
-use Rattle.plan.specs.Answer.{refuse, granted}
+use Rattle.plan.specs.Answer.{refuse}
 use Rattle.plan.specs.Read.{reading_of}
 use Rattle.plan.specs.declared.Answer.{Answer}
 use Rattle.plan.proofs.ReadOk.{read_answer, read-accepted}
 use Rattle.plan.specs.Value.{is_accepted}
-use Rattle.book.specs.Open.{opened_on, opening_of}
+use Rattle.book.specs.Open.{opened_on}
 use Rattle.book.specs.declared.Book.{Book}
 use Rattle.book.specs.declared.Rule.TheVariants.{EarlyStart}
 use Rattle.log_read.specs.Entries.{entry_of, next_entry, entry_code}
@@ -36,7 +36,7 @@ use Rattle.log_run.specs.Answers.{entry_log}
 use Rattle.log_run.proofs.BookLaws.{report-refused, drop-refused, opening-book}
 use Rattle.desk_read.specs.Lines.{word_asked, asked_of}
 use Rattle.desk_read.specs.declared.DeskLine.TheVariants.{Step}
-use Rattle.desk_turns.specs.Turns.{Turned, saying, taking, entry_turn, turn_of}
+use Rattle.desk_turns.specs.Turns.{Turned, entry_turn, turn_of}
 use Rattle.desk_turns.specs.declared.Morning.{Morning}
 use Rattle.desk_start.specs.Start.{line_end, text_in, walk_from, walked_by, walked_of, start_log, begun_of}
 use Rattle.promises.specs.Says.{entry_answer, EntrySays}

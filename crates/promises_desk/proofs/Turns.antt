@@ -1,28 +1,23 @@
 -- One line: what it changes, and when it is kept.
 use Prim.Native.Nat.{ℕ, ◌+◌, ◌≤◌}
-use mathlib.Core.Path.{◌≡◌, refl, sym, ap, ◌∙◌}
+use mathlib.Core.Path.{◌≡◌, refl, ap, ◌∙◌}
 use mathlib.Core.Logic.{◌≢◌, ◌↔◌}
-use mathlib.Core.Bool.{Bool, true, false, cond}
+use mathlib.Core.Bool.{Bool, true, false}
 use mathlib.Core.List.{List}
-use native.Mathlib.Omega.{arith}
 use lib.Dec.{leb, eqb}
 use lib.ListN.{length}
-use borrow.Author.Tests.{eq-eqb, ne_eqb, le-leb, lt-leb, leb-true}
-use Rattle.laws.proofs.Cases.{by_bool, by-eq, by_le, true-false}
+use borrow.Author.Tests.{eq-eqb, ne_eqb, le-leb, leb-true}
+use Rattle.laws.proofs.Cases.{by_bool, by-eq, true-false}
 use Rattle.plan.specs.Answer.{refuse}
 use Rattle.plan.specs.declared.Answer.{Answer}
 use Rattle.book.specs.View.{plan_in}
 use Rattle.book.specs.Sound.{is_sound}
-use Rattle.book.specs.Open.{opening_of}
-use Rattle.book.specs.Report.{reported_of}
-use Rattle.book.specs.Drop.{dropped_of}
 use Rattle.book.specs.declared.Book.{Book}
 use Rattle.book.specs.declared.Rule.TheVariants.{Clash}
 use Rattle.log_read.specs.declared.Entry.{Entry}
 use Rattle.log_read.specs.declared.Entry.TheVariants as said
 use Rattle.log_write.specs.Lines.{refused_line}
 use Rattle.log_run.specs.Log.{told_of, told_log}
-use Rattle.log_run.specs.Answers.{entry_log}
 use Rattle.log_run.proofs.BookLaws.{report-stays, drop-stays}
 use Rattle.log_run.proofs.AnswerLaws.{opening-sound}
 use Rattle.desk_read.specs.declared.DeskLine.{DeskLine}
@@ -30,7 +25,7 @@ use Rattle.desk_read.specs.declared.DeskLine.TheVariants.{Step, Rule, Early, Exa
 use Rattle.desk_read.proofs.ReadLaws.{step-near}
 use Rattle.desk_turns.specs.Turns.{Turned, saying, taking, entry_turn, rule_turn, turn_by, turn_of}
 use Rattle.desk_turns.specs.declared.Morning.{Morning}
-use Rattle.promises_desk.specs.Sessions.{asked_at, Question, HasRoom, Accepted}
+use Rattle.promises_desk.specs.Sessions.{asked_at, Question, Accepted}
 
 -- ---- questions
 

@@ -1,18 +1,17 @@
 -- Texts of whole lines: one after the other, and a line more.
 use Prim.Native.Nat.{ℕ, zero, suc, ◌+◌, ◌-◌, ◌≤◌, ◌<◌}
 use mathlib.Core.Path.{◌≡◌, refl, sym, ap, subst, ◌∙◌}
-use mathlib.Core.Logic.{◌≢◌}
-use mathlib.Core.Bool.{Bool, true, false, not}
-use mathlib.Core.List.{List, [], ◌∷◌, ◌++◌, append_assoc}
+use mathlib.Core.Bool.{true, not}
+use mathlib.Core.List.{List, [], ◌∷◌, ◌++◌}
 use native.Mathlib.Omega.{arith}
-use lib.Dec.{eqb, ltb}
-use lib.ListN.{length, get_or, take, drop, length-append, length-take, length-drop}
-use lib.Seq.{take-append-le, drop-append-le, take-length, take_all, get_or-drop, get_or-take}
+use lib.Dec.{eqb}
+use lib.ListN.{length, take, drop, length-append, length-take, length-drop}
+use lib.Seq.{take-append-le, drop-append-le, take-length, get_or-drop, get_or-take}
 use borrow.Author.Tests.{eq-eqb, ne_eqb, ltb-true, lt-ltb, le-ltb}
 use Rattle.laws.proofs.Cases.{by_bool, by-eq, by_le, and-of}
 use Rattle.laws.specs.Lists.{all_of}
 use Rattle.laws.specs.Split.{index_of, before, after}
-use Rattle.laws.proofs.Split.{free, index-le, index-found, index-first, index-seam, before-seam, after-seam}
+use Rattle.laws.proofs.Split.{free, index-found, index-first, index-seam, before-seam, after-seam}
 use Rattle.text.specs.Line.{LF, has_line}
 use Rattle.plan.specs.Value.{at}
 use Rattle.desk_start.specs.Start.{line_end, whole_lines, text_in}

@@ -1,5 +1,5 @@
 -- What is typed at the desk, line by line.
-use Rattle.std.specs.Prelude.{ℕ, zero, suc, ◌+◌, ◌≤◌, ◌<◌, ◌≡◌, Bool, true, cond, List, [], ◌∷◌, ◌++◌, eqb, length}
+use Rattle.std.specs.Prelude.{ℕ, zero, suc, ◌+◌, ◌≤◌, ◌<◌, ◌≡◌, Bool, cond, List, [], ◌∷◌, ◌++◌, eqb, length}
 use Rattle.laws.specs.Split.{before, after}
 use Rattle.text.specs.Line.{LF, has_line}
 use Rattle.book.specs.View.{plan_in}

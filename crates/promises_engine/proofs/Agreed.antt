@@ -1,11 +1,9 @@
 -- The engine and the dispatcher agree, both ways round.
-use Prim.Native.Nat.{ℕ, ◌+◌, ◌-◌, ◌≤◌, ◌<◌}
-use native.Mathlib.Omega.{arith}
-use mathlib.Core.Path.{◌≡◌, refl, sym, ap, subst, ◌∙◌}
-use mathlib.Core.Logic.{◌≢◌, ◌↔◌, ⊎_elim}
-use mathlib.Core.Bool.{Bool, true, false}
+use Prim.Native.Nat.{ℕ, ◌+◌, ◌≤◌, ◌<◌}
+use mathlib.Core.Path.{◌≡◌, sym, ap, subst, ◌∙◌}
+use mathlib.Core.Logic.{◌≢◌}
+use mathlib.Core.Bool.{true}
 use mathlib.Core.List.{List, ◌++◌, map}
-use lib.ListN.{length}
 use borrow.Author.Tests.{eq-eqb, ne_eqb}
 use Rattle.laws.proofs.Cases.{by-eq}
 use Rattle.theory.specs.Plan as theory-plan
@@ -14,7 +12,6 @@ use Rattle.theory.specs.Report as theory-report
 use Rattle.theory.specs.Words.Events.{Event}
 use Rattle.theory.proofs.Facts.{Lawful, Sound, run, accepted}
 use Rattle.theory.specs.Times.{start_time, end_time}
-use Rattle.theory.specs.Words.Lines.{TwoLines}
 use Rattle.theory.proofs.Fits.{Fits}
 use Rattle.theory.specs.Words.Orders.{Order}
 use Rattle.theory.proofs.TimesAlike.{start-time-given, end-time-given}
@@ -30,16 +27,15 @@ use Rattle.plan.specs.declared.Plan.{Plan}
 use Rattle.book_view.specs.View.{plan_for, laid}
 use Rattle.book_view.proofs.Accepted.{plan-facts, plan-lawful}
 use Rattle.book_view.proofs.Laid.{laid-is}
-use Rattle.book.specs.View.{plan_in, plan_view, book_view}
+use Rattle.book.specs.View.{plan_in, book_view}
 use Rattle.book.specs.Open.{rule_number}
 use Rattle.book.specs.declared.Book.{Book}
 use Rattle.book.specs.declared.Rule.{Rule}
 use Rattle.book.specs.Words.Sized.{SizedPlan}
 use Rattle.book.proofs.Soundness.{SoundFacts, is-sound-facts}
 use Rattle.book.proofs.Views.{view-opened}
-use Rattle.engine.specs.Timetable.{timetable_answer, filled_timetable, timetable_of}
+use Rattle.engine.specs.Timetable.{timetable_answer, timetable_of}
 use Rattle.engine.specs.declared.Lengths.{Lengths}
-use Rattle.engine.specs.declared.Timetable.{Timetable}
 use Rattle.promises.specs.Runs.{opened_book, accepted_of, Ended, run_of}
 use Rattle.promises.proofs.RunView.{Good, named, opened-is, opened-plan, opened-rule, opened-good}
 use Rattle.promises.proofs.SoundBook.{view-named, accepted-named}

@@ -1,16 +1,15 @@
 -- Lengths and drops that are alike give the same timetable; and by the clash rule nobody starts later.
 use Prim.Native.Nat.{ℕ, ◌≤◌, ◌<◌}
 use native.Mathlib.Omega.{arith}
-use mathlib.Core.Path.{◌≡◌, refl, sym, ap, ◌∙◌}
-use mathlib.Core.Logic.{◌≢◌, ◌↔◌, ⊎_elim}
-use mathlib.Core.Bool.{Bool, true, false, not, cond, ◌&&◌}
-use lib.Dec.{eqb, leb}
+use mathlib.Core.Path.{◌≡◌, sym, ap, ◌∙◌}
+use mathlib.Core.Logic.{◌≢◌}
+use mathlib.Core.Bool.{Bool, true, not, ◌&&◌}
 use borrow.Author.Tests.{eq-eqb, ne_eqb}
-use Rattle.laws.proofs.Cases.{by-eq, by_bool, and_r}
+use Rattle.laws.proofs.Cases.{by-eq, and_r}
 use Rattle.laws.specs.Every.{any}
 use Rattle.theory.specs.Plan as theory-plan
 use Rattle.theory.specs.Book.{is_dropped}
-use Rattle.theory.specs.Times.{start_time, end_time, lowest, bad_length, idle_drop}
+use Rattle.theory.specs.Times.{bad_length, idle_drop}
 use Rattle.theory.proofs.TimesAlike.{start-time-given, end-time-given}
 use Rattle.theory.proofs.Lowest.{lowest-same}
 use Rattle.theory.proofs.Refused.{none-bad, none-idle}
@@ -18,19 +17,17 @@ use Rattle.theory.proofs.Sooner.{fits_more, starts-sooner}
 use Rattle.theory.proofs.Fits.{Fits}
 use Rattle.engine.proofs.LengthLaws.{lengths_none, lengths-same}
 use Rattle.plan.specs.Answer.{granted}
-use Rattle.plan.specs.Pairs.{clash}
-use Rattle.plan.specs.Value.{at, task_at, is_accepted}
+use Rattle.plan.specs.Value.{at, task_at}
 use Rattle.plan.specs.declared.Plan.{Plan}
-use Rattle.book_view.specs.View.{minds_by, plan_for, laid}
-use Rattle.book_view.proofs.Accepted.{plan-facts, plan-lawful}
-use Rattle.book_view.proofs.Laid.{laid_same, laid-at}
+use Rattle.book_view.specs.View.{minds_by, plan_for}
+use Rattle.book_view.proofs.Accepted.{plan-lawful}
+use Rattle.book_view.proofs.Laid.{laid_same}
 use Rattle.book.specs.Open.{rule_number}
 use Rattle.book.specs.declared.Rule.{Rule}
 use Rattle.book.specs.declared.Rule.TheVariants.{EarlyStart, Clash}
 use Rattle.engine.specs.Timetable.{timetable_answer, filled_timetable, timetable_of}
 use Rattle.engine.specs.declared.Lengths.{Lengths}
-use Rattle.engine.specs.declared.Timetable.{Timetable}
-use Rattle.promises_engine.specs.Says.{IsGone, Alike}
+use Rattle.promises_engine.specs.Says.{Alike}
 use Rattle.promises_engine.proofs.Said.{Given, given-of}
 
 module _ (plan : Plan) (rule : Rule) (given other : Lengths) (alike : Alike plan.tasks given other) where

@@ -2,15 +2,15 @@
 use Prim.Native.Nat.{ℕ, zero, suc, ◌≤◌, ◌<◌}
 use mathlib.Core.Path.{◌≡◌, refl, sym, ap, ◌∙◌}
 use mathlib.Core.Logic.{◌≢◌, ◌⊎◌, inl, inr}
-use mathlib.Core.Bool.{Bool, true, false, cond, ◌&&◌}
+use mathlib.Core.Bool.{Bool, true, false, ◌&&◌}
 use mathlib.Core.List.{List, [], ◌∷◌}
 use native.Mathlib.Omega.{arith}
 use lib.Dec.{eqb, leb}
 use lib.ListN.{length}
-use borrow.Author.Tests.{eq-eqb, ne_eqb, eqb-true, le-leb, lt-leb}
-use Rattle.laws.proofs.Cases.{by_bool, by-eq, by_le, and_l, and_r, and_no, true-false}
+use borrow.Author.Tests.{eq-eqb, le-leb, lt-leb}
+use Rattle.laws.proofs.Cases.{by_bool, by-eq, by_le, and_l, and_r, true-false}
 use Rattle.laws.specs.Digits.{digits_of}
-use Rattle.laws.specs.Lists.{all_of, same}
+use Rattle.laws.specs.Lists.{same}
 use Rattle.laws.specs.Split.{before}
 use Rattle.laws.proofs.Lists.{same-eq}
 use Rattle.laws.proofs.Seams.{places-own}

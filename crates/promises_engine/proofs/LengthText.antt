@@ -1,7 +1,6 @@
 -- What the whole of lengths.txt asks, and what is printed.
 use Prim.Native.Nat.{ℕ, zero, suc, ◌+◌, ◌≤◌, ◌<◌, min}
-use mathlib.Core.Path.{◌≡◌, refl, sym, ap, ◌∙◌}
-use mathlib.Core.Logic.{◌≢◌}
+use mathlib.Core.Path.{◌≡◌, refl, ap, ◌∙◌}
 use mathlib.Core.List.{List, [], ◌∷◌}
 use native.Mathlib.Omega.{arith}
 use lib.ListN.{length}
@@ -15,8 +14,7 @@ use Rattle.log_read.specs.Rules.{choice_of}
 use Rattle.log_read.specs.declared.Choice.{Choice}
 use Rattle.log_read.specs.declared.Choice.TheVariants.{Unsaid, Chosen, Malformed}
 use Rattle.engine_read.specs.Lines.{next_said, said_answer}
-use Rattle.engine_read.specs.Whole.{Told, told_in, chosen_asked, asked_of}
-use Rattle.engine_read.specs.declared.EngineInput.{EngineInput}
+use Rattle.engine_read.specs.Whole.{told_in, chosen_asked, asked_of}
 use Rattle.engine_read.specs.declared.LengthLine.{LengthLine}
 use Rattle.engine_read.proofs.WalkLaws.{after_less, in-none, in-stop, in-turn}
 use Rattle.engine_write.specs.Table.{times_text, asked_text, table_of}

@@ -6,7 +6,7 @@ use mathlib.Core.Bool.{cond}
 use Rattle.theory.specs.Plan as theory-plan
 use Rattle.theory.specs.Book.{is_dropped}
 use Rattle.theory.proofs.Facts.{Lawful}
-use Rattle.theory.specs.Times.{start_time, end_time}
+use Rattle.theory.specs.Times.{end_time}
 use Rattle.theory.specs.Words.Lines.{TwoLines}
 use Rattle.theory.proofs.Solved.{start-same, solves, only-starts, only-ends}
 use Rattle.theory.proofs.Bounds.{start-by, end_by}

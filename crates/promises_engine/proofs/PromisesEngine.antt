@@ -1,6 +1,6 @@
 -- THE ENGINE WITHOUT REPORTS. Of any plan, rule, lengths and drops that are handed in; tasks are counted from 0.
 use Prim.Native.Nat.{ℕ, ◌+◌, ◌≤◌, ◌<◌}
-use mathlib.Core.Path.{◌≡◌, ◌∙◌, sym}
+use mathlib.Core.Path.{◌≡◌}
 use mathlib.Core.Bool.{true}
 use mathlib.Core.List.{List, ◌++◌}
 use Rattle.theory.specs.Words.Events.{Event}

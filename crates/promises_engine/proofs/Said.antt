@@ -1,15 +1,12 @@
 -- What the engine answers, case by case.
-use Prim.Native.Nat.{ℕ, ◌+◌, ◌-◌, ◌≤◌, ◌<◌}
+use Prim.Native.Nat.{ℕ, ◌+◌, ◌-◌, ◌<◌}
 use native.Mathlib.Omega.{arith}
-use mathlib.Core.Path.{◌≡◌, refl, sym, ap, subst, ◌∙◌}
-use mathlib.Core.Logic.{◌≢◌, ◌↔◌, ◌⊎◌, inl, inr, ⊎_elim}
-use mathlib.Core.Bool.{Bool, true, false, not, cond}
-use lib.Dec.{eqb}
-use borrow.Author.Tests.{eq-eqb, ne_eqb}
-use Rattle.laws.proofs.Cases.{by_bool, by-eq, by_le, true-false}
+use mathlib.Core.Path.{◌≡◌, refl, sym, ap, ◌∙◌}
+use mathlib.Core.Logic.{◌≢◌, inl, inr, ⊎_elim}
+use mathlib.Core.Bool.{Bool, true, false}
+use Rattle.laws.proofs.Cases.{by_bool, by_le, true-false}
 use Rattle.theory.specs.Plan as theory-plan
-use Rattle.theory.specs.Times.{start_time, end_time, lowest, bad_length, idle_drop}
-use Rattle.theory.specs.Words.Lines.{TwoLines}
+use Rattle.theory.specs.Times.{start_time, end_time, bad_length, idle_drop}
 use Rattle.theory.proofs.Fits.{Fits}
 use Rattle.theory.proofs.Lowest.{Lowest, Nobody, lowest-cases}
 use Rattle.theory.proofs.Refused.{bad-is, bad-of, idle-is, idle-of, fits-of}
@@ -28,7 +25,7 @@ use Rattle.engine.specs.declared.Lengths.{Lengths}
 use Rattle.engine.specs.declared.Timetable.{Timetable}
 use Rattle.promises.specs.Ladder.{Ladder}
 use Rattle.promises.proofs.Ladder.{First, ladder_of}
-use Rattle.promises_engine.specs.Says.{WaitsBy, IsGone, BadLength, IdleDrop, Some, IsLowest, timetable_checks, TimetableSays}
+use Rattle.promises_engine.specs.Says.{BadLength, IdleDrop, Some, IsLowest, timetable_checks, TimetableSays}
 
 module _ (plan : Plan) (rule : Rule) (given : Lengths) where
   abbrev pub seen : theory-plan.Plan

@@ -10,7 +10,7 @@ use mathlib.Core.Option
 use mathlib.Core.Option.{Option, none, some}
 use lib.ListN.{length, get_or, length-take}
 use borrow.Author.Tests.{eq-eqb, ne_eqb}
-use Rattle.laws.specs.Lists.{all_of, same}
+use Rattle.laws.specs.Lists.{all_of}
 use Rattle.laws.specs.Picked.{least}
 use Rattle.laws.specs.Split.{index_of}
 use Rattle.laws.proofs.Cases.{by_bool, by-eq, true-false}

@@ -1,29 +1,28 @@
 -- What is known of an accepted log: each task has one start and one end on its board, and no figure is negative.
-use Prim.Native.Nat.{ℕ, zero, suc, ◌+◌, ◌-◌, ◌≤◌, ◌<◌}
+use Prim.Native.Nat.{ℕ, ◌+◌, ◌-◌, ◌≤◌, ◌<◌}
 use mathlib.Core.Path.{◌≡◌, refl, sym, ap, ◌∙◌}
-use mathlib.Core.Bool.{Bool, true, false, not, cond, ◌&&◌, ◌||◌}
+use mathlib.Core.Bool.{Bool, true, false, not, ◌&&◌, ◌||◌}
 use mathlib.Core.List.{List, [], ◌∷◌}
 use native.Mathlib.Omega.{arith}
 use lib.Dec.{eqb, leb, ltb}
 use lib.ListN.{length}
-use borrow.Author.Tests.{eq-eqb, eqb-true, leb-true, ltb-false, le-leb, not-true, not-false}
+use borrow.Author.Tests.{eqb-true, leb-true, ltb-false, not-false}
 use Rattle.laws.specs.Every.{implies}
 use Rattle.laws.specs.Lists.{all_of, same, first_not}
-use Rattle.laws.specs.Split.{split_on}
 use Rattle.laws.proofs.Cases.{by_bool, and_l, and_r, and-of, or_no, implies-of, true-false}
 use Rattle.text.specs.Bytes.{bytes}
-use Rattle.text.specs.Line.{LF, fields, field}
+use Rattle.text.specs.Line.{field}
 use Rattle.text.specs.Number.{is_number, value_of}
 use Rattle.text_fields.specs.Items.{between}
 use Rattle.theory.specs.Times.{lowest}
 use Rattle.theory.proofs.Lowest.{lowest-none}
-use Rattle.plan.specs.Answer.{refuse, granted, is_granted, is_refused, or_else}
+use Rattle.plan.specs.Answer.{refuse, is_granted, or_else}
 use Rattle.plan.specs.Read.{ranged}
 use Rattle.plan.specs.Value.{at, is_accepted}
 use Rattle.plan.specs.declared.Answer.{Answer}
 use Rattle.plan.specs.declared.Plan.{Plan}
 use Rattle.book_view.proofs.Accepted.{PlanFacts, plan-facts}
-use Rattle.school.specs.Lines.{is_record, is_tick, is_earliness, is_run, is_moment, is_remark, says_none, says_start, says_end, later_said, line_said, said_from, said_in}
+use Rattle.school.specs.Lines.{is_record, is_tick, is_earliness, is_moment, says_end, later_said, line_said, said_from, said_in}
 use Rattle.school.specs.Tasks.{is_known, start_in, end_in, are_on}
 use Rattle.book_view.specs.Faults.{task_fault}
 use Rattle.school.specs.Tests.{is_wrong, is_mislong, is_against, is_untimely, against_fault, tasks_fault, unread, found_in, lines_judged, judged_of}

@@ -1,12 +1,12 @@
 -- `all` is of all boards: the `end` lines of the accepted logs, whatever board they name.
 use Prim.Native.Nat.{ℕ, zero, suc, ◌+◌, ◌-◌, ◌≤◌, ◌<◌, max, min}
-use mathlib.Core.Path.{◌≡◌, refl, sym, ap, ◌∙◌}
-use mathlib.Core.Bool.{Bool, true, false, not, cond, ◌&&◌}
+use mathlib.Core.Path.{◌≡◌, refl, sym, ◌∙◌}
+use mathlib.Core.Bool.{true, cond}
 use mathlib.Core.List.{List, [], ◌∷◌, ◌++◌, append_assoc, Permᴰ}
 use native.Mathlib.Omega.{arith}
 use lib.Dec.{eqb, leb}
 use lib.ListN.{length, length-append}
-use borrow.Author.Tests.{eq-eqb, ne_eqb, eqb-true, leb-true}
+use borrow.Author.Tests.{eq-eqb, ne_eqb, leb-true}
 use Rattle.laws.specs.Lists.{all_of}
 use Rattle.laws.specs.Split.{split_on}
 use Rattle.laws.proofs.Cases.{by_bool, by-eq, and_l, and_r, implies-at}
@@ -15,12 +15,10 @@ use Rattle.text.specs.Line.{LF}
 use Rattle.plan.specs.Value.{at}
 use Rattle.plan.specs.declared.Plan.{Plan}
 use Rattle.school.specs.declared.LogLine.{LogLine}
-use Rattle.year_rules.specs.Figures.{sum_of, best_of, best_after}
+use Rattle.year_rules.specs.Figures.{sum_of, best_of}
 use Rattle.year_rules.specs.Totals.{boards}
-use Rattle.year_rules.specs.declared.Tally.{Tally}
-use Rattle.year_rules.specs.declared.Totals.{Totals}
 use Rattle.year_rules.proofs.FigureLaws.{Picks, max-picks, min-picks, sum-append, best-next, after-append, after-than}
-use Rattle.year_rules.proofs.BoardLaws.{boards-at, boards-sum, add_to, add_same, add-last}
+use Rattle.year_rules.proofs.BoardLaws.{boards-at, boards-sum, add_to, add-last}
 use Rattle.year_write.specs.Report.{board_tally, bests_below, all_tally}
 use Rattle.promises_year.specs.Year.{Morning, is_taken, lines_of, on_board, on_any, is_end_line, ends_of, figures_of, tallied, year_of}
 use Rattle.promises_year.proofs.Perms.{length-perm, sum-perm, best-perm}

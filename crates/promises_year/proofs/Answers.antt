@@ -1,22 +1,18 @@
 -- When a call is refused, and what it answers.
-use Prim.Native.Nat.{ℕ, ◌+◌, ◌*◌, ◌≤◌, ◌<◌}
+use Prim.Native.Nat.{ℕ, ◌+◌, ◌≤◌, ◌<◌}
 use mathlib.Core.Path.{◌≡◌, refl, sym, ap, ◌∙◌}
-use mathlib.Core.Logic.{◌≢◌, ◌⊎◌, inl, inr, ⊎_elim}
+use mathlib.Core.Logic.{◌⊎◌, inl, inr, ⊎_elim}
 use mathlib.Core.Bool.{Bool, true, false, ◌&&◌}
-use mathlib.Core.List.{List, [], ◌∷◌, ◌++◌}
+use mathlib.Core.List.{List}
 use native.Mathlib.Omega.{arith}
-use lib.Dec.{eqb, leb}
 use lib.ListN.{length, take}
-use lib.Seq.{take_all, length-take-le}
+use lib.Seq.{length-take-le}
 use borrow.Author.Tests.{eqb-true, eqb-false, leb-false}
-use Rattle.laws.specs.Every.{every}
-use Rattle.laws.proofs.Cases.{by_bool, by_le, and-of, true-false}
+use Rattle.laws.proofs.Cases.{by_bool, by_le}
 use Rattle.laws.proofs.Every.{every-fails}
-use Rattle.plan.specs.Answer.{refuse, granted, is_granted}
-use Rattle.plan.specs.Value.{at}
-use Rattle.school.specs.Tests.{judged_of, unread}
+use Rattle.plan.specs.Answer.{refuse, granted}
+use Rattle.school.specs.Tests.{judged_of}
 use Rattle.school.specs.declared.JudgedLog.{JudgedLog}
-use Rattle.year_rules.specs.Figures.{sum_of}
 use Rattle.year_rules.specs.Totals.{logs_most, board_ok, totals_ok, not_added, added_of, with_judged}
 use Rattle.year_rules.specs.declared.AddResult.{AddResult}
 use Rattle.year_rules.specs.declared.Totals.{Totals}
@@ -25,7 +21,7 @@ use Rattle.year_rules.proofs.AddedLaws.{judged-adds-none, added-nine, added_full
 use Rattle.promises.specs.Ladder.{Ladder}
 use Rattle.promises.proofs.Ladder.{First, ladder_of}
 use Rattle.promises_year.specs.Says.{PastBounds, add_checks, AddedSays}
-use Rattle.promises_year.specs.Year.{Morning, is_taken, year_of, fed}
+use Rattle.promises_year.specs.Year.{Morning, is_taken, fed}
 use Rattle.promises_year.proofs.Fed.{taken-adds, year-logs, fed-year, fed-in}
 
 module _ (totals : Totals) where

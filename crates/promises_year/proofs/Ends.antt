@@ -1,11 +1,11 @@
 -- The figures of an accepted log by its tasks are those of its `end` lines, in another order.
-use Prim.Native.Nat.{ℕ, zero, suc, ◌+◌, ◌-◌, ◌≤◌, ◌<◌, max, min}
-use mathlib.Core.Path.{◌≡◌, refl, sym, ap, ◌∙◌, subst}
-use mathlib.Core.Bool.{Bool, true, false, not, cond, ◌&&◌}
+use Prim.Native.Nat.{ℕ, zero, suc, ◌+◌, ◌-◌, ◌≤◌, ◌<◌}
+use mathlib.Core.Path.{◌≡◌, refl, sym, ap, ◌∙◌}
+use mathlib.Core.Bool.{Bool, true, false, cond, ◌&&◌}
 use mathlib.Core.List.{List, [], ◌∷◌, Permᴰ}
 use native.Mathlib.Omega.{arith}
 use lib.Dec.{eqb, leb}
-use borrow.Author.Tests.{eq-eqb, ne_eqb, eqb-true, eqb-false, leb-true, le-leb, lt-leb}
+use borrow.Author.Tests.{eq-eqb, ne_eqb, eqb-true, leb-true, le-leb, lt-leb}
 use Rattle.laws.specs.Lists.{all_of}
 use Rattle.laws.specs.Split.{split_on}
 use Rattle.laws.proofs.Cases.{by_bool, by-eq, by_le, and_l, and_r, and-of, implies-at}
@@ -16,12 +16,12 @@ use Rattle.plan.specs.declared.Plan.{Plan}
 use Rattle.book_view.proofs.Laid.{laid-at}
 use Rattle.school.specs.Lines.{said_in}
 use Rattle.school.specs.Tasks.{is_start, is_end, how_many, first_of, is_known, end_in}
-use Rattle.school.specs.Tests.{tasks_fault, found_in, judged_of}
+use Rattle.school.specs.Tests.{judged_of}
 use Rattle.school.specs.declared.JudgedLog.{JudgedLog}
 use Rattle.school.specs.declared.LogLine.{LogLine}
 use Rattle.year_rules.specs.Figures.{figures_on}
 use Rattle.promises_year.specs.Year.{Morning, is_taken, lines_of, on_board, is_end_line, ends_of}
-use Rattle.promises_year.proofs.Accepted.{TaskDone, LogTaken, end_ok, ends-of-plan, log-taken}
+use Rattle.promises_year.proofs.Accepted.{LogTaken, end_ok, ends-of-plan, log-taken}
 
 module _ (plan : Plan) (number : ℕ) where
   -- planned finish less logged end

@@ -1,15 +1,13 @@
 -- Totals fed one log after another are those of the list.
-use Prim.Native.Nat.{ℕ, zero, suc, ◌+◌, ◌≤◌, ◌<◌, max, min}
-use mathlib.Core.Path.{◌≡◌, refl, sym, ap, ◌∙◌, subst}
+use Prim.Native.Nat.{ℕ, ◌+◌, ◌≤◌, ◌<◌, max, min}
+use mathlib.Core.Path.{◌≡◌, refl, sym, ap, ◌∙◌}
 use mathlib.Core.Bool.{Bool, true, false, not, cond}
 use mathlib.Core.List.{List, [], ◌∷◌, ◌++◌, append_assoc, append-nil, Permᴰ}
 use native.Mathlib.Omega.{arith}
 use lib.ListN.{length, take, length-append}
 use lib.Seq.{take_all, take_at}
 use Rattle.laws.proofs.Cases.{by_bool, by_le}
-use Rattle.plan.specs.Answer.{is_granted}
 use Rattle.plan.specs.Value.{at}
-use Rattle.plan.specs.declared.Plan.{Plan}
 use Rattle.school.specs.Tests.{judged_of}
 use Rattle.school.specs.declared.LogLine.{LogLine}
 use Rattle.year_rules.specs.Figures.{sum_of, best_of, best_after}
@@ -17,7 +15,7 @@ use Rattle.year_rules.specs.Totals.{logs_most, boards, zero_totals, with_figures
 use Rattle.year_rules.specs.declared.AddResult.{AddResult}
 use Rattle.year_rules.specs.declared.Totals.{Totals}
 use Rattle.year_rules.proofs.FigureLaws.{Picks, max-picks, min-picks, sum-append, after-append, after_same}
-use Rattle.year_rules.proofs.BoardLaws.{boards-at, boards-same, boards-sum, add_to, add_none}
+use Rattle.year_rules.proofs.BoardLaws.{boards-at, boards-same, boards-sum, add_none}
 use Rattle.year_rules.proofs.BoundLaws.{InBounds, facts-ok}
 use Rattle.year_rules.proofs.AddedLaws.{figures_in, judged-adds, judged-adds-none, added_full, added-on, added-in}
 use Rattle.promises_year.specs.Year.{Morning, is_taken, lines_of, on_board, ends_of, figures_of, many_of, year_of, fed_from, fed}

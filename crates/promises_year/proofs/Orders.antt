@@ -1,14 +1,12 @@
 -- Another order of the list gives the same totals.
-use Prim.Native.Nat.{ℕ, ◌+◌, ◌≤◌, max, min}
-use mathlib.Core.Path.{◌≡◌, refl, sym, ap, ◌∙◌}
-use mathlib.Core.Bool.{Bool, not, cond}
+use Prim.Native.Nat.{ℕ, ◌+◌, max, min}
+use mathlib.Core.Path.{◌≡◌, refl, ◌∙◌}
+use mathlib.Core.Bool.{Bool, not}
 use mathlib.Core.List.Permᴰ
-use mathlib.Core.List.{List, [], ◌∷◌, ◌++◌, append_assoc, Permᴰ}
+use mathlib.Core.List.{List, ◌++◌, append_assoc, Permᴰ}
 use native.Mathlib.Omega.{arith}
 use lib.ListN.{length}
 use Rattle.school.specs.declared.LogLine.{LogLine}
-use Rattle.year_rules.specs.Figures.{sum_of, best_of}
-use Rattle.year_rules.specs.Totals.{boards}
 use Rattle.year_rules.proofs.FigureLaws.{max-picks, min-picks}
 use Rattle.year_rules.proofs.BoardLaws.{boards-same}
 use Rattle.promises_year.specs.Year.{Morning, is_taken, on_board, figures_of, many_of, year_of}

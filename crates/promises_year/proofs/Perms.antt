@@ -1,10 +1,8 @@
 -- What is counted, added up or picked of figures does not depend on their order.
-use Prim.Native.Nat.{ℕ, suc, ◌+◌}
+use Prim.Native.Nat.{ℕ, suc}
 use mathlib.Core.Path.{◌≡◌, refl, sym, ap, ◌∙◌}
-use mathlib.Core.Bool.{cond}
-use mathlib.Core.List.{List, [], ◌∷◌, Permᴰ}
+use mathlib.Core.List.{List, Permᴰ}
 use native.Mathlib.Omega.{arith}
-use lib.Dec.{eqb}
 use lib.ListN.{length}
 use Rattle.year_rules.specs.Figures.{sum_of, best_of}
 use Rattle.year_rules.proofs.FigureLaws.{Picks, best-next, best-swap}

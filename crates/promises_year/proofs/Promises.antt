@@ -12,7 +12,6 @@ use Rattle.laws.specs.Lists.{all_of, any_of}
 use Rattle.plan.specs.Answer.{refuse}
 use Rattle.plan.specs.Value.{at}
 use Rattle.log_write.specs.Lines.{refused_line}
-use Rattle.school.specs.declared.LogLine.{LogLine}
 use Rattle.year_rules.specs.Figures.{best_of}
 use Rattle.year_rules.specs.Totals.{totals_ok, not_added, added_of}
 use Rattle.year_rules.specs.declared.Totals.{Totals}

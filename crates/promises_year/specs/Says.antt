@@ -2,7 +2,6 @@
 use Rattle.std.specs.Prelude.{ℕ, ◌+◌, ◌*◌, ◌<◌, ◌≡◌, ◌≢◌, List, [], ◌∷◌}
 use Rattle.plan.specs.Answer.{granted}
 use Rattle.plan.specs.Value.{at}
-use Rattle.plan.specs.declared.Plan.{Plan}
 use Rattle.school.specs.Tests.{unread, judged_of}
 use Rattle.year_rules.specs.Figures.{sum_of}
 use Rattle.year_rules.specs.Totals.{with_figures, with_refused}

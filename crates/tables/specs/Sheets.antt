@@ -1,5 +1,5 @@
 -- The rows of request P3: what sheets say along runs with shared holders, drops and ready ticks; and impostors.
-use Rattle.std.specs.Prelude.{ℕ, ◌-◌, Bool, not, ◌&&◌, List, [], ◌∷◌, eqb}
+use Rattle.std.specs.Prelude.{ℕ, ◌-◌, not, ◌&&◌, List, [], ◌∷◌, eqb}
 use Rattle.laws.specs.Lists.{same}
 use Rattle.text.specs.Bytes.{bytes}
 use Rattle.theory.specs.Book.{book_of, waiting, running}
@@ -7,7 +7,7 @@ use Rattle.theory.specs.Figure.{has_begun}
 use Rattle.plan.specs.Value.{at, row, items}
 use Rattle.plan.specs.Read.{reading_of}
 use Rattle.plan.specs.declared.Plan.{Plan}
-use Rattle.book_holders.specs.Holders.{holds_drive, keeps_drive}
+use Rattle.book_holders.specs.Holders.{keeps_drive}
 use Rattle.ask_sheet.specs.Sheet.{is_waiting, numbers, soonest, holders_who, sheet_of}
 use Rattle.ask_sheet.specs.Sets.{same_sheet}
 use Rattle.ask_sheet.specs.declared.Sheet.{Sheet}

@@ -4,7 +4,6 @@ use Rattle.text.specs.Bytes.{bytes}
 use Rattle.desk_turns.specs.Turns.{Turned, turn_of}
 use Rattle.desk_turns.specs.declared.Morning.{Morning}
 use Rattle.desk_start.specs.Start.{begun_of}
-use Rattle.promises_desk.specs.Sessions.{Session, session_of}
 use Rattle.tables.specs.PlanA.{text_a}
 
 -- nothing is kept yet

@@ -10,7 +10,6 @@ use lib.ListN.{length, set, replicate, length-drop}
 use lib.Seq.{sets}
 use lib.Dec.{leb, ltb}
 use borrow.Author.Tests.{leb-true, leb-false, ltb-true, ltb-false, le-leb, lt-leb, lt-ltb, le-ltb, not-true, not-false}
-use denote.Enum.Declared
 use Rattle.laws.proofs.Cases.{by_bool, by-eq, and_l, and_r, or_at, or_l, or_r, true-false}
 use Rattle.laws.specs.Lists.{all_of, first_not, rising, same}
 use Rattle.laws.specs.Private.Rise.{rises_from}

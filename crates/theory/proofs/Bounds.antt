@@ -1,16 +1,15 @@
 -- Nobody starts or ends later than planned.
 use mathlib.Core.Path.{◌≡◌}
 use mathlib.Core.Logic.{◌≢◌}
-use mathlib.Core.Bool.{true, false, cond}
+use mathlib.Core.Bool.{true}
 use Prim.Native.Nat.{ℕ, zero, suc, ◌+◌, ◌≤◌, ◌<◌}
 use native.Mathlib.Omega.{arith}
 use borrow.Author.Tests.{eq-eqb, ne_eqb}
 use Rattle.laws.proofs.Cases.{by-eq}
 use Rattle.laws.proofs.Latest.{latest-under, latest-over}
 use Rattle.theory.specs.Plan.{Plan}
-use Rattle.theory.specs.Book.{is_dropped, due, ready_due}
+use Rattle.theory.specs.Book.{due, ready_due}
 use Rattle.theory.proofs.Facts.{Lawful}
-use Rattle.theory.specs.Times.{start_from, end_from}
 use Rattle.theory.specs.Words.Lines.{TwoLines}
 use Rattle.theory.proofs.Fits.{Fits}
 use Rattle.theory.proofs.Solved.{sooner}

@@ -3,7 +3,7 @@ use mathlib.Core.Path.{◌≡◌, refl, sym, ap, ◌∙◌}
 use mathlib.Core.Logic.{◌≢◌, ⊎_elim}
 use mathlib.Core.List.Memᴰ
 use mathlib.Core.List.{List, [], ◌∷◌, ◌++◌, Memᴰ}
-use Prim.Native.Nat.{ℕ, suc, ◌≤◌, ◌<◌}
+use Prim.Native.Nat.{ℕ, suc, ◌<◌}
 use native.Mathlib.Omega.{arith}
 use borrow.Author.Tests.{eq-eqb, ne_eqb}
 use Rattle.laws.proofs.Cases.{by-eq}
@@ -20,10 +20,10 @@ use Rattle.theory.proofs.Later.{Later, later-next, next-ends, next-new}
 use Rattle.theory.proofs.Same.{SameDrops}
 use Rattle.theory.proofs.Feed.{NoneBefore, ended-before, first-accepted, first-before, first-drops}
 use Rattle.theory.proofs.Reach.{opened-none, opened-first}
-use Rattle.theory.specs.Times.{start_time, end_time}
+use Rattle.theory.specs.Times.{end_time}
 use Rattle.theory.proofs.Fits.{Fits}
-use Rattle.theory.specs.Words.Orders.{tick_of, InTime, Order}
-use Rattle.theory.proofs.Target.{target, target_sound, drop-is, drop-not, is-dropped}
+use Rattle.theory.specs.Words.Orders.{InTime, Order}
+use Rattle.theory.proofs.Target.{target, target_sound, drop-is, is-dropped}
 
 -- every task has ended, and started and ended as the target says
 pub record Done (plan : Plan) (goal book : Book) : Type 0 where

@@ -1,14 +1,12 @@
 -- A book in which every task has ended is the timetable of its own lengths and drops.
-use mathlib.Core.Path.{◌≡◌, ◌∙◌}
-use mathlib.Core.Logic.{◌≢◌}
-use mathlib.Core.Bool.{true, cond}
-use Prim.Native.Nat.{ℕ, ◌+◌, ◌-◌, ◌≤◌, ◌<◌}
+use mathlib.Core.Path.{◌≡◌}
+use Prim.Native.Nat.{ℕ, ◌-◌, ◌<◌}
 use native.Mathlib.Omega.{arith}
 use borrow.Author.Tests.{eq-eqb, ne_eqb}
 use Rattle.laws.proofs.Cases.{by-eq}
 use Rattle.theory.specs.Plan.{Plan}
-use Rattle.theory.specs.Book.{Book, due, ready_due, limit}
-use Rattle.theory.proofs.Facts.{Sound, Waiter, Lawful}
+use Rattle.theory.specs.Book.{Book}
+use Rattle.theory.proofs.Facts.{Sound}
 use Rattle.theory.proofs.Task.{skipped-now, started-at, ended-within, ended-after}
 use Rattle.theory.proofs.Reach.{drop-waits}
 use Rattle.theory.specs.Times.{start_from, end_from}

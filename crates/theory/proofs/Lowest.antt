@@ -5,10 +5,10 @@ use mathlib.Core.Bool.{Bool, true, false, not, cond}
 use Prim.Native.Nat.{ℕ, ◌+◌, ◌≤◌, ◌<◌}
 use native.Mathlib.Omega.{arith}
 use lib.Dec.{eqb}
-use borrow.Author.Tests.{eq-eqb, ne_eqb}
-use Rattle.laws.proofs.Cases.{by_bool, by-eq, true-false}
+use borrow.Author.Tests.{ne_eqb}
+use Rattle.laws.proofs.Cases.{by_bool, true-false}
 use Rattle.laws.specs.Scan.{scan_to}
-use Rattle.laws.proofs.Scan.{scan-turn, scan-hit, scan-end, scan-same, scan-cases, Found, Nothing}
+use Rattle.laws.proofs.Scan.{scan-turn, scan-hit, scan-end, scan-same, scan-cases}
 use Rattle.theory.specs.Times.{lowest}
 
 -- a task from 1 is somebody

@@ -1,12 +1,11 @@
 -- Lengths and drops are refused exactly where they do not fit.
-use mathlib.Core.Path.{◌≡◌, refl, sym, ◌∙◌}
+use mathlib.Core.Path.{◌≡◌}
 use mathlib.Core.Logic.{◌≢◌, ⊎_elim}
 use mathlib.Core.Bool.{Bool, true, false, not, ◌&&◌}
 use Prim.Native.Nat.{ℕ, ◌-◌, ◌≤◌, ◌<◌}
-use native.Mathlib.Omega.{arith}
-use lib.Dec.{leb, eqb}
-use borrow.Author.Tests.{eq-eqb, ne_eqb, eqb-true, eqb-false, leb-true, le-leb, not-true, not-false}
-use Rattle.laws.proofs.Cases.{by_bool, by-eq, true-false, and_l, and_r, and-of}
+use lib.Dec.{leb}
+use borrow.Author.Tests.{eq-eqb, ne_eqb, eqb-true, eqb-false, leb-true, le-leb, not-true}
+use Rattle.laws.proofs.Cases.{by_bool, true-false, and_l, and_r, and-of}
 use Rattle.laws.specs.Every.{any}
 use Rattle.laws.proofs.Every.{any_at, any_of}
 use Rattle.theory.specs.Plan.{Plan}

@@ -1,17 +1,17 @@
 -- The two lines have one solution, and using them as often as there are tasks finds it.
-use mathlib.Core.Path.{◌≡◌, refl, sym, ap, ◌∙◌}
-use mathlib.Core.Bool.{Bool, true, cond}
-use Prim.Native.Nat.{ℕ, zero, suc, ◌+◌, ◌≤◌, ◌<◌, max}
+use mathlib.Core.Path.{◌≡◌, refl, sym, ◌∙◌}
+use mathlib.Core.Bool.{true}
+use Prim.Native.Nat.{ℕ, zero, suc, ◌<◌}
 use native.Mathlib.Omega.{arith}
-use lib.Dec.{ltb, eqb}
+use lib.Dec.{ltb}
 use borrow.Author.Tests.{lt-ltb, le-ltb, ltb-true}
 use Rattle.laws.specs.Private.Count.{count}
 use Rattle.laws.proofs.Count.{count-lt, count-all}
 use Rattle.laws.proofs.Latest.{latest-same}
 use Rattle.theory.specs.Plan.{Plan}
-use Rattle.theory.specs.Book.{is_dropped, due, ready_due}
+use Rattle.theory.specs.Book.{due}
 use Rattle.theory.proofs.Facts.{Lawful}
-use Rattle.theory.specs.Times.{start_from, end_from, ends_by, end_time, start_time}
+use Rattle.theory.specs.Times.{start_from, ends_by, end_time, start_time}
 use Rattle.theory.specs.Words.Lines.{TwoLines}
 
 -- a start looks only at the ends of those that are waited for

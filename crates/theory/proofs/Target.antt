@@ -1,16 +1,16 @@
 -- The book that a timetable is: every task has ended. It is sound.
-use mathlib.Core.Path.{◌≡◌, refl, sym, ◌∙◌}
+use mathlib.Core.Path.{◌≡◌, refl}
 use mathlib.Core.Logic.{◌≢◌}
-use mathlib.Core.Bool.{true, false, cond}
-use Prim.Native.Nat.{ℕ, ◌+◌, ◌≤◌, ◌<◌}
+use mathlib.Core.Bool.{true, cond}
+use Prim.Native.Nat.{ℕ, ◌≤◌, ◌<◌}
 use native.Mathlib.Omega.{arith}
 use borrow.Author.Tests.{eq-eqb, ne_eqb}
 use Rattle.laws.proofs.Cases.{by-eq}
 use Rattle.laws.specs.Picked.{latest}
 use Rattle.laws.proofs.Latest.{latest-over}
 use Rattle.theory.specs.Plan.{Plan}
-use Rattle.theory.specs.Book.{Book, book_of, is_dropped, all_ended, limit}
-use Rattle.theory.proofs.Facts.{Blocker, Waiter, TaskOk, Sound, Lawful}
+use Rattle.theory.specs.Book.{Book, book_of, is_dropped, all_ended}
+use Rattle.theory.proofs.Facts.{Blocker, TaskOk, Sound, Lawful}
 use Rattle.theory.proofs.Reflect.{all-ended-of}
 use Rattle.theory.specs.Times.{start_time, end_time}
 use Rattle.theory.specs.Words.Lines.{TwoLines}

@@ -1,14 +1,14 @@
 -- A timetable looks at ready ticks, wait sets, drops and lengths of the tasks alone.
-use mathlib.Core.Path.{◌≡◌, refl, sym, ap, ◌∙◌}
+use mathlib.Core.Path.{◌≡◌, refl, sym, ◌∙◌}
 use mathlib.Core.Bool.{Bool, cond}
 use mathlib.Core.Logic.{◌≢◌}
-use Prim.Native.Nat.{ℕ, zero, suc, ◌+◌, ◌<◌, max}
+use Prim.Native.Nat.{ℕ, zero, suc, ◌+◌, ◌<◌}
 use borrow.Author.Tests.{eq-eqb, ne_eqb}
 use Rattle.laws.proofs.Cases.{by-eq}
 use Rattle.laws.proofs.Latest.{latest-same}
 use Rattle.theory.specs.Plan.{Plan}
-use Rattle.theory.specs.Book.{is_dropped, due, ready_due}
-use Rattle.theory.specs.Times.{start_from, end_from, ends_by, start_time, end_time}
+use Rattle.theory.specs.Book.{is_dropped, due}
+use Rattle.theory.specs.Times.{start_from, ends_by, start_time, end_time}
 
 module _ (tasks : ℕ) (ready begin finish from to : ℕ → ℕ) (these those : ℕ → ℕ → Bool)
     (agree : (i j : ℕ) → i < tasks → j < tasks → these i j ≡ those i j) (length dropped : ℕ → ℕ) where

@@ -1,7 +1,7 @@
 -- No later book, of further reports and drops, has a task start later than with full lengths.
 use mathlib.Core.Path.{◌≡◌}
 use mathlib.Core.Logic.{◌≢◌}
-use Prim.Native.Nat.{ℕ, zero, suc, ◌-◌, ◌≤◌, ◌<◌}
+use Prim.Native.Nat.{ℕ, zero, suc, ◌≤◌, ◌<◌}
 use native.Mathlib.Omega.{arith}
 use Rattle.laws.proofs.Cases.{by-eq}
 use Rattle.laws.proofs.Latest.{latest-under, latest-over}

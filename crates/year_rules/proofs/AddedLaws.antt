@@ -1,25 +1,22 @@
 -- What a call adds, case by case; and that totals within their bounds stay there.
 use Prim.Native.Nat.{ℕ, ◌+◌, ◌≤◌, ◌<◌}
-use mathlib.Core.Path.{◌≡◌, refl, sym, ap, ◌∙◌}
-use mathlib.Core.Bool.{Bool, true, false}
+use mathlib.Core.Path.{◌≡◌, ap}
+use mathlib.Core.Bool.{true, false}
 use mathlib.Core.List.{List}
 use native.Mathlib.Omega.{arith}
-use lib.Dec.{leb}
-use lib.ListN.{length}
 use borrow.Author.Tests.{le-leb, lt-leb}
 use Rattle.laws.proofs.Cases.{by_bool, by_le, true-false}
 use Rattle.plan.specs.Answer.{refuse, granted, is_granted}
-use Rattle.plan.specs.Value.{at, is_accepted}
+use Rattle.plan.specs.Value.{is_accepted}
 use Rattle.plan.specs.declared.Plan.{Plan}
 use Rattle.book_view.proofs.Accepted.{plan-facts}
 use Rattle.school.specs.Tests.{unread, judged_of}
 use Rattle.school.specs.declared.JudgedLog.{JudgedLog}
 use Rattle.year_rules.specs.Figures.{figures_on}
 use Rattle.year_rules.specs.Totals.{logs_most, totals_ok, with_figures, with_refused, with_judged, not_added, added_of}
-use Rattle.year_rules.specs.declared.AddResult.{AddResult}
 use Rattle.year_rules.specs.declared.Totals.{Totals}
-use Rattle.year_rules.proofs.BoardLaws.{add_to, figures-bound, figures-few}
-use Rattle.year_rules.proofs.BoundLaws.{InBounds, ok-facts, facts-ok, refused-in, figures-in}
+use Rattle.year_rules.proofs.BoardLaws.{figures-bound, figures-few}
+use Rattle.year_rules.proofs.BoundLaws.{InBounds, facts-ok, refused-in, figures-in}
 
 -- the figures of a judged log, board by board
 abbrev pub figures_in : Plan → JudgedLog → ℕ → List ℕ

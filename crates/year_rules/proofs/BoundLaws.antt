@@ -1,10 +1,10 @@
 -- The bounds of totals as facts, and that an added log keeps them.
 use Prim.Native.Nat.{ℕ, ◌+◌, ◌*◌, ◌≤◌, ◌<◌, max, min}
-use mathlib.Core.Path.{◌≡◌, refl, sym, ap, ◌∙◌}
-use mathlib.Core.Bool.{Bool, true, false, cond, ◌&&◌}
+use mathlib.Core.Path.{◌≡◌, ◌∙◌}
+use mathlib.Core.Bool.{true, ◌&&◌}
 use mathlib.Core.List.{List}
 use native.Mathlib.Omega.{arith}
-use lib.Dec.{eqb, leb}
+use lib.Dec.{leb}
 use lib.ListN.{length}
 use borrow.Author.Tests.{leb-true, le-leb}
 use Rattle.laws.specs.Every.{every}
@@ -13,7 +13,7 @@ use Rattle.laws.proofs.Cases.{and_l, and_r, and-of}
 use Rattle.laws.proofs.Every.{every-at, every_of}
 use Rattle.plan.specs.Value.{at}
 use Rattle.year_rules.specs.Figures.{sum_of, best_after}
-use Rattle.year_rules.specs.Totals.{logs_most, board_ok, totals_ok, boards, with_figures, with_refused}
+use Rattle.year_rules.specs.Totals.{logs_most, board_ok, totals_ok, with_figures, with_refused}
 use Rattle.year_rules.specs.declared.Totals.{Totals}
 use Rattle.year_rules.proofs.FigureLaws.{max-picks, min-picks, sum_bound, after-bound}
 use Rattle.year_rules.proofs.BoardLaws.{boards-at, boards-sum, add_to, add-plus, add-within}

@@ -1,7 +1,7 @@
 -- Figures added up and the best of them, one more and list by list; how many there are and how large they can be.
-use Prim.Native.Nat.{ℕ, zero, suc, ◌+◌, ◌-◌, ◌*◌, ◌≤◌, ◌<◌, max, min}
+use Prim.Native.Nat.{ℕ, suc, ◌+◌, ◌*◌, ◌≤◌, ◌<◌, max, min}
 use mathlib.Core.Path.{◌≡◌, refl, sym, ap, ◌∙◌}
-use mathlib.Core.Bool.{Bool, true, false, cond}
+use mathlib.Core.Bool.{true, cond}
 use mathlib.Core.List.{List, [], ◌∷◌, ◌++◌}
 use native.Mathlib.Omega.{arith}
 use native.Mathlib.Nat.{mul-suc}
@@ -9,11 +9,10 @@ use native.Mathlib.Numerals.{add-one}
 use lib.Dec.{eqb, leb}
 use lib.ListN.{length, drop, get_or, drop_of_length-le}
 use lib.Seq.{drop-cons}
-use borrow.Author.Tests.{eq-eqb, ne_eqb, eqb-true, leb-true, le-leb}
+use borrow.Author.Tests.{eq-eqb, ne_eqb, leb-true}
 use Rattle.laws.specs.Lists.{all_of}
-use Rattle.laws.proofs.Cases.{by_bool, by-eq, and_l, and_r, and-of}
-use Rattle.plan.specs.Value.{at}
-use Rattle.year_rules.specs.Figures.{figures_on, sum_of, best_of, best_after}
+use Rattle.laws.proofs.Cases.{by-eq, and_l, and_r}
+use Rattle.year_rules.specs.Figures.{sum_of, best_of, best_after}
 
 -- what max and min have in common
 pub record Picks (pick : ℕ → ℕ → ℕ) : Type 0 where

@@ -1,14 +1,12 @@
 -- The bounds of totals, board by board of an accepted log, and what a call adds.
-use Prim.Native.Nat.{ℕ, zero, suc, ◌+◌, ◌*◌, ◌≤◌, ◌<◌, max, min}
+use Prim.Native.Nat.{ℕ, zero, suc, ◌+◌, ◌≤◌, ◌<◌}
 use mathlib.Core.Path.{◌≡◌, refl, sym, ap, ◌∙◌}
-use mathlib.Core.Bool.{Bool, true, false, not, ◌&&◌}
+use mathlib.Core.Bool.{Bool, true, false, not}
 use mathlib.Core.List.{List, [], ◌∷◌}
 use native.Mathlib.Omega.{arith}
-use lib.Dec.{eqb, leb}
-use lib.ListN.{length, set, replicate}
+use lib.ListN.{set, replicate}
 use borrow.Author.Tests.{eq-eqb, ne_eqb, not-true, not-false}
 use Rattle.laws.specs.Each.{each}
-use Rattle.laws.specs.Every.{every}
 use Rattle.laws.proofs.Each.{each_turn}
 use Rattle.plan.specs.Answer.{refuse, granted, is_granted}
 use Rattle.plan.specs.Value.{at}
@@ -17,15 +15,14 @@ use Rattle.plan.specs.declared.Plan.{Plan}
 use Rattle.book_view.proofs.Accepted.{plan-facts}
 use Rattle.school.specs.Tests.{judged_of}
 use Rattle.school.specs.declared.JudgedLog.{JudgedLog}
-use Rattle.year_rules.specs.Figures.{sum_of, best_after}
-use Rattle.year_rules.specs.Totals.{board_ok, totals_ok, boards, with_figures, with_refused, with_judged, not_added, added_of}
+use Rattle.year_rules.specs.Figures.{sum_of}
+use Rattle.year_rules.specs.Totals.{totals_ok, boards, with_figures, with_refused, with_judged, not_added, added_of}
 use Rattle.year_rules.specs.declared.AddResult.{AddResult}
 use Rattle.year_rules.specs.declared.Tally.{Tally}
 use Rattle.year_rules.specs.declared.Totals.{Totals}
-use Rattle.year_rules.proofs.BoundLaws.{InBounds, ok-facts}
+use Rattle.year_rules.proofs.BoundLaws.{ok-facts}
 use Rattle.year_rules.proofs.AddedLaws.{figures_in, judged-accepted, judged-adds, judged-adds-none, added-nine, added_full, added-on}
 use Rattle.year_totals.specs.Private.Tallies.{tally_after}
-use Rattle.year_totals.proofs.TallyLaws.{Roomy}
 
 -- ---- a board's totals leave room for a log
 

@@ -1,17 +1,17 @@
 -- A board's totals, task by task; the totals' array of ended tasks added up.
 use Prim.Native.Nat.{ℕ, suc, ◌+◌, ◌-◌, ◌*◌, ◌≤◌, ◌<◌, max, min}
-use mathlib.Core.Path.{◌≡◌, refl, sym, ap, ◌∙◌}
+use mathlib.Core.Path.{◌≡◌, sym, ◌∙◌}
 use mathlib.Core.Bool.{Bool, true, false, cond}
 use mathlib.Core.List.{List, [], ◌∷◌}
 use native.Mathlib.Omega.{arith}
 use lib.Dec.{eqb}
-use lib.ListN.{length, drop, get_or}
+use lib.ListN.{length}
 use borrow.Author.Tests.{eq-eqb, ne_eqb, eqb-true, eqb-false}
 use Rattle.laws.proofs.Cases.{by_bool}
 use Rattle.plan.specs.Value.{at}
-use Rattle.year_rules.specs.Figures.{figures_on, sum_of, best_after}
+use Rattle.year_rules.specs.Figures.{figures_on, sum_of}
 use Rattle.year_rules.specs.declared.Tally.{Tally}
-use Rattle.year_rules.proofs.FigureLaws.{max-picks, min-picks, after_none, after_next, sum-turn, sum-end}
+use Rattle.year_rules.proofs.FigureLaws.{max-picks, min-picks, after_none, after_next}
 use Rattle.year_rules.proofs.BoardLaws.{figures-none, figures-here, figures-there}
 use Rattle.year_totals.specs.Private.Tallies.{with_figure, tally_after}
 

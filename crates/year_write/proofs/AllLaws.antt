@@ -1,8 +1,8 @@
 -- `all`, board by board.
 use Prim.Native.Nat.{ℕ, suc, ◌+◌, ◌*◌, ◌≤◌, ◌<◌, max, min}
-use mathlib.Core.Path.{◌≡◌, refl, sym, ap, ◌∙◌}
-use mathlib.Core.Bool.{Bool, true, false, cond}
-use mathlib.Core.List.{List, [], ◌∷◌}
+use mathlib.Core.Path.{◌≡◌, refl, sym, ◌∙◌}
+use mathlib.Core.Bool.{true}
+use mathlib.Core.List.{List}
 use native.Mathlib.Omega.{arith}
 use native.Mathlib.Numerals.{add-one}
 use lib.Dec.{eqb}
@@ -12,10 +12,9 @@ use Rattle.laws.proofs.Cases.{by-eq}
 use Rattle.plan.specs.Value.{at}
 use Rattle.year_rules.specs.Figures.{sum_of, best_of}
 use Rattle.year_rules.specs.Totals.{totals_ok}
-use Rattle.year_rules.specs.declared.Tally.{Tally}
 use Rattle.year_rules.specs.declared.Totals.{Totals}
 use Rattle.year_rules.proofs.FigureLaws.{Picks, max-picks, min-picks, sum-turn, sum-end, best-next}
-use Rattle.year_rules.proofs.BoundLaws.{InBounds, ok-facts}
+use Rattle.year_rules.proofs.BoundLaws.{ok-facts}
 use Rattle.year_write.specs.Report.{bests_below, all_tally}
 use Rattle.year_write.specs.Private.Bests.{best_with}
 

@@ -1,5 +1,5 @@
 use lib.ListN.{length}
-use mathlib.Core.Path.{◌≡◌, refl, sym, ap, ◌∙◌}
+use mathlib.Core.Path.{◌≡◌}
 use Rattle.ask_drives.proofs.Keep.{fresh-is}
 use Rattle.book.specs.View.{book_view}
 use borrow.Author.Rules.{rules}

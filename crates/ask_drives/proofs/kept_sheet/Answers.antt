@@ -1,8 +1,7 @@
 use borrow.Author.Tests.{eq-eqb, ne_eqb}
-use mathlib.Core.Path.{◌≡◌, refl, sym, ap, ◌∙◌}
+use mathlib.Core.Path.{ap, ◌∙◌}
 use Rattle.ask_sheet.specs.Sets.{renewed_by}
 use Rattle.ask_sheet.specs.declared.Standing.{Standing}
-use borrow.Author.Rules.{rules}
 use Rattle.ask_drives.proofs.kept_sheet.Goals as goal
 
 pub returns-then-code-ne0 : goal.returns-then-code-ne0

@@ -1,5 +1,4 @@
 use Rattle.ask_drives.proofs.Asked.{made-refused, made-granted}
-use borrow.Author.Rules.{rules}
 use Rattle.ask_drives.proofs.make_sheet.Goals as goal
 
 pub returns-then-not-waits : goal.returns-then-not-waits

@@ -1,6 +1,4 @@
-use mathlib.Core.Path.{◌≡◌, refl, sym, ap, ◌∙◌}
 use Rattle.ask_drives.proofs.Asked.{asked-other, asked-far, asked-near, drive-low}
-use borrow.Author.Rules.{rules}
 use Rattle.ask_drives.proofs.on_drive.Goals as goal
 
 pub returns-then-not-waits-seen : goal.returns-then-not-waits-seen

@@ -1,6 +1,5 @@
 use Rattle.ask_drives.proofs.Keep.{renewed-by}
 use Rattle.book.specs.View.{book_view}
-use borrow.Author.Rules.{rules}
 use Rattle.ask_drives.proofs.renewed.Goals as goal
 
 pub returns : goal.returns

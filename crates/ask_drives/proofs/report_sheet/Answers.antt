@@ -1,7 +1,6 @@
 use Rattle.ask_drives.proofs.Keep.{kept-is}
 use Rattle.ask_drives.proofs.Steps.{report-step}
 use Rattle.book.specs.Report.{reported_of}
-use borrow.Author.Rules.{rules}
 use Rattle.ask_drives.proofs.report_sheet.Goals as goal
 
 pub returns : goal.returns

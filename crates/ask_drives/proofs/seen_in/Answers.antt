@@ -1,6 +1,5 @@
-use mathlib.Core.Path.{◌≡◌, refl, sym, ap, ◌∙◌}
+use mathlib.Core.Path.{ap, ◌∙◌}
 use Rattle.ask_sheet.specs.Sets.{sheet_by, same_sheet}
-use borrow.Author.Rules.{rules}
 use Rattle.ask_drives.proofs.seen_in.Goals as goal
 
 pub returns : goal.returns

@@ -1,11 +1,8 @@
-use Rattle.book_view.proofs.Turns.{latest-more, bit-seen}
 use Rattle.plan.specs.Value.{at}
 use Rattle.laws.specs.Bits.{has}
 use Rattle.laws.specs.Picked.{latest}
-use native.Mathlib.Omega.{arith}
-use mathlib.Core.Path.{◌≡◌, refl}
+use mathlib.Core.Path.{◌≡◌}
 use Prim.Native.Nat.{◌-◌, ◌≤◌}
-use borrow.Author.Rules.{rules}
 use Rattle.ask_exact.proofs.due_at.Given as goal
 
 abbrev pub invariant-loop-j : goal.invariant-loop-j

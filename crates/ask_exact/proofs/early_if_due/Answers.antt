@@ -1,6 +1,5 @@
 use Rattle.ask_exact.proofs.StepLaws.{by-due, unready, since-ready}
 use native.Mathlib.Omega.{arith}
-use borrow.Author.Rules.{rules}
 use Rattle.ask_exact.proofs.early_if_due.Goals as goal
 
 pub returns-then-dropped-wide : goal.returns-then-dropped-wide

@@ -1,5 +1,4 @@
 use borrow.Author.Tests.{eq-eqb, ne_eqb}
-use borrow.Author.Rules.{rules}
 use Rattle.ask_exact.proofs.end_at_latest.Goals as goal
 
 pub returns-then-mark-clock : goal.returns-then-mark-clock

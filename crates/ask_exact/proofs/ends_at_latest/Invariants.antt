@@ -1,11 +1,8 @@
-use Rattle.book_view.proofs.Laid.{laid-first, laid_more}
 use Rattle.theory.specs.Exact.{latest_end}
 use Rattle.book_view.specs.View.{plan_seen, book_seen, laid}
 use mathlib.Core.List.{[]}
-use native.Mathlib.Omega.{arith}
 use mathlib.Core.Path.{◌≡◌}
 use Prim.Native.Nat.{◌-◌, ◌≤◌}
-use borrow.Author.Rules.{rules}
 use Rattle.ask_exact.proofs.ends_at_latest.Given as goal
 
 abbrev pub invariant-loop-j : goal.invariant-loop-j

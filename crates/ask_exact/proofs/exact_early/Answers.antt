@@ -1,5 +1,4 @@
 use Rattle.ask_exact.proofs.ExactLaws.{exact-refused, exact-granted}
-use borrow.Author.Rules.{rules}
 use Rattle.ask_exact.proofs.exact_early.Goals as goal
 
 pub returns-then-not-waits : goal.returns-then-not-waits

@@ -1,16 +1,8 @@
-use Rattle.ask_exact.proofs.StepLaws.{early_step, shown-first, shown-taken, shown-passed}
-use Rattle.ask_exact.specs.Shown.{shown}
-use Rattle.theory.specs.Exact.{not_started}
-use Rattle.laws.specs.Picked.{least}
-use Rattle.book_view.specs.View.{book_seen}
-use mathlib.Core.List.{[]}
-use mathlib.Core.Logic.{⊎_elim}
+use Rattle.ask_exact.proofs.StepLaws.{shown-first, shown-taken, shown-passed}
 use native.Mathlib.Omega.{arith}
 use mathlib.Core.Path.{◌≡◌, ◌∙◌}
-use Prim.Native.Nat.{◌-◌, ◌≤◌}
-use borrow.Author.Rules.{rules}
 use Rattle.ask_exact.proofs.least_of.Goals as goal
-use Rattle.ask_exact.proofs.least_of.Goals.{else-mark-i,then-mark-i}
+use Rattle.ask_exact.proofs.least_of.Goals.{else-mark-i, then-mark-i}
 
 pub loop-i-init : goal.loop-i-init
 loop-i-init c = (omega arith, shown-first _ _)

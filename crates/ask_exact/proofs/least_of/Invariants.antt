@@ -1,14 +1,11 @@
-use Rattle.ask_exact.proofs.StepLaws.{early_step, shown-first, shown-taken, shown-passed}
+use Rattle.ask_exact.proofs.StepLaws.{early_step}
 use Rattle.ask_exact.specs.Shown.{shown}
 use Rattle.theory.specs.Exact.{not_started}
 use Rattle.laws.specs.Picked.{least}
 use Rattle.book_view.specs.View.{book_seen}
 use mathlib.Core.List.{[]}
-use mathlib.Core.Logic.{⊎_elim}
-use native.Mathlib.Omega.{arith}
-use mathlib.Core.Path.{◌≡◌, ◌∙◌}
+use mathlib.Core.Path.{◌≡◌}
 use Prim.Native.Nat.{◌-◌, ◌≤◌}
-use borrow.Author.Rules.{rules}
 use Rattle.ask_exact.proofs.least_of.Given as goal
 
 abbrev pub invariant-loop-i : goal.invariant-loop-i

@@ -1,12 +1,9 @@
 use native.Mathlib.Omega.{arith}
-use Prim.Native.Nat.{◌-◌, ◌≤◌}
-use mathlib.Core.Path.{◌≡◌, refl, sym, ap, ◌∙◌}
-use mathlib.Core.Logic.{⊎_elim}
-use Rattle.plan.specs.Value.{at}
-use Rattle.ask_sheet.proofs.Lines.{FirstTo, first-start, first_taken, first-passed}
+use mathlib.Core.Path.{◌≡◌, ◌∙◌}
+use Rattle.ask_sheet.proofs.Lines.{first-start, first_taken, first-passed}
 use borrow.Author.Rules.{rules}
 use Rattle.ask_sheet.proofs.first_of.Goals as goal
-use Rattle.ask_sheet.proofs.first_of.Goals.{else-is_in,then-is_in}
+use Rattle.ask_sheet.proofs.first_of.Goals.{else-is_in, then-is_in}
 
 pub loop-k-init : goal.loop-k-init
 loop-k-init c = (omega arith, first-start _ _)

@@ -1,10 +1,6 @@
-use native.Mathlib.Omega.{arith}
 use Prim.Native.Nat.{◌-◌, ◌≤◌}
-use mathlib.Core.Path.{◌≡◌, refl, sym, ap, ◌∙◌}
-use mathlib.Core.Logic.{⊎_elim}
 use Rattle.plan.specs.Value.{at}
-use Rattle.ask_sheet.proofs.Lines.{FirstTo, first-start, first_taken, first-passed}
-use borrow.Author.Rules.{rules}
+use Rattle.ask_sheet.proofs.Lines.{FirstTo}
 use Rattle.ask_sheet.proofs.first_of.Given as goal
 
 abbrev pub invariant-loop-k : goal.invariant-loop-k

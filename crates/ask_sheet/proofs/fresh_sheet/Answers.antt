@@ -1,8 +1,6 @@
-use mathlib.Core.Path.{◌≡◌, refl, sym, ap, ◌∙◌}
-use Rattle.ask_sheet.specs.Sets.{sheet_by, renewed_by}
-use Rattle.ask_sheet.specs.declared.Sheet.{Sheet}
+use mathlib.Core.Path.{sym, ap, ◌∙◌}
+use Rattle.ask_sheet.specs.Sets.{renewed_by}
 use Rattle.ask_sheet.proofs.Renewed.{renewed-is, sheet-blank}
-use borrow.Author.Rules.{rules}
 use Rattle.ask_sheet.proofs.fresh_sheet.Goals as goal
 
 pub returns : goal.returns

@@ -1,6 +1,3 @@
-use mathlib.Core.Path.{◌≡◌, refl, sym, ap, ◌∙◌}
-use mathlib.Core.Bool.{◌&&◌}
-use borrow.Author.Rules.{rules}
 use Rattle.ask_sheet.proofs.is_same.Goals as goal
 
 pub returns : goal.returns

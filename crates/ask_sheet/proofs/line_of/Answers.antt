@@ -1,11 +1,8 @@
 use native.Mathlib.Omega.{arith}
-use Prim.Native.Nat.{◌-◌, ◌≤◌}
-use mathlib.Core.Path.{◌≡◌, refl, sym, ap, ◌∙◌}
-use mathlib.Core.Logic.{⊎_elim}
-use Rattle.ask_sheet.proofs.Lines.{LineTo, line-start, line_taken, line-passed, room}
-use borrow.Author.Rules.{rules}
+use mathlib.Core.Path.{◌≡◌}
+use Rattle.ask_sheet.proofs.Lines.{line-start, line_taken, line-passed, room}
 use Rattle.ask_sheet.proofs.line_of.Goals as goal
-use Rattle.ask_sheet.proofs.line_of.Goals.{else-is_in-count,then-is_in-count}
+use Rattle.ask_sheet.proofs.line_of.Goals.{else-is_in-count, then-is_in-count}
 
 pub loop-k-init : goal.loop-k-init
 loop-k-init c = (omega arith, line-start _)

@@ -1,9 +1,5 @@
-use native.Mathlib.Omega.{arith}
 use Prim.Native.Nat.{◌-◌, ◌≤◌}
-use mathlib.Core.Path.{◌≡◌, refl, sym, ap, ◌∙◌}
-use mathlib.Core.Logic.{⊎_elim}
-use Rattle.ask_sheet.proofs.Lines.{LineTo, line-start, line_taken, line-passed, room}
-use borrow.Author.Rules.{rules}
+use Rattle.ask_sheet.proofs.Lines.{LineTo}
 use Rattle.ask_sheet.proofs.line_of.Given as goal
 
 abbrev pub invariant-loop-k : goal.invariant-loop-k

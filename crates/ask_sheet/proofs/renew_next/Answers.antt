@@ -1,11 +1,7 @@
 use native.Mathlib.Omega.{arith}
-use Prim.Native.Nat.{◌-◌, ◌≤◌}
-use mathlib.Core.Path.{◌≡◌, refl, sym, ap, ◌∙◌}
-use mathlib.Core.Logic.{⊎_elim}
-use Rattle.ask_sheet.proofs.Turns.{NextTo, next_start, next-written, next-kept, next-end}
-use borrow.Author.Rules.{rules}
+use Rattle.ask_sheet.proofs.Turns.{next_start, next-written, next-kept, next-end}
 use Rattle.ask_sheet.proofs.renew_next.Goals as goal
-use Rattle.ask_sheet.proofs.renew_next.Goals.{else-held-d,then-held-d}
+use Rattle.ask_sheet.proofs.renew_next.Goals.{else-held-d, then-held-d}
 
 pub loop-d-init : goal.loop-d-init
 loop-d-init c = (omega arith, next_start _ _ _ _ _)

@@ -1,9 +1,5 @@
-use native.Mathlib.Omega.{arith}
 use Prim.Native.Nat.{◌-◌, ◌≤◌}
-use mathlib.Core.Path.{◌≡◌, refl, sym, ap, ◌∙◌}
-use mathlib.Core.Logic.{⊎_elim}
-use Rattle.ask_sheet.proofs.Turns.{NextTo, next_start, next-written, next-kept, next-end}
-use borrow.Author.Rules.{rules}
+use Rattle.ask_sheet.proofs.Turns.{NextTo}
 use Rattle.ask_sheet.proofs.renew_next.Given as goal
 
 abbrev pub invariant-loop-d : goal.invariant-loop-d

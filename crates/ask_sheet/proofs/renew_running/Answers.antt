@@ -1,12 +1,10 @@
 use lib.ListN.{length}
 use native.Mathlib.Omega.{arith}
-use Prim.Native.Nat.{◌-◌, ◌≤◌}
-use mathlib.Core.Path.{◌≡◌, refl, sym, ap, ◌∙◌}
-use mathlib.Core.Logic.{⊎_elim}
-use Rattle.ask_sheet.proofs.Turns.{RunTo, run-start, run-written, run-kept, run-size, run_end}
+use mathlib.Core.Path.{◌≡◌}
+use Rattle.ask_sheet.proofs.Turns.{run-start, run-written, run-kept, run-size, run_end}
 use borrow.Author.Rules.{rules}
 use Rattle.ask_sheet.proofs.renew_running.Goals as goal
-use Rattle.ask_sheet.proofs.renew_running.Goals.{else-held-d,then-held-d}
+use Rattle.ask_sheet.proofs.renew_running.Goals.{else-held-d, then-held-d}
 
 pub loop-d-init : goal.loop-d-init
 loop-d-init c = (omega arith, run-start _ _ _ _ (search rules))

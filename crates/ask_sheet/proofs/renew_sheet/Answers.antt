@@ -1,4 +1,3 @@
-use borrow.Author.Rules.{rules}
 use Rattle.ask_sheet.proofs.renew_sheet.Goals as goal
 
 pub returns : goal.returns

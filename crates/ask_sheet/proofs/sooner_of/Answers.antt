@@ -1,6 +1,5 @@
 use Rattle.plan.specs.Value.{at}
 use Rattle.ask_sheet.proofs.Lines.{sooner-first, sooner-less, sooner-kept}
-use borrow.Author.Rules.{rules}
 use Rattle.ask_sheet.proofs.sooner_of.Goals as goal
 
 pub returns-then-first-eq0 : goal.returns-then-first-eq0

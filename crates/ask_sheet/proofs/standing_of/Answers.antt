@@ -1,5 +1,5 @@
 use Prim.Native.Nat.{min}
-use mathlib.Core.Path.{◌≡◌, refl, sym, ap, ◌∙◌}
+use mathlib.Core.Path.{◌≡◌}
 use borrow.Author.Rules.{rules}
 use Rattle.ask_sheet.proofs.standing_of.Goals as goal
 

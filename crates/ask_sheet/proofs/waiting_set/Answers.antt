@@ -1,12 +1,7 @@
 use native.Mathlib.Omega.{arith}
-use Prim.Native.Nat.{◌-◌, ◌≤◌}
-use mathlib.Core.Path.{◌≡◌, refl, sym, ap, ◌∙◌}
+use mathlib.Core.Path.{◌≡◌, refl}
 use Rattle.book_view.proofs.Turns.{set_more}
 use Rattle.laws.specs.Bits.{set_of}
-use Rattle.ask_sheet.specs.Sheet.{is_waiting}
-use Rattle.book_view.specs.View.{book_seen}
-use mathlib.Core.List.{[]}
-use borrow.Author.Rules.{rules}
 use Rattle.ask_sheet.proofs.waiting_set.Goals as goal
 
 pub loop-k-init : goal.loop-k-init

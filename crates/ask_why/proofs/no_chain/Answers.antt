@@ -1,4 +1,3 @@
-use borrow.Author.Rules.{rules}
 use Rattle.ask_why.proofs.no_chain.Goals as goal
 
 pub returns : goal.returns

@@ -1,5 +1,4 @@
 use Rattle.ask_why.proofs.WhyLaws.{why-unsound, why-sound}
-use borrow.Author.Rules.{rules}
 use Rattle.ask_why.proofs.why.Goals as goal
 
 pub returns-then-not-waits : goal.returns-then-not-waits

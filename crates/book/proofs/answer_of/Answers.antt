@@ -1,4 +1,3 @@
-use borrow.Author.Rules.{rules}
 use Rattle.book.proofs.answer_of.Goals as goal
 
 pub returns-then-code : goal.returns-then-code

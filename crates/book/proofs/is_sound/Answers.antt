@@ -1,5 +1,4 @@
 use Rattle.book.proofs.WaitLaws.{its-soundness}
-use borrow.Author.Rules.{rules}
 use Rattle.book.proofs.is_sound.Goals as goal
 
 pub returns : goal.returns

@@ -11,11 +11,9 @@ use Rattle.plan.specs.Value.{is_accepted}
 use Rattle.book_view.specs.View.{is_rule}
 use Prim.Native.Nat.{ℕ}
 use mathlib.Core.Bool.{◌&&◌}
-use mathlib.Core.Logic.{⊎_elim}
 use mathlib.Core.Path.{sym, ap, ◌∙◌}
-use borrow.Author.Rules.{rules}
 use Rattle.book.proofs.open_book.Goals as goal
-use Rattle.book.proofs.open_book.Goals.{else-waits,then-waits}
+use Rattle.book.proofs.open_book.Goals.{else-waits, then-waits}
 
 pub settle-moved-requires : goal.settle-moved-requires
 settle-moved-requires c =
@@ -35,5 +33,8 @@ returns c =
     let b = c.blank_book-book.ensures ∙ ap (λ (n : ℕ). blank_book n a.plan) c.number_of.ensures in
     let waits = c.wait_sets-waits.ensures in
     let ok = known_is book.rule (plan_in book) waits ∙ (λ i. is_accepted (blank-plan a.plan a.rule b i) && is_rule (blank-rule a.plan a.rule b i)) in
-    elim c.if-waits.branch [ then-waits w ↦ opening-granted a.plan a.rule ok c.answer_of.ensures w.if-waits.true w.code-is
-    (w.book-is ∙ opened-laid a.plan a.rule b w.unmoved.ensures (settled-seen book (sym (known_is book.rule (plan_in book) waits) ∙ w.if-waits.true) (ap (λ (x : Waits). x.sets) waits) _ w.settle-moved.ensures)) | else-waits w ↦ opening-refused a.plan a.rule ok c.answer_of.ensures w.if-waits.false w.code-is (w.book-is ∙ w.zero_book-book.ensures) ]
+    elim c.if-waits.branch [
+      | then-waits w ↦ opening-granted a.plan a.rule ok c.answer_of.ensures w.if-waits.true w.code-is
+          (w.book-is ∙ opened-laid a.plan a.rule b w.unmoved.ensures (settled-seen book (sym (known_is book.rule (plan_in book) waits) ∙ w.if-waits.true) (ap (λ (x : Waits). x.sets) waits) _ w.settle-moved.ensures))
+      | else-waits w ↦ opening-refused a.plan a.rule ok c.answer_of.ensures w.if-waits.false w.code-is (w.book-is ∙ w.zero_book-book.ensures)
+    ]

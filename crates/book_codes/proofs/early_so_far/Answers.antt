@@ -1,4 +1,3 @@
-use borrow.Author.Rules.{rules}
 use Rattle.book_codes.proofs.early_so_far.Goals as goal
 
 pub returns-then-begun : goal.returns-then-begun

@@ -2,7 +2,6 @@ use Rattle.book_codes.proofs.CodeLaws.{code-nobody, code-numbered, code-10, code
 use mathlib.Core.List.{[]}
 use Rattle.book_view.specs.View.{plan_seen, book_seen}
 use borrow.Author.Tests.{not-true, not-false}
-use borrow.Author.Rules.{rules}
 use Rattle.book_codes.proofs.end_code.Goals as goal
 
 pub returns-then-task-eq0 : goal.returns-then-task-eq0

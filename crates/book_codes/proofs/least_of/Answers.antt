@@ -1,14 +1,9 @@
-use Rattle.book_codes.proofs.EarlyLaws.{LeastTo, least_first, least-taken, least-passed, least-is}
-use Rattle.theory.specs.Figure.{early_by, counts, minimum_early}
-use Rattle.book_view.specs.View.{plan_seen, book_seen}
-use mathlib.Core.List.{[]}
-use mathlib.Core.Logic.{⊎_elim}
+use Rattle.book_codes.proofs.EarlyLaws.{least_first, least-taken, least-passed, least-is}
+use Rattle.theory.specs.Figure.{minimum_early}
 use native.Mathlib.Omega.{arith}
 use mathlib.Core.Path.{◌≡◌, ◌∙◌}
-use Prim.Native.Nat.{◌-◌, ◌≤◌}
-use borrow.Author.Rules.{rules}
 use Rattle.book_codes.proofs.least_of.Goals as goal
-use Rattle.book_codes.proofs.least_of.Goals.{else-begun-dropped,then-begun-dropped}
+use Rattle.book_codes.proofs.least_of.Goals.{else-begun-dropped, then-begun-dropped}
 
 pub loop-i-init : goal.loop-i-init
 loop-i-init c = (omega arith, least_first _ _)

@@ -1,12 +1,8 @@
-use Rattle.book_codes.proofs.EarlyLaws.{LeastTo, least_first, least-taken, least-passed, least-is}
-use Rattle.theory.specs.Figure.{early_by, counts, minimum_early}
+use Rattle.book_codes.proofs.EarlyLaws.{LeastTo}
+use Rattle.theory.specs.Figure.{early_by, counts}
 use Rattle.book_view.specs.View.{plan_seen, book_seen}
 use mathlib.Core.List.{[]}
-use mathlib.Core.Logic.{⊎_elim}
-use native.Mathlib.Omega.{arith}
-use mathlib.Core.Path.{◌≡◌, ◌∙◌}
 use Prim.Native.Nat.{◌-◌, ◌≤◌}
-use borrow.Author.Rules.{rules}
 use Rattle.book_codes.proofs.least_of.Given as goal
 
 abbrev pub invariant-loop-i : goal.invariant-loop-i

@@ -1,12 +1,8 @@
-use Rattle.book_view.proofs.Turns.{every-implies}
 use Rattle.plan.specs.Value.{at}
-use Rattle.theory.specs.Report.{none_past}
 use Rattle.laws.specs.Every.{every, implies}
 use lib.Dec.{leb, eqb}
-use native.Mathlib.Omega.{arith}
-use mathlib.Core.Path.{◌≡◌, refl}
+use mathlib.Core.Path.{◌≡◌}
 use Prim.Native.Nat.{◌+◌, ◌-◌, ◌≤◌}
-use borrow.Author.Rules.{rules}
 use Rattle.book_codes.proofs.none_past.Given as goal
 
 abbrev pub invariant-loop-j : goal.invariant-loop-j

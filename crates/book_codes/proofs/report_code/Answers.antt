@@ -1,6 +1,5 @@
 use Rattle.book_codes.proofs.CodeLaws.{code-9, code-past-9}
 use mathlib.Core.Path.{refl}
-use borrow.Author.Rules.{rules}
 use Rattle.book_codes.proofs.report_code.Goals as goal
 
 pub returns-then-not-sound : goal.returns-then-not-sound

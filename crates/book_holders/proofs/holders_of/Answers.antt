@@ -1,10 +1,9 @@
-use Prim.Native.Nat.{◌+◌, ◌-◌, ◌≤◌}
 use native.Mathlib.Omega.{arith}
 use mathlib.Core.Path.{◌≡◌, refl}
-use Rattle.laws.specs.Bits.{set_of, sets_to}
+use Rattle.laws.specs.Bits.{set_of}
 use Rattle.laws.specs.Each.{each}
 use Rattle.plan.proofs.PlanRows.{part-row}
-use Rattle.book_holders.specs.Holders.{holds_drive, keeps_drive, holders_of}
+use Rattle.book_holders.specs.Holders.{holders_of}
 use Rattle.laws.proofs.Noted.{sets-length, sets_more}
 use borrow.Author.Rules.{rules}
 use Rattle.book_holders.proofs.holders_of.Goals as goal

@@ -1,12 +1,7 @@
 use Prim.Native.Nat.{◌+◌, ◌-◌, ◌≤◌}
-use native.Mathlib.Omega.{arith}
-use mathlib.Core.Path.{◌≡◌, refl}
-use Rattle.laws.specs.Bits.{set_of, sets_to}
-use Rattle.laws.specs.Each.{each}
-use Rattle.plan.proofs.PlanRows.{part-row}
-use Rattle.book_holders.specs.Holders.{holds_drive, keeps_drive, holders_of}
-use Rattle.laws.proofs.Noted.{sets-length, sets_more}
-use borrow.Author.Rules.{rules}
+use mathlib.Core.Path.{◌≡◌}
+use Rattle.laws.specs.Bits.{sets_to}
+use Rattle.book_holders.specs.Holders.{holds_drive, keeps_drive}
 use Rattle.book_holders.proofs.holders_of.Given as goal
 
 abbrev pub invariant-loop-k : goal.invariant-loop-k

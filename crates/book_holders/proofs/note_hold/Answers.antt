@@ -2,7 +2,6 @@ use mathlib.Core.Bool.{true, not, and-true}
 use mathlib.Core.Path.{refl, sym}
 use Rattle.text_fields.specs.Items.{is_shared}
 use Rattle.book_holders.proofs.HoldLaws.{hold-in, hold-out, hold-noted}
-use borrow.Author.Rules.{rules}
 use Rattle.book_holders.proofs.note_hold.Goals as goal
 
 pub returns-then-not-drive : goal.returns-then-not-drive

@@ -1,9 +1,4 @@
-use Prim.Native.Nat.{◌+◌, ◌-◌}
-use mathlib.Core.Bool.{not, ◌&&◌}
-use lib.Dec.{eqb}
-use lib.ListN.{length}
-use Rattle.text_fields.specs.Items.{drive_of, is_shared}
-use Rattle.laws.proofs.Noted.{NotedFrom, noted-start, noted-stop, noted-out, noted-turn}
+use Rattle.laws.proofs.Noted.{noted-start, noted-stop, noted-out, noted-turn}
 use borrow.Author.Rules.{rules}
 use Rattle.book_holders.proofs.note_list.Goals as goal
 

@@ -3,8 +3,7 @@ use mathlib.Core.Bool.{not, ◌&&◌}
 use lib.Dec.{eqb}
 use lib.ListN.{length}
 use Rattle.text_fields.specs.Items.{drive_of, is_shared}
-use Rattle.laws.proofs.Noted.{NotedFrom, noted-start, noted-stop, noted-out, noted-turn}
-use borrow.Author.Rules.{rules}
+use Rattle.laws.proofs.Noted.{NotedFrom}
 use Rattle.book_holders.proofs.note_list.Given as goal
 
 abbrev pub invariant-loop-i : goal.invariant-loop-i

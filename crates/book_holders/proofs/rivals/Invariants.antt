@@ -1,10 +1,8 @@
 use Prim.Native.Nat.{◌-◌}
 use lib.ListN.{length}
 use Rattle.laws.specs.Bits.{has}
-use Rattle.laws.proofs.Gather.{SetFrom, gather-start, gather-stop, gather-out, gather-turn}
+use Rattle.laws.proofs.Gather.{SetFrom}
 use Rattle.book_holders.specs.Holders.{rivals_on}
-use Rattle.book_holders.proofs.ClashLaws.{its-rivals}
-use borrow.Author.Rules.{rules}
 use Rattle.book_holders.proofs.rivals.Given as goal
 
 abbrev pub invariant-loop-i : goal.invariant-loop-i

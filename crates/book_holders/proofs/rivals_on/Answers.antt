@@ -2,7 +2,6 @@ use Prim.Native.Nat.{◌%◌}
 use Rattle.plan.specs.Private.Drives.{is_drive}
 use borrow.Author.Tests.{eq-eqb, ne_eqb, not-true, not-false}
 use Rattle.book_holders.proofs.HoldLaws.{hold-in}
-use borrow.Author.Rules.{rules}
 use Rattle.book_holders.proofs.rivals_on.Goals as goal
 
 pub returns-then-not-drive : goal.returns-then-not-drive

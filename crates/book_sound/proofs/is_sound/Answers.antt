@@ -2,7 +2,6 @@ use mathlib.Core.Bool.{◌&&◌}
 use lib.Dec.{leb}
 use Rattle.book_view.specs.View.{plan_seen}
 use Rattle.book_sound.proofs.SoundLaws.{unsound-unknown, few_tasks, unsound-past, unsound-task, sound-clock}
-use borrow.Author.Rules.{rules}
 use Rattle.book_sound.proofs.is_sound.Goals as goal
 
 pub returns-then-not-known-tasks : goal.returns-then-not-known-tasks

@@ -1,11 +1,7 @@
 use Rattle.book_view.proofs.Turns.{latest-more}
-use Rattle.plan.specs.Value.{at}
-use Rattle.theory.specs.Book.{ended}
 use Rattle.laws.specs.Picked.{latest}
 use native.Mathlib.Omega.{arith}
 use mathlib.Core.Path.{◌≡◌, refl}
-use Prim.Native.Nat.{◌-◌, ◌≤◌}
-use borrow.Author.Rules.{rules}
 use Rattle.book_sound.proofs.last_end.Goals as goal
 
 pub loop-j-init : goal.loop-j-init

@@ -1,11 +1,8 @@
-use Rattle.book_view.proofs.Turns.{latest-more}
 use Rattle.plan.specs.Value.{at}
 use Rattle.theory.specs.Book.{ended}
 use Rattle.laws.specs.Picked.{latest}
-use native.Mathlib.Omega.{arith}
-use mathlib.Core.Path.{◌≡◌, refl}
+use mathlib.Core.Path.{◌≡◌}
 use Prim.Native.Nat.{◌-◌, ◌≤◌}
-use borrow.Author.Rules.{rules}
 use Rattle.book_sound.proofs.last_end.Given as goal
 
 abbrev pub invariant-loop-j : goal.invariant-loop-j

@@ -1,5 +1,4 @@
 use Rattle.book_sound.proofs.SoundLaws.{and-four}
-use borrow.Author.Rules.{rules}
 use Rattle.book_sound.proofs.past_nothing.Goals as goal
 
 pub returns : goal.returns

@@ -1,5 +1,4 @@
 use Rattle.book_sound.proofs.WaitLaws.{judged}
-use borrow.Author.Rules.{rules}
 use Rattle.book_sound.proofs.sound_waits.Goals as goal
 
 pub returns : goal.returns

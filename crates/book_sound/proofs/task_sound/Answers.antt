@@ -5,7 +5,6 @@ use Rattle.plan.specs.Value.{at}
 use Rattle.book_view.specs.View.{plan_seen}
 use Prim.Native.Nat.{max}
 use mathlib.Core.Path.{refl, ap, ◌∙◌}
-use borrow.Author.Rules.{rules}
 use Rattle.book_sound.proofs.task_sound.Goals as goal
 
 pub returns-then-state-eq0 : goal.returns-then-state-eq0

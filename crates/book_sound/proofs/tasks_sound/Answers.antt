@@ -1,14 +1,9 @@
 use Rattle.book_view.proofs.Turns.{every-passed}
-use Rattle.theory.specs.Book.{task_test}
 use Rattle.laws.specs.Every.{every}
 use Rattle.laws.proofs.Every.{every-not}
 use borrow.Author.Tests.{not-true, not-false}
-use mathlib.Core.Bool.{true}
-use Rattle.book_view.specs.View.{plan_seen, book_seen}
 use native.Mathlib.Omega.{arith}
 use mathlib.Core.Path.{◌≡◌, refl, sym, ◌∙◌}
-use Prim.Native.Nat.{◌-◌, ◌≤◌}
-use borrow.Author.Rules.{rules}
 use Rattle.book_sound.proofs.tasks_sound.Goals as goal
 
 pub loop-i-init : goal.loop-i-init

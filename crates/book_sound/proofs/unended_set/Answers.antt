@@ -1,12 +1,7 @@
 use Rattle.book_view.proofs.Turns.{set_more}
 use Rattle.laws.specs.Bits.{set_of}
-use Rattle.plan.specs.Value.{at}
-use Rattle.theory.specs.Book.{ended}
 use native.Mathlib.Omega.{arith}
-use mathlib.Core.Bool.{not}
 use mathlib.Core.Path.{◌≡◌, refl}
-use Prim.Native.Nat.{◌-◌, ◌≤◌}
-use borrow.Author.Rules.{rules}
 use Rattle.book_sound.proofs.unended_set.Goals as goal
 
 pub loop-j-init : goal.loop-j-init

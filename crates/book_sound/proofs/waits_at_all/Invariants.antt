@@ -1,10 +1,7 @@
-use Rattle.book_view.proofs.Turns.{any-more, bit-seen}
 use Rattle.laws.specs.Bits.{has}
 use Rattle.laws.specs.Every.{any}
-use native.Mathlib.Omega.{arith}
-use mathlib.Core.Path.{◌≡◌, refl}
+use mathlib.Core.Path.{◌≡◌}
 use Prim.Native.Nat.{◌-◌, ◌≤◌}
-use borrow.Author.Rules.{rules}
 use Rattle.book_sound.proofs.waits_at_all.Given as goal
 
 abbrev pub invariant-loop-j : goal.invariant-loop-j

@@ -4,7 +4,6 @@ use native.Mathlib.Nat.{mod-lt, one-mul}
 use native.Mathlib.Omega.{arith}
 use lib.Dec.{lit<}
 use lib.Pow.{shl_exact}
-use borrow.Author.Rules.{rules}
 use Rattle.book_view.proofs.bit_of.Goals as goal
 
 pub returns-then-stands : goal.returns-then-stands

@@ -1,11 +1,8 @@
 use Rattle.book_view.proofs.Turns.{latest-more, bit-seen}
-use Rattle.plan.specs.Value.{at}
-use Rattle.laws.specs.Bits.{has}
 use Rattle.laws.specs.Picked.{latest}
 use native.Mathlib.Omega.{arith}
 use mathlib.Core.Path.{◌≡◌, refl}
-use Prim.Native.Nat.{◌-◌, ◌≤◌, min}
-use borrow.Author.Rules.{rules}
+use Prim.Native.Nat.{min}
 use Rattle.book_view.proofs.latest_end.Goals as goal
 
 pub loop-j-init : goal.loop-j-init

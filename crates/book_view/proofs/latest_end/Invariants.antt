@@ -1,11 +1,8 @@
-use Rattle.book_view.proofs.Turns.{latest-more, bit-seen}
 use Rattle.plan.specs.Value.{at}
 use Rattle.laws.specs.Bits.{has}
 use Rattle.laws.specs.Picked.{latest}
-use native.Mathlib.Omega.{arith}
-use mathlib.Core.Path.{◌≡◌, refl}
-use Prim.Native.Nat.{◌-◌, ◌≤◌, min}
-use borrow.Author.Rules.{rules}
+use mathlib.Core.Path.{◌≡◌}
+use Prim.Native.Nat.{◌-◌, ◌≤◌}
 use Rattle.book_view.proofs.latest_end.Given as goal
 
 abbrev pub invariant-loop-j : goal.invariant-loop-j

@@ -1,6 +1,5 @@
 use mathlib.Core.Path.{refl}
 use Rattle.book_waits.proofs.WaitLaws.{no-rule, not-accepted, plan-fits, waits-are}
-use borrow.Author.Rules.{rules}
 use Rattle.book_waits.proofs.wait_sets.Goals as goal
 
 pub returns-then-rule-gt1 : goal.returns-then-rule-gt1

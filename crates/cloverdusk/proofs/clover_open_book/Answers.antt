@@ -1,7 +1,6 @@
 use mathlib.Core.Path.{ap, ◌∙◌}
 use Rattle.book.specs.Open.{opening_of}
 use Rattle.book.specs.declared.Rule.{Rule}
-use borrow.Author.Rules.{rules}
 use Rattle.cloverdusk.proofs.clover_open_book.Goals as goal
 
 pub returns : goal.returns

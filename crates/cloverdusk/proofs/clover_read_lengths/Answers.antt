@@ -1,4 +1,3 @@
-use borrow.Author.Rules.{rules}
 use Rattle.cloverdusk.proofs.clover_read_lengths.Goals as goal
 
 pub returns : goal.returns

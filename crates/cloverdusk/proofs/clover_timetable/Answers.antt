@@ -1,7 +1,6 @@
 use mathlib.Core.Path.{ap, ◌∙◌}
 use Rattle.engine.specs.Timetable.{timetable_of}
 use Rattle.book.specs.declared.Rule.{Rule}
-use borrow.Author.Rules.{rules}
 use Rattle.cloverdusk.proofs.clover_timetable.Goals as goal
 
 pub returns : goal.returns

@@ -1,6 +1,5 @@
 use Prim.Native.Nat.{ℕ}
 use mathlib.Core.Path.{ap}
-use borrow.Author.Rules.{rules}
 use Rattle.cloverdusk.specs.declared.LengthsResult.{LengthsResult}
 use Rattle.cloverdusk.proofs.handed_over.Goals as goal
 

@@ -1,5 +1,4 @@
 use Rattle.desk_read.proofs.ReadLaws.{alone-is}
-use borrow.Author.Rules.{rules}
 use Rattle.desk_read.proofs.alone_fault.Goals as goal
 
 pub returns : goal.returns

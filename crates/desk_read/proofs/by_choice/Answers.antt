@@ -1,5 +1,4 @@
 use mathlib.Core.Path.{◌∙◌}
-use borrow.Author.Rules.{rules}
 use Rattle.desk_read.proofs.by_choice.Goals as goal
 
 pub returns-in-Malformed : goal.returns-in-Malformed

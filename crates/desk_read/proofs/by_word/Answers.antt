@@ -1,7 +1,6 @@
 use mathlib.Core.Path.{refl}
 use Rattle.text.specs.Bytes.{bytes}
 use Rattle.desk_read.proofs.ReadLaws.{tested, early-word, exact_word, now-word, drive-word, why-word, other_word}
-use borrow.Author.Rules.{rules}
 use Rattle.desk_read.proofs.by_word.Goals as goal
 
 pub returns-then-same : goal.returns-then-same

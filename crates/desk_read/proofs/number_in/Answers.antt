@@ -1,5 +1,4 @@
 use Rattle.desk_read.proofs.ReadLaws.{number_is}
-use borrow.Author.Rules.{rules}
 use Rattle.desk_read.proofs.number_in.Goals as goal
 
 pub returns : goal.returns

@@ -1,5 +1,4 @@
 use Rattle.desk_read.proofs.ReadLaws.{one-is}
-use borrow.Author.Rules.{rules}
 use Rattle.desk_read.proofs.one_fault.Goals as goal
 
 pub returns : goal.returns

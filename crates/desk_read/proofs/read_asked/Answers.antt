@@ -1,5 +1,4 @@
 use Rattle.desk_read.proofs.ReadLaws.{asked-long, asked-bound, asked-free}
-use borrow.Author.Rules.{rules}
 use Rattle.desk_read.proofs.read_asked.Goals as goal
 
 pub returns-then-line-gt-TYPED_MOST : goal.returns-then-line-gt-TYPED_MOST

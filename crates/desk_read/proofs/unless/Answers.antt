@@ -1,5 +1,4 @@
 use Rattle.desk_read.proofs.ReadLaws.{unless-no, unless-yes}
-use borrow.Author.Rules.{rules}
 use Rattle.desk_read.proofs.unless.Goals as goal
 
 pub returns-then-fault-ne0 : goal.returns-then-fault-ne0

@@ -1,5 +1,3 @@
-use mathlib.Core.Path.{◌≡◌}
-use lib.ListN.{length}
 use Rattle.desk_start.proofs.StartLaws.{begun-is}
 use borrow.Author.Rules.{rules}
 use Rattle.desk_start.proofs.begin.Goals as goal

@@ -1,5 +1,4 @@
 use Rattle.desk_start.proofs.StartLaws.{after-end, after-drop, after-refused}
-use borrow.Author.Rules.{rules}
 use Rattle.desk_start.proofs.book_after.Goals as goal
 
 pub returns-in-End : goal.returns-in-End

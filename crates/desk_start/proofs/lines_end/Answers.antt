@@ -1,7 +1,4 @@
-use Prim.Native.Nat.{◌≤◌}
-use mathlib.Core.Path.{◌≡◌, ◌∙◌}
-use lib.ListN.{length}
-use Rattle.desk_start.specs.Start.{line_end}
+use mathlib.Core.Path.{◌∙◌}
 use Rattle.desk_start.proofs.StartLaws.{end-here, end_before, end_none}
 use borrow.Author.Rules.{rules}
 use Rattle.desk_start.proofs.lines_end.Goals as goal

@@ -1,9 +1,7 @@
 use Prim.Native.Nat.{◌≤◌}
-use mathlib.Core.Path.{◌≡◌, ◌∙◌}
+use mathlib.Core.Path.{◌≡◌}
 use lib.ListN.{length}
 use Rattle.desk_start.specs.Start.{line_end}
-use Rattle.desk_start.proofs.StartLaws.{end-here, end_before, end_none}
-use borrow.Author.Rules.{rules}
 use Rattle.desk_start.proofs.lines_end.Given as goal
 
 -- `lines_end` meets its contract: no LF stands past the place.

@@ -1,6 +1,5 @@
 use mathlib.Core.Path.{ap}
 use Rattle.book.specs.declared.BookResult.{BookResult}
-use borrow.Author.Rules.{rules}
 use Rattle.desk_start.proofs.opened.Goals as goal
 
 pub returns : goal.returns

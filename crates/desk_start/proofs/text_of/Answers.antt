@@ -1,7 +1,6 @@
 use mathlib.Core.Path.{sym}
 use lib.Seq.{length-take-le}
 use Rattle.desk_start.proofs.StartLaws.{cut-le, text-long, text-short}
-use borrow.Author.Rules.{rules}
 use Rattle.desk_start.proofs.text_of.Goals as goal
 
 -- `text_of` meets its contract.

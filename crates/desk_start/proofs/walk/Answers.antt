@@ -1,8 +1,5 @@
-use mathlib.Core.Path.{◌≡◌, refl}
-use lib.ListN.{length}
-use Rattle.desk_start.specs.Start.{walk_in}
+use mathlib.Core.Path.{refl}
 use Rattle.desk_start.proofs.StartLaws.{walked_end, walked-less, walked-stops, walked-goes}
-use borrow.Author.Rules.{rules}
 use Rattle.desk_start.proofs.walk.Goals as goal
 
 pub loop-rest-init : goal.loop-rest-init

@@ -1,8 +1,6 @@
-use mathlib.Core.Path.{◌≡◌, refl}
+use mathlib.Core.Path.{◌≡◌}
 use lib.ListN.{length}
 use Rattle.desk_start.specs.Start.{walk_in}
-use Rattle.desk_start.proofs.StartLaws.{walked_end, walked-less, walked-stops, walked-goes}
-use borrow.Author.Rules.{rules}
 use Rattle.desk_start.proofs.walk.Given as goal
 
 -- `walk` meets its contract: what the rest of the walk gives is what the whole gives.

@@ -1,7 +1,6 @@
 use mathlib.Core.Path.{refl}
 use Rattle.log_run.proofs.OpenLaws.{is-unsaid, is-chosen}
 use Rattle.desk_start.proofs.StartLaws.{walked-unsaid, walked-chosen, walked-malformed}
-use borrow.Author.Rules.{rules}
 use Rattle.desk_start.proofs.walk_text.Goals as goal
 
 pub returns-in-Unsaid : goal.returns-in-Unsaid

@@ -1,5 +1,4 @@
 use Rattle.desk_turns.proofs.TurnLaws.{full-no, full-yes}
-use borrow.Author.Rules.{rules}
 use Rattle.desk_turns.proofs.full.Goals as goal
 
 pub returns-then-answer-ne0 : goal.returns-then-answer-ne0

@@ -1,5 +1,4 @@
 use Rattle.desk_turns.proofs.TurnLaws.{room-none, room-some}
-use borrow.Author.Rules.{rules}
 use Rattle.desk_turns.proofs.has_room.Goals as goal
 
 -- `has_room` meets its contract without the sum.

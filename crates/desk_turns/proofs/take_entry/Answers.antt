@@ -3,7 +3,6 @@ use Rattle.log_run.specs.Log.{told_of}
 use Rattle.log_run.proofs.ShortLaws.{short-within}
 use Rattle.log_read.specs.declared.Entry.{Entry}
 use Rattle.desk_turns.proofs.TurnLaws.{room-is, entry-full, entry-took}
-use borrow.Author.Rules.{rules}
 use Rattle.desk_turns.proofs.take_entry.Goals as goal
 
 pub returns-then-not-has_room : goal.returns-then-not-has_room

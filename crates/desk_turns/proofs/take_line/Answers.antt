@@ -1,6 +1,5 @@
 use Rattle.desk_read.proofs.ReadLaws.{step-near}
 use Rattle.desk_turns.proofs.TurnLaws.{is-rule, is-early, is-exact, is-now, turn_step, turn-rule, turn-early, turn-exact, turn-now, turn-drive, turn-why, near-short}
-use borrow.Author.Rules.{rules}
 use Rattle.desk_turns.proofs.take_line.Goals as goal
 
 pub take_entry-requires : goal.take_entry-requires

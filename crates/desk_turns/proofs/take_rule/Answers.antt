@@ -1,5 +1,4 @@
 use Rattle.desk_turns.proofs.TurnLaws.{room-is, rule-full, rule-took}
-use borrow.Author.Rules.{rules}
 use Rattle.desk_turns.proofs.take_rule.Goals as goal
 
 pub returns-then-not-has_room : goal.returns-then-not-has_room

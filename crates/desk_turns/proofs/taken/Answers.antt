@@ -1,5 +1,4 @@
 use Rattle.desk_turns.proofs.TurnLaws.{taken-no, taken_yes}
-use borrow.Author.Rules.{rules}
 use Rattle.desk_turns.proofs.taken.Goals as goal
 
 pub returns-then-answer-ne0 : goal.returns-then-answer-ne0

@@ -1,14 +1,9 @@
-use Rattle.theory.proofs.Lowest.{lowest_from, lowest-first, lowest-turn, lowest-hit, lowest-out}
-use Rattle.theory.specs.Times.{lowest, bad_length}
+use Rattle.theory.proofs.Lowest.{lowest-first, lowest-turn, lowest-hit, lowest-out}
 use Rattle.plan.specs.Value.{at}
-use Rattle.book_view.specs.View.{plan_seen}
-use mathlib.Core.Bool.{Bool, true, false, not, ◌&&◌}
-use mathlib.Core.List.{[]}
-use mathlib.Core.Path.{◌≡◌, sym, ap, ◌∙◌}
+use mathlib.Core.Bool.{Bool, not, ◌&&◌}
+use mathlib.Core.Path.{sym, ap, ◌∙◌}
 use lib.Dec.{eqb}
-use Prim.Native.Nat.{◌-◌, ◌≤◌}
 use native.Mathlib.Omega.{arith}
-use borrow.Author.Rules.{rules}
 use Rattle.engine.proofs.bad_length.Goals as goal
 
 pub loop-i-init : goal.loop-i-init
@@ -22,8 +17,7 @@ returns-then-dropped-i c =
 
 pub loop-i-preserved : goal.loop-i-preserved
 loop-i-preserved c =
-    let i = c.loop-i.i in
-    (
+    let i = c.loop-i.i in (
       omega arith,
       lowest-turn _ _ i c.loop-i.invariant.1 (omega arith)
           (sym (ap (λ (b : Bool). not (eqb (at c.args.dropped.now i) 1) && b) c.is_outside.ensures) ∙ c.if-dropped-i.false),

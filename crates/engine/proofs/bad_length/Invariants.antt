@@ -1,14 +1,10 @@
-use Rattle.theory.proofs.Lowest.{lowest_from, lowest-first, lowest-turn, lowest-hit, lowest-out}
+use Rattle.theory.proofs.Lowest.{lowest_from}
 use Rattle.theory.specs.Times.{lowest, bad_length}
 use Rattle.plan.specs.Value.{at}
 use Rattle.book_view.specs.View.{plan_seen}
-use mathlib.Core.Bool.{Bool, true, false, not, ◌&&◌}
 use mathlib.Core.List.{[]}
-use mathlib.Core.Path.{◌≡◌, sym, ap, ◌∙◌}
-use lib.Dec.{eqb}
+use mathlib.Core.Path.{◌≡◌}
 use Prim.Native.Nat.{◌-◌, ◌≤◌}
-use native.Mathlib.Omega.{arith}
-use borrow.Author.Rules.{rules}
 use Rattle.engine.proofs.bad_length.Given as goal
 
 abbrev pub invariant-loop-i : goal.invariant-loop-i

@@ -1,13 +1,5 @@
-use Rattle.theory.proofs.Lowest.{lowest_from, lowest-first, lowest-turn, lowest-hit, lowest-out}
-use Rattle.theory.specs.Times.{lowest}
-use Rattle.plan.specs.Value.{at}
-use mathlib.Core.Bool.{◌&&◌}
-use mathlib.Core.Path.{◌≡◌}
-use lib.Dec.{eqb}
-use borrow.Author.Tests.{not-true}
-use Prim.Native.Nat.{◌-◌, ◌≤◌}
+use Rattle.theory.proofs.Lowest.{lowest-first, lowest-turn, lowest-hit, lowest-out}
 use native.Mathlib.Omega.{arith}
-use borrow.Author.Rules.{rules}
 use Rattle.engine.proofs.idle_drop.Goals as goal
 
 pub loop-i-init : goal.loop-i-init

@@ -1,13 +1,10 @@
-use Rattle.theory.proofs.Lowest.{lowest_from, lowest-first, lowest-turn, lowest-hit, lowest-out}
+use Rattle.theory.proofs.Lowest.{lowest_from}
 use Rattle.theory.specs.Times.{lowest}
 use Rattle.plan.specs.Value.{at}
 use mathlib.Core.Bool.{◌&&◌}
 use mathlib.Core.Path.{◌≡◌}
 use lib.Dec.{eqb}
-use borrow.Author.Tests.{not-true}
 use Prim.Native.Nat.{◌-◌, ◌≤◌}
-use native.Mathlib.Omega.{arith}
-use borrow.Author.Rules.{rules}
 use Rattle.engine.proofs.idle_drop.Given as goal
 
 abbrev pub invariant-loop-i : goal.invariant-loop-i

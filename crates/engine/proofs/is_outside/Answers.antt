@@ -1,5 +1,4 @@
 use Rattle.engine.proofs.LengthLaws.{backwards}
-use borrow.Author.Rules.{rules}
 use Rattle.engine.proofs.is_outside.Goals as goal
 
 pub returns-then-finish-begin : goal.returns-then-finish-begin

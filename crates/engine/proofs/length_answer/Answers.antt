@@ -2,8 +2,7 @@ use Rattle.engine.proofs.LengthLaws.{said-bad, said-idle, said-none}
 use Rattle.theory.specs.Times.{bad_length}
 use Rattle.plan.specs.Value.{at}
 use Rattle.book_view.specs.View.{plan_seen}
-use Prim.Native.Nat.{ℕ, ◌≤◌, min}
-use native.Mathlib.Omega.{arith}
+use Prim.Native.Nat.{min}
 use mathlib.Core.Bool.{◌&&◌}
 use mathlib.Core.List.{[]}
 use mathlib.Core.Path.{◌≡◌, ap, ◌∙◌}

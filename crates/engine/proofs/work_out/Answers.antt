@@ -1,9 +1,8 @@
 use Rattle.engine.proofs.TimetableLaws.{refused_plan, refused-lengths, solvable, filled}
-use mathlib.Core.Path.{◌≡◌, ap, ◌∙◌}
+use mathlib.Core.Path.{ap, ◌∙◌}
 use Rattle.engine.specs.Timetable.{zero_timetable}
 use Rattle.plan.specs.declared.Answer.{Answer}
 use borrow.Author.Tests.{not-true, not-false}
-use borrow.Author.Rules.{rules}
 use Rattle.engine.proofs.work_out.Goals as goal
 
 pub returns-then-not-waits : goal.returns-then-not-waits

@@ -1,5 +1,5 @@
 -- What the engine's own functions say and ask, by lent arrays.
-use Rattle.std.specs.Prelude.{ℕ, ◌≤◌, ◌<◌, ◌≡◌, ◌≢◌, Bool, true, false, not, ◌&&◌, List, [], eqb}
+use Rattle.std.specs.Prelude.{ℕ, ◌≤◌, ◌<◌, ◌≡◌, Bool, true, false, not, ◌&&◌, List, [], eqb}
 use Rattle.std.specs.Int.Bits.{bit_and}
 use Rattle.laws.specs.Bits.{has}
 use Rattle.theory.specs.Plan as theory-plan

@@ -1,7 +1,5 @@
 use native.Mathlib.Omega.{arith}
 use Rattle.engine_read.proofs.SaidLaws.{answer-fine, answer-refused, short-column}
-use borrow.Author.Rules.{rules}
-use borrow.Enum.Refused.{opened}
 use Rattle.engine_read.proofs.answer_of.Goals as goal
 
 pub overflow_cast-column : goal.overflow_cast-column

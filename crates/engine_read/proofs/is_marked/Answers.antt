@@ -1,5 +1,4 @@
 use Rattle.engine_read.proofs.TaskLaws.{past-marked}
-use borrow.Author.Rules.{rules}
 use Rattle.engine_read.proofs.is_marked.Goals as goal
 
 pub returns-then-marks-i : goal.returns-then-marks-i

@@ -2,7 +2,6 @@ use mathlib.Core.Path.{sym}
 use lib.Seq.{length-take-le}
 use Rattle.text.proofs.Parts.{found-le}
 use Rattle.engine_read.proofs.LineLaws.{said-drop, said-length}
-use borrow.Author.Rules.{rules}
 use Rattle.engine_read.proofs.next_said.Goals as goal
 
 pub slice_bounds-line-end : goal.slice_bounds-line-end

@@ -1,6 +1,4 @@
 use Rattle.engine_read.proofs.SaidLaws.{note-as, note-none}
-use borrow.Author.Rules.{rules}
-use borrow.Enum.Refused.{opened}
 use Rattle.engine_read.proofs.note.Goals as goal
 
 pub note_length-requires : goal.note_length-requires

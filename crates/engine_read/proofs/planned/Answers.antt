@@ -1,7 +1,5 @@
 use native.Mathlib.Omega.{arith}
-use Prim.Native.Nat.{◌≤◌, ◌-◌}
-use Rattle.engine_read.proofs.NoteLaws.{Planned, planned-none, planned-turn, planned-end}
-use borrow.Author.Rules.{rules}
+use Rattle.engine_read.proofs.NoteLaws.{planned-none, planned-turn, planned-end}
 use Rattle.engine_read.proofs.planned.Goals as goal
 
 pub loop-i-init : goal.loop-i-init

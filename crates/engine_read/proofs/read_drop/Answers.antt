@@ -1,5 +1,4 @@
 use Rattle.engine_read.proofs.LineLaws.{drop-refused, drop-says}
-use borrow.Author.Rules.{rules}
 use Rattle.engine_read.proofs.read_drop.Goals as goal
 
 pub returns-then-not-is_faultless : goal.returns-then-not-is_faultless

@@ -1,5 +1,4 @@
 use Rattle.engine_read.proofs.LineLaws.{length-refused, length-says}
-use borrow.Author.Rules.{rules}
 use Rattle.engine_read.proofs.read_length.Goals as goal
 
 pub returns-then-not-is_faultless : goal.returns-then-not-is_faultless

@@ -1,7 +1,5 @@
 use native.Mathlib.Omega.{arith}
 use Rattle.engine_read.proofs.WholeLaws.{fits, rest-less, asked-long, asked-unsaid, asked-chosen, malformed-short, asked-malformed}
-use borrow.Author.Rules.{rules}
-use borrow.Enum.Refused.{opened}
 use Rattle.engine_read.proofs.read_lengths.Goals as goal
 
 pub returns-then-text-gt-TEXT_MOST : goal.returns-then-text-gt-TEXT_MOST

@@ -1,8 +1,6 @@
 use native.Mathlib.Omega.{arith}
-use lib.ListN.{length}
 use Rattle.engine_read.proofs.NoteLaws.{noted-none}
-use Rattle.engine_read.proofs.WalkLaws.{after_less, Walk, walk_start, walk_end, walk-short, walk-notes, walk-stops, walk-goes}
-use borrow.Author.Rules.{rules}
+use Rattle.engine_read.proofs.WalkLaws.{after_less, walk_start, walk_end, walk-short, walk-notes, walk-stops, walk-goes}
 use Rattle.engine_read.proofs.read_lines.Goals as goal
 
 pub planned-requires : goal.planned-requires

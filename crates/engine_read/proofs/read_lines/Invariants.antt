@@ -1,8 +1,5 @@
-use native.Mathlib.Omega.{arith}
 use lib.ListN.{length}
-use Rattle.engine_read.proofs.NoteLaws.{noted-none}
-use Rattle.engine_read.proofs.WalkLaws.{after_less, Walk, walk_start, walk_end, walk-short, walk-notes, walk-stops, walk-goes}
-use borrow.Author.Rules.{rules}
+use Rattle.engine_read.proofs.WalkLaws.{Walk}
 use Rattle.engine_read.proofs.read_lines.Given as goal
 
 -- `read_lines` meets its contract: what is kept is what the lines so far say, and the rest goes on from there.

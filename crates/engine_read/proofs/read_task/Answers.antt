@@ -2,7 +2,6 @@ use Rattle.text_fields.specs.Faults.{ranged_read}
 use mathlib.Core.Path.{◌≡◌}
 use native.Mathlib.Omega.{arith}
 use Rattle.engine_read.proofs.TaskLaws.{read_off, read_some, read-marked, read-new}
-use borrow.Author.Rules.{rules}
 use Rattle.engine_read.proofs.read_task.Goals as goal
 
 pub returns-then-task-ne0 : goal.returns-then-task-ne0

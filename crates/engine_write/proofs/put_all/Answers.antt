@@ -1,8 +1,6 @@
 use native.Mathlib.Omega.{arith}
-use Prim.Native.Nat.{◌≤◌, ◌-◌}
 use Rattle.log_write.proofs.WriteLaws.{wrote-length}
-use Rattle.engine_write.proofs.RowLaws.{Below, rows_none, rows-turn, rows-room, rows_end}
-use borrow.Author.Rules.{rules}
+use Rattle.engine_write.proofs.RowLaws.{rows_none, rows-turn, rows-room, rows_end}
 use Rattle.engine_write.proofs.put_all.Goals as goal
 
 pub loop-number-init : goal.loop-number-init

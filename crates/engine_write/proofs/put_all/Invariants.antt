@@ -1,8 +1,5 @@
-use native.Mathlib.Omega.{arith}
 use Prim.Native.Nat.{◌≤◌, ◌-◌}
-use Rattle.log_write.proofs.WriteLaws.{wrote-length}
-use Rattle.engine_write.proofs.RowLaws.{Below, rows_none, rows-turn, rows-room, rows_end}
-use borrow.Author.Rules.{rules}
+use Rattle.engine_write.proofs.RowLaws.{Below}
 use Rattle.engine_write.proofs.put_all.Given as goal
 
 -- `put_all` meets its contract: the lines of the tasks below the number were written.

@@ -1,5 +1,4 @@
 use Rattle.log_write.proofs.WriteLaws.{wrote-line}
-use borrow.Author.Rules.{rules}
 use Rattle.engine_write.proofs.put_row.Goals as goal
 
 pub returns : goal.returns

@@ -1,5 +1,4 @@
 use Rattle.engine_write.proofs.RowLaws.{rowed-none, rowed-all}
-use borrow.Author.Rules.{rules}
 use Rattle.engine_write.proofs.put_rows.Goals as goal
 
 -- `put_rows` meets its contract: nothing, or the lines of at most 64 tasks.

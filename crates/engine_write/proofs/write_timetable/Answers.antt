@@ -1,5 +1,4 @@
 use Rattle.engine_write.proofs.TableLaws.{ran-short, ran-refused, ran-unasked, ran-unworked, ran-rows}
-use borrow.Author.Rules.{rules}
 use Rattle.engine_write.proofs.write_timetable.Goals as goal
 
 -- `write_timetable` meets its contract: each return by the tests that led there.

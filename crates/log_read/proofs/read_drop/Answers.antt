@@ -1,4 +1,3 @@
-use borrow.Author.Rules.{rules}
 use Rattle.log_read.proofs.EntryLaws.{drop-refused, drop-says}
 use Rattle.log_read.proofs.read_drop.Goals as goal
 

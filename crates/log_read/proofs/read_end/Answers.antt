@@ -1,4 +1,3 @@
-use borrow.Author.Rules.{rules}
 use Rattle.log_read.proofs.EntryLaws.{end_refused, end-says}
 use Rattle.log_read.proofs.read_end.Goals as goal
 

@@ -1,4 +1,3 @@
-use borrow.Author.Rules.{rules}
 use Rattle.log_write.proofs.put_drop.Goals as goal
 
 pub returns : goal.returns

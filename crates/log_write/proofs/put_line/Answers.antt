@@ -1,5 +1,4 @@
 use Rattle.log_write.proofs.WriteLaws.{to-short}
-use borrow.Author.Rules.{rules}
 use Rattle.log_write.proofs.put_line.Goals as goal
 
 pub returns : goal.returns

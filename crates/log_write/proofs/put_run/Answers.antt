@@ -1,5 +1,4 @@
 use Rattle.log_write.proofs.RunLaws.{run-early, run-clash}
-use borrow.Author.Rules.{rules}
 use Rattle.log_write.proofs.put_run.Goals as goal
 
 pub returns-then-rule-eq0 : goal.returns-then-rule-eq0

@@ -1,5 +1,4 @@
 use borrow.Author.Tests.{eq-eqb, ne_eqb}
-use borrow.Author.Rules.{rules}
 use Rattle.log_write.proofs.put_start.Goals as goal
 
 pub returns-then-dropped-eq1 : goal.returns-then-dropped-eq1

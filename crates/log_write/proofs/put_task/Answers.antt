@@ -1,5 +1,4 @@
 use borrow.Author.Tests.{le-leb}
-use borrow.Author.Rules.{rules}
 use Rattle.log_write.proofs.put_task.Goals as goal
 
 pub returns : goal.returns

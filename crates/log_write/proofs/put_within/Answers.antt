@@ -1,8 +1,7 @@
-use Prim.Native.Nat.{◌+◌, ◌-◌, ◌*◌, ◌<◌, ◌≤◌}
-use mathlib.Core.Path.{◌≡◌}
+use Prim.Native.Nat.{◌+◌, ◌<◌, ◌≤◌}
 use native.Mathlib.Omega.{arith}
-use lib.ListN.{length, drop, get_or}
-use Rattle.log_write.proofs.WriteLaws.{Left, tabbed, whole, wrote-length, left-all, number-turn, number-place, line-end, line-whole}
+use lib.ListN.{length, get_or}
+use Rattle.log_write.proofs.WriteLaws.{whole, wrote-length, left-all, number-turn, number-place, line-end, line-whole}
 use borrow.Author.Rules.{rules}
 use Rattle.log_write.proofs.put_within.Goals as goal
 

@@ -1,9 +1,7 @@
-use Prim.Native.Nat.{◌+◌, ◌-◌, ◌*◌, ◌<◌, ◌≤◌}
+use Prim.Native.Nat.{◌+◌, ◌-◌, ◌*◌, ◌≤◌}
 use mathlib.Core.Path.{◌≡◌}
-use native.Mathlib.Omega.{arith}
-use lib.ListN.{length, drop, get_or}
-use Rattle.log_write.proofs.WriteLaws.{Left, tabbed, whole, wrote-length, left-all, number-turn, number-place, line-end, line-whole}
-use borrow.Author.Rules.{rules}
+use lib.ListN.{length, drop}
+use Rattle.log_write.proofs.WriteLaws.{Left, tabbed}
 use Rattle.log_write.proofs.put_within.Given as goal
 
 abbrev pub invariant-loop-i : goal.invariant-loop-i

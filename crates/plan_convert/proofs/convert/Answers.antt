@@ -1,4 +1,3 @@
-use borrow.Author.Rules.{rules}
 use mathlib.Core.Path.{ap, ◌∙◌}
 use Rattle.plan_read.proofs.FormLaws.{refused_reading}
 use Rattle.plan_convert.proofs.ConvertLaws.{convert-not, convert-faulty, convert-made}

@@ -1,4 +1,3 @@
-use borrow.Author.Rules.{rules}
 use Rattle.plan_convert.proofs.ConvertLaws.{renewed-short, renewed-refused, renewed-written}
 use Rattle.plan_convert.proofs.convert_text.Goals as goal
 

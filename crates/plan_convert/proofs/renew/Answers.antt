@@ -1,4 +1,3 @@
-use borrow.Author.Rules.{rules}
 use Rattle.plan_convert.proofs.ConvertLaws.{renew-mended, renew-refused, renew-converted}
 use Rattle.plan_convert.proofs.renew.Goals as goal
 

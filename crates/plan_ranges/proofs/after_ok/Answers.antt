@@ -1,5 +1,4 @@
 use Rattle.plan.proofs.PlanRows.{part-row}
-use borrow.Author.Rules.{rules}
 use Rattle.plan_ranges.proofs.after_ok.Goals as goal
 
 pub returns : goal.returns

@@ -1,7 +1,4 @@
-use Prim.Native.Nat.{◌-◌}
-use lib.ListN.{length}
-use Rattle.plan_ranges.proofs.ItemLaws.{BlankRest, blank-start, blank_turn, blank-out}
-use borrow.Author.Rules.{rules}
+use Rattle.plan_ranges.proofs.ItemLaws.{blank-start, blank_turn, blank-out}
 use Rattle.plan_ranges.proofs.blank_bytes.Goals as goal
 
 pub loop-i-init : goal.loop-i-init

@@ -1,7 +1,6 @@
 use Prim.Native.Nat.{◌-◌}
 use lib.ListN.{length}
-use Rattle.plan_ranges.proofs.ItemLaws.{BlankRest, blank-start, blank_turn, blank-out}
-use borrow.Author.Rules.{rules}
+use Rattle.plan_ranges.proofs.ItemLaws.{BlankRest}
 use Rattle.plan_ranges.proofs.blank_ticks.Given as goal
 
 abbrev pub invariant-loop-i : goal.invariant-loop-i

@@ -1,4 +1,3 @@
-use borrow.Author.Rules.{rules}
 use mathlib.Core.Bool.{◌&&◌}
 use Rattle.plan.proofs.PlanRows.{part-row}
 use Rattle.plan_ranges.proofs.holds_ok.Goals as goal

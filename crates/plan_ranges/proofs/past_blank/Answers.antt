@@ -1,4 +1,3 @@
-use borrow.Author.Rules.{rules}
 use Rattle.plan_ranges.proofs.past_blank.Goals as goal
 
 pub returns : goal.returns

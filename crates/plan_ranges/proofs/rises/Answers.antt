@@ -1,12 +1,5 @@
-use Prim.Native.Nat.{◌-◌}
-use mathlib.Core.Path.{◌≡◌, refl}
-use lib.ListN.{length, drop}
-use Rattle.laws.specs.Private.Rise.{rises_from}
-use Rattle.laws.specs.Split.{before}
-use Rattle.text_fields.specs.Private.Lettered.{key_of}
-use Rattle.plan.specs.Value.{items}
+use mathlib.Core.Path.{refl}
 use Rattle.plan_ranges.proofs.ItemLaws.{rise-stop, rise-out, rise-fail, rise-pass}
-use borrow.Author.Rules.{rules}
 use Rattle.plan_ranges.proofs.rises.Goals as goal
 
 pub loop-i-init : goal.loop-i-init

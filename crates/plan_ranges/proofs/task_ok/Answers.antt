@@ -1,6 +1,5 @@
 use mathlib.Core.Path.{sym}
 use Rattle.plan_ranges.proofs.RangeLaws.{kept-is}
-use borrow.Author.Rules.{rules}
 use Rattle.plan_ranges.proofs.task_ok.Goals as goal
 
 pub returns : goal.returns

@@ -1,5 +1,5 @@
 -- Short names for what single functions say of one task's places in lent arrays.
-use Rattle.std.specs.Prelude.{ℕ, Bool, true, false, not, ◌&&◌, ◌||◌, List, ltb, leb, eqb}
+use Rattle.std.specs.Prelude.{ℕ, Bool, true, not, ◌&&◌, ◌||◌, List, ltb, leb, eqb}
 use Rattle.laws.specs.Private.Rise.{rises_from}
 use Rattle.text.specs.Number.{most}
 use Rattle.text_fields.specs.Items.{between, has_shared}

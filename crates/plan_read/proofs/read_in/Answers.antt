@@ -1,6 +1,5 @@
 use mathlib.Core.Path.{◌∙◌}
 use Rattle.plan_read.proofs.ReadLaws.{reading-line, reading-fault, reading-in}
-use borrow.Author.Rules.{rules}
 use Rattle.plan_read.proofs.read_in.Goals as goal
 
 pub returns-then-said-ne0 : goal.returns-then-said-ne0

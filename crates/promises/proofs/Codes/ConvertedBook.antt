@@ -6,7 +6,6 @@ use mathlib.Core.Path.{◌≡◌, refl, sym, ap, subst, ◌∙◌}
 use mathlib.Core.Logic.{◌⊎◌, ⊎_elim}
 use lib.Dec.{eqb, leb}
 use Rattle.laws.proofs.Cases.{by_bool, and_l}
-use Rattle.text_fields.specs.Items.{exclusive}
 use Rattle.theory.specs.Plan as theory-plan
 use Rattle.theory.specs.Book as theory-book
 use Rattle.theory.specs.Words.Events.{Event}

@@ -15,7 +15,7 @@ use Rattle.text_fields.specs.Items.{has_shared, list_of, hold_of}
 use Rattle.text.specs.Line.{has_line, line_at, field}
 use Rattle.plan.specs.Answer.{granted, is_refused}
 use Rattle.plan.specs.Task.{exclusive_task}
-use Rattle.plan.specs.Value.{at, task_at, plan_of}
+use Rattle.plan.specs.Value.{task_at, plan_of}
 use Rattle.plan.specs.Read.{ranged, sizes_ok, edition_of, boards_of, tasks_of, holds_code, codes_from, task_codes, task_from, line_task, line_answer, lines_answer, text_task, form_answer, text_answer, read_as, read_in, reading_of, mended_of}
 use Rattle.plan.specs.declared.Answer.{Answer}
 use Rattle.plan.specs.declared.Plan.{Plan}

@@ -2,7 +2,6 @@ use Rattle.school.specs.Tests.{unread}
 use borrow.Author.Tests.{not-true, not-false}
 use mathlib.Core.Path.{◌∙◌, ap}
 use Rattle.school_judge.proofs.JudgeLaws.{refused_plan, few, refused-long, line-fits, refused-line, judged-is}
-use borrow.Author.Rules.{rules}
 use Rattle.school_judge.proofs.judge_log.Goals as goal
 
 pub returns-then-not-waits : goal.returns-then-not-waits

@@ -1,7 +1,6 @@
 use lib.ListN.{length}
 use mathlib.Core.Path.{◌≡◌, ap, ◌∙◌}
-use mathlib.Core.Bool.{Bool}
-use Prim.Native.Nat.{ℕ, min}
+use Prim.Native.Nat.{min}
 use Rattle.plan.specs.Value.{at}
 use Rattle.school.specs.Tests.{is_mislong, is_untimely}
 use Rattle.school_judge.specs.Tests.{times_of, is_amiss, is_against_by}

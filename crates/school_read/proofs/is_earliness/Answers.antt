@@ -1,5 +1,4 @@
 use Rattle.school_read.proofs.PartLaws.{early-none, early-late, early-soon}
-use borrow.Author.Rules.{rules}
 use Rattle.school_read.proofs.is_earliness.Goals as goal
 
 -- `is_earliness` meets its contract: each return by the tests that led there.

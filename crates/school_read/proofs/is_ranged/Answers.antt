@@ -1,5 +1,4 @@
 use Rattle.school_read.proofs.PartLaws.{ranged-fine}
-use borrow.Author.Rules.{rules}
 use Rattle.school_read.proofs.is_ranged.Goals as goal
 
 pub returns : goal.returns

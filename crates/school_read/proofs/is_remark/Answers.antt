@@ -1,5 +1,4 @@
 use Rattle.school_read.proofs.FormLaws.{remark-early, remark-refused, remark-none}
-use borrow.Author.Rules.{rules}
 use Rattle.school_read.proofs.is_remark.Goals as goal
 
 pub returns-then-same : goal.returns-then-same

@@ -1,6 +1,5 @@
 use Rattle.school_read.proofs.FormLaws.{run-reads}
 use native.Mathlib.Omega.{arith}
-use borrow.Author.Rules.{rules}
 use Rattle.school_read.proofs.is_run.Goals as goal
 
 pub is_ranged-of_tasks-requires : goal.is_ranged-of_tasks-requires

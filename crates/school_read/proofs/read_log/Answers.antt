@@ -1,8 +1,7 @@
 use mathlib.Core.Path.{refl, sym}
-use lib.ListN.{length}
 use lib.Seq.{length-take-le}
 use Rattle.text.proofs.Parts.{found-le}
-use Rattle.school_read.proofs.WalkLaws.{Walk, names-few, rest-less, walk_start, walk-room, walk-unended, walk_end, walk-stops, walk-goes}
+use Rattle.school_read.proofs.WalkLaws.{names-few, rest-less, walk_start, walk-room, walk-unended, walk_end, walk-stops, walk-goes}
 use borrow.Author.Rules.{rules}
 use Rattle.school_read.proofs.read_log.Goals as goal
 

@@ -1,9 +1,5 @@
-use mathlib.Core.Path.{refl, sym}
 use lib.ListN.{length}
-use lib.Seq.{length-take-le}
-use Rattle.text.proofs.Parts.{found-le}
-use Rattle.school_read.proofs.WalkLaws.{Walk, names-few, rest-less, walk_start, walk-room, walk-unended, walk_end, walk-stops, walk-goes}
-use borrow.Author.Rules.{rules}
+use Rattle.school_read.proofs.WalkLaws.{Walk}
 use Rattle.school_read.proofs.read_log.Given as goal
 
 -- `read_log` meets its contract: what is kept is what the lines so far say, and the rest goes on from there.

@@ -1,6 +1,5 @@
 use Rattle.school_read.proofs.FormLaws.{start_none, start-says}
 use native.Mathlib.Omega.{arith}
-use borrow.Author.Rules.{rules}
 use Rattle.school_read.proofs.read_start.Goals as goal
 
 pub returns-then-not-tick_field-from_tick : goal.returns-then-not-tick_field-from_tick

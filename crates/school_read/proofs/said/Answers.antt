@@ -1,5 +1,4 @@
 use Rattle.school_read.proofs.FormLaws.{said-first, said-word, said-start, said-end, said-remark}
-use borrow.Author.Rules.{rules}
 use Rattle.school_read.proofs.said.Goals as goal
 
 pub returns-then-first : goal.returns-then-first

@@ -1,5 +1,4 @@
 use Rattle.school_read.proofs.FormLaws.{three-is}
-use borrow.Author.Rules.{rules}
 use Rattle.school_read.proofs.three_ticks.Goals as goal
 
 pub returns : goal.returns

@@ -1,5 +1,4 @@
 use Rattle.school_read.proofs.FormLaws.{two_is}
-use borrow.Author.Rules.{rules}
 use Rattle.school_read.proofs.two_ticks.Goals as goal
 
 pub returns : goal.returns

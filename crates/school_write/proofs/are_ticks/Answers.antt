@@ -1,9 +1,5 @@
 use native.Mathlib.Omega.{arith}
-use Prim.Native.Nat.{◌-◌, ◌≤◌}
-use mathlib.Core.Path.{◌≡◌}
 use Rattle.school_write.proofs.LineLaws.{ticks-none, ticks-turn, ticks-out}
-use Rattle.school_write.specs.Lines.{are_ticks}
-use borrow.Author.Rules.{rules}
 use Rattle.school_write.proofs.are_ticks.Goals as goal
 
 pub loop-i-init : goal.loop-i-init

@@ -15,8 +15,15 @@ returns-then-not-are_ticks c = said-no-ticks c.args.finish.now c.args.known.now 
     c.places-n.ensures ∙ ap (min c.args.tasks) size in by_count)) c.are_ticks.ensures (not-true _ c.if-not-are_ticks.true-raw)
 
 pub put_figures-past-requires : goal.put_figures-past-requires
-put_figures-past-requires c = (omega (arith, (let by_count : c.places-n.result ≡ min c.args.tasks 64 = let size : length c.args.known.now ≡ 64 = search rules in
-    c.places-n.ensures ∙ ap (min c.args.tasks) size in by_count)), c.if-out-lt-JUDGED_MOST.false, sym c.are_ticks.ensures ∙ not-false _ c.if-not-are_ticks.false-raw)
+put_figures-past-requires c = (
+  omega (
+    arith,
+    (let by_count : c.places-n.result ≡ min c.args.tasks 64 = let size : length c.args.known.now ≡ 64 = search rules in
+        c.places-n.ensures ∙ ap (min c.args.tasks) size in by_count),
+  ),
+  c.if-out-lt-JUDGED_MOST.false,
+  sym c.are_ticks.ensures ∙ not-false _ c.if-not-are_ticks.false-raw,
+)
 
 pub returns : goal.returns
 returns c = said_all c.args.finish.now c.args.known.now c.args.end.now c.args.answer c.args.out.now (min c.args.tasks 64) c.if-out-lt-JUDGED_MOST.false ((let by_count : c.places-n.result ≡ min c.args.tasks 64 = let size : length c.args.known.now ≡ 64 = search rules in

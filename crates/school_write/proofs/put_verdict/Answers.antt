@@ -1,5 +1,4 @@
 use Rattle.school_write.proofs.LineLaws.{verdict-accepted, verdict-refused}
-use borrow.Author.Rules.{rules}
 use Rattle.school_write.proofs.put_verdict.Goals as goal
 
 pub returns-then-code-eq0 : goal.returns-then-code-eq0

@@ -1,5 +1,4 @@
 use Rattle.school_write.proofs.TextLaws.{ran-short, ran-refused, ran-judged}
-use borrow.Author.Rules.{rules}
 use Rattle.school_write.proofs.write_judged.Goals as goal
 
 pub returns-then-out-lt-JUDGED_MOST : goal.returns-then-out-lt-JUDGED_MOST

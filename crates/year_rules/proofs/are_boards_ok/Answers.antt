@@ -1,13 +1,8 @@
-use Prim.Native.Nat.{◌-◌, ◌≤◌}
 use mathlib.Core.Path.{◌≡◌, refl}
 use native.Mathlib.Omega.{arith}
-use borrow.Author.Rules.{rules}
 use Rattle.laws.specs.Every.{every}
 use Rattle.book_view.proofs.Turns.{every_more}
 use Rattle.year_rules.specs.Totals.{board_ok}
-use Rattle.year_rules.proofs.are_boards_ok.Reads as reads
-use Rattle.year_rules.proofs.are_boards_ok.Lts as lts
-use Rattle.year_rules.proofs.is_board_ok.Reads as is-board-ok-reads
 use Rattle.year_rules.proofs.are_boards_ok.Goals as goal
 
 -- src/lib.rt:50:5

@@ -1,13 +1,7 @@
 use Prim.Native.Nat.{◌-◌, ◌≤◌}
-use mathlib.Core.Path.{◌≡◌, refl}
-use native.Mathlib.Omega.{arith}
-use borrow.Author.Rules.{rules}
+use mathlib.Core.Path.{◌≡◌}
 use Rattle.laws.specs.Every.{every}
-use Rattle.book_view.proofs.Turns.{every_more}
 use Rattle.year_rules.specs.Totals.{board_ok}
-use Rattle.year_rules.proofs.are_boards_ok.Reads as reads
-use Rattle.year_rules.proofs.are_boards_ok.Lts as lts
-use Rattle.year_rules.proofs.is_board_ok.Reads as is-board-ok-reads
 use Rattle.year_rules.proofs.are_boards_ok.Given as goal
 
 -- `are_boards_ok` meets its contract: all boards below b keep their bounds, or some does not.

@@ -1,13 +1,6 @@
-use Prim.Native.Nat.{◌+◌, ◌-◌, ◌*◌, ◌≤◌}
-use mathlib.Core.Path.{◌≡◌}
 use native.Mathlib.Omega.{arith}
-use lib.ListN.{length, drop}
 use borrow.Author.Rules.{rules}
-use Rattle.year_rules.specs.Figures.{sum_of}
 use Rattle.year_rules.proofs.FigureLaws.{sum-turn, sum-end}
-use Rattle.year_rules.proofs.ended_on_all.Reads as reads
-use Rattle.year_rules.proofs.ended_on_all.Lts as lts
-use Rattle.year_rules.proofs.wide.Reads as wide-reads
 use Rattle.year_rules.proofs.ended_on_all.Goals as goal
 
 pub loop-b-init : goal.loop-b-init

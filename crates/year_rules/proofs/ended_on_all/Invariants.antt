@@ -1,13 +1,7 @@
 use Prim.Native.Nat.{◌+◌, ◌-◌, ◌*◌, ◌≤◌}
 use mathlib.Core.Path.{◌≡◌}
-use native.Mathlib.Omega.{arith}
 use lib.ListN.{length, drop}
-use borrow.Author.Rules.{rules}
 use Rattle.year_rules.specs.Figures.{sum_of}
-use Rattle.year_rules.proofs.FigureLaws.{sum-turn, sum-end}
-use Rattle.year_rules.proofs.ended_on_all.Reads as reads
-use Rattle.year_rules.proofs.ended_on_all.Lts as lts
-use Rattle.year_rules.proofs.wide.Reads as wide-reads
 use Rattle.year_rules.proofs.ended_on_all.Given as goal
 
 -- `ended_on_all` meets its contract: what was added and the rest of the list come to the whole.

@@ -1,14 +1,4 @@
-use borrow.Author.Rules.{rules}
 use Rattle.year_totals.proofs.AddLaws.{call-nine, call-full, call-refused, call-accepted, has_room, tasks-few}
-use Rattle.year_totals.proofs.add_log.Reads as reads
-use Rattle.year_totals.proofs.add_log.Lts as lts
-use Rattle.school_judge.proofs.judge_log.Reads as judge-log-reads
-use Rattle.plan.proofs.refuse.Reads as refuse-reads
-use Rattle.year_rules.proofs.are_in_bounds.Reads as are-in-bounds-reads
-use Rattle.year_totals.proofs.not_added.Reads as not-added-reads
-use Rattle.year_totals.proofs.wide.Reads as wide-reads
-use Rattle.year_totals.proofs.with_accepted.Reads as with-accepted-reads
-use Rattle.year_totals.proofs.with_refused.Reads as with-refused-reads
 use Rattle.year_totals.proofs.add_log.Goals as goal
 
 -- src/lib.rt:226:9

@@ -1,14 +1,5 @@
 use Prim.Native.Nat.{◌-◌, ◌≤◌}
-use mathlib.Core.Path.{◌≡◌}
-use native.Mathlib.Omega.{arith}
-use lib.Dec.{eqb}
-use Rattle.plan.specs.Value.{at}
-use borrow.Author.Rules.{rules}
-use Rattle.year_totals.proofs.TallyLaws.{Seen, seen_none, seen-turn, Roomy, roomy-turn}
-use Rattle.year_totals.proofs.board_after.Reads as reads
-use Rattle.year_totals.proofs.board_after.Lts as lts
-use Rattle.year_totals.proofs.ended_early_by.Reads as ended-early-by-reads
-use Rattle.year_totals.proofs.with_task.Reads as with-task-reads
+use Rattle.year_totals.proofs.TallyLaws.{Seen, Roomy}
 use Rattle.year_totals.proofs.board_after.Given as goal
 
 -- `board_after` meets its contract: the tally is that of the figures of the tasks below i.

@@ -1,5 +1,4 @@
 use mathlib.Core.Path.{ap, ◌∙◌}
-use borrow.Author.Rules.{rules}
 use Rattle.school.specs.Tests.{unread}
 use Rattle.year_totals.proofs.not_added.Goals as goal
 

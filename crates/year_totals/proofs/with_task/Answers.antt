@@ -1,12 +1,6 @@
 use mathlib.Core.Path.{refl}
-use borrow.Author.Rules.{rules}
 use borrow.Author.Tests.{not-true, not-false}
 use Rattle.year_totals.proofs.TallyLaws.{first-figure, later-figure}
-use Rattle.year_totals.proofs.with_task.Reads as reads
-use Rattle.year_totals.proofs.with_task.Lts as lts
-use Rattle.year_totals.proofs.greater.Reads as greater-reads
-use Rattle.year_totals.proofs.lesser.Reads as lesser-reads
-use Rattle.year_totals.proofs.wide.Reads as wide-reads
 use Rattle.year_totals.proofs.with_task.Goals as goal
 
 -- `with_task` meets its contract: the task stands elsewhere, is the board's first, or is one more.

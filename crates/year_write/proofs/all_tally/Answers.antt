@@ -1,13 +1,8 @@
-use Prim.Native.Nat.{◌-◌}
 use mathlib.Core.Path.{◌≡◌}
 use native.Mathlib.Omega.{arith}
 use lib.ListN.{length}
 use borrow.Author.Rules.{rules}
-use Rattle.year_write.proofs.AllLaws.{Sofar, sofar-none, ended-fits, sum_fits, sofar-turn, sofar-all}
-use Rattle.year_write.proofs.all_tally.Reads as reads
-use Rattle.year_write.proofs.all_tally.Lts as lts
-use Rattle.year_write.proofs.greatest_with.Reads as greatest-with-reads
-use Rattle.year_write.proofs.least_with.Reads as least-with-reads
+use Rattle.year_write.proofs.AllLaws.{sofar-none, ended-fits, sum_fits, sofar-turn, sofar-all}
 use Rattle.year_write.proofs.all_tally.Goals as goal
 
 -- src/lib.rt:137:5

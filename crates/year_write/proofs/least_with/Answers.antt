@@ -1,8 +1,6 @@
 use Prim.Native.Nat.{min}
 use native.Mathlib.Omega.{arith}
 use Rattle.year_write.proofs.AllLaws.{with_none, with_first, with-more}
-use Rattle.year_write.proofs.least_with.Reads as reads
-use Rattle.year_write.proofs.least_with.Lts as lts
 use Rattle.year_write.proofs.least_with.Goals as goal
 
 -- `least_with` meets its contract: no board's, the first board's, or one of the two.

@@ -1,11 +1,6 @@
 use native.Mathlib.Omega.{arith}
-use borrow.Author.Rules.{rules}
 use Rattle.log_write.proofs.WriteLaws.{whole}
-use Rattle.year_write.proofs.LineLaws.{By, by-wrote, all-wrote}
-use Rattle.year_write.proofs.put_all.Reads as reads
-use Rattle.year_write.proofs.put_all.Lts as lts
-use Rattle.text.proofs.put.put_text.Reads as put-text-reads
-use Rattle.year_write.proofs.put_tail.Reads as put-tail-reads
+use Rattle.year_write.proofs.LineLaws.{by-wrote, all-wrote}
 use Rattle.year_write.proofs.put_all.Goals as goal
 
 -- src/lib.rt:84:5

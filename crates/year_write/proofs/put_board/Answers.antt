@@ -1,12 +1,6 @@
 use native.Mathlib.Omega.{arith}
-use borrow.Author.Rules.{rules}
 use Rattle.log_write.proofs.WriteLaws.{whole}
-use Rattle.year_write.proofs.LineLaws.{By, by-wrote, by_next, board-wrote}
-use Rattle.year_write.proofs.put_board.Reads as reads
-use Rattle.year_write.proofs.put_board.Lts as lts
-use Rattle.text.proofs.put.put_text.Reads as put-text-reads
-use Rattle.year_write.proofs.put_short.Reads as put-short-reads
-use Rattle.year_write.proofs.put_tail.Reads as put-tail-reads
+use Rattle.year_write.proofs.LineLaws.{by-wrote, by_next, board-wrote}
 use Rattle.year_write.proofs.put_board.Goals as goal
 
 -- src/lib.rt:75:9

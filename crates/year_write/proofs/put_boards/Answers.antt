@@ -1,12 +1,7 @@
-use Prim.Native.Nat.{◌-◌, ◌≤◌}
 use mathlib.Core.Path.{◌≡◌}
 use native.Mathlib.Omega.{arith}
 use Rattle.log_write.proofs.WriteLaws.{wrote-length}
-use borrow.Author.Rules.{rules}
-use Rattle.year_write.proofs.LineLaws.{Below, boards-none, boards-turn}
-use Rattle.year_write.proofs.put_boards.Reads as reads
-use Rattle.year_write.proofs.put_boards.Lts as lts
-use Rattle.year_write.proofs.put_board.Reads as put-board-reads
+use Rattle.year_write.proofs.LineLaws.{boards-none, boards-turn}
 use Rattle.year_write.proofs.put_boards.Goals as goal
 
 -- src/lib.rt:160:5

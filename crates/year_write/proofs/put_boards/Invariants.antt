@@ -1,12 +1,5 @@
 use Prim.Native.Nat.{◌-◌, ◌≤◌}
-use mathlib.Core.Path.{◌≡◌}
-use native.Mathlib.Omega.{arith}
-use Rattle.log_write.proofs.WriteLaws.{wrote-length}
-use borrow.Author.Rules.{rules}
-use Rattle.year_write.proofs.LineLaws.{Below, boards-none, boards-turn}
-use Rattle.year_write.proofs.put_boards.Reads as reads
-use Rattle.year_write.proofs.put_boards.Lts as lts
-use Rattle.year_write.proofs.put_board.Reads as put-board-reads
+use Rattle.year_write.proofs.LineLaws.{Below}
 use Rattle.year_write.proofs.put_boards.Given as goal
 
 -- `put_boards` meets its contract: the lines of the boards below the number were written.

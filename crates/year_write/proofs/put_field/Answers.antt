@@ -1,10 +1,5 @@
 use native.Mathlib.Omega.{arith}
-use borrow.Author.Rules.{rules}
 use Rattle.year_write.proofs.LineLaws.{field-wrote}
-use Rattle.year_write.proofs.put_field.Reads as reads
-use Rattle.year_write.proofs.put_field.Lts as lts
-use Rattle.text.proofs.put.put_byte.Reads as put-byte-reads
-use Rattle.text.proofs.wide.put_wide.Reads as put-wide-reads
 use Rattle.year_write.proofs.put_field.Goals as goal
 
 -- src/lib.rt:31:1

@@ -1,12 +1,6 @@
 use native.Mathlib.Omega.{arith}
-use borrow.Author.Rules.{rules}
 use Rattle.log_write.proofs.WriteLaws.{whole}
-use Rattle.year_write.proofs.LineLaws.{By, by-wrote, by_next, logs-wrote}
-use Rattle.year_write.proofs.put_logs.Reads as reads
-use Rattle.year_write.proofs.put_logs.Lts as lts
-use Rattle.text.proofs.put.put_byte.Reads as put-byte-reads
-use Rattle.text.proofs.put.put_text.Reads as put-text-reads
-use Rattle.year_write.proofs.put_short.Reads as put-short-reads
+use Rattle.year_write.proofs.LineLaws.{by-wrote, by_next, logs-wrote}
 use Rattle.year_write.proofs.put_logs.Goals as goal
 
 -- src/lib.rt:92:9

@@ -1,10 +1,4 @@
-use native.Mathlib.Omega.{arith}
-use borrow.Author.Rules.{rules}
 use Rattle.year_write.proofs.LineLaws.{none-wrote, some-wrote}
-use Rattle.year_write.proofs.put_or_none.Reads as reads
-use Rattle.year_write.proofs.put_or_none.Lts as lts
-use Rattle.text.proofs.put.put_text.Reads as put-text-reads
-use Rattle.year_write.proofs.put_short.Reads as put-short-reads
 use Rattle.year_write.proofs.put_or_none.Goals as goal
 
 -- src/lib.rt:53:9

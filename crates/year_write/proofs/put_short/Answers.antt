@@ -1,9 +1,5 @@
 use native.Mathlib.Omega.{arith}
-use borrow.Author.Rules.{rules}
 use Rattle.year_write.proofs.LineLaws.{short-wrote}
-use Rattle.year_write.proofs.put_short.Reads as reads
-use Rattle.year_write.proofs.put_short.Lts as lts
-use Rattle.year_write.proofs.put_field.Reads as put-field-reads
 use Rattle.year_write.proofs.put_short.Goals as goal
 
 -- src/lib.rt:40:1

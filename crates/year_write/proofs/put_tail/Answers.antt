@@ -1,12 +1,5 @@
 use native.Mathlib.Omega.{arith}
-use borrow.Author.Rules.{rules}
-use Rattle.year_write.proofs.LineLaws.{By, by-wrote, by_next, tail-wrote}
-use Rattle.year_write.proofs.put_tail.Reads as reads
-use Rattle.year_write.proofs.put_tail.Lts as lts
-use Rattle.text.proofs.put.put_byte.Reads as put-byte-reads
-use Rattle.year_write.proofs.put_field.Reads as put-field-reads
-use Rattle.year_write.proofs.put_or_none.Reads as put-or-none-reads
-use Rattle.year_write.proofs.put_short.Reads as put-short-reads
+use Rattle.year_write.proofs.LineLaws.{by-wrote, by_next, tail-wrote}
 use Rattle.year_write.proofs.put_tail.Goals as goal
 
 -- src/lib.rt:59:1

@@ -1,10 +1,4 @@
 use Rattle.year_write.proofs.ReportLaws.{ran-short, ran-nine, in_bounds, ran-alone, ran-past}
-use borrow.Author.Rules.{rules}
-use Rattle.year_write.proofs.write_report.Reads as reads
-use Rattle.year_write.proofs.write_report.Lts as lts
-use Rattle.log_write.proofs.put_refused.Reads as put-refused-reads
-use Rattle.year_rules.proofs.are_in_bounds.Reads as are-in-bounds-reads
-use Rattle.year_write.proofs.put_report.Reads as put-report-reads
 use Rattle.year_write.proofs.write_report.Goals as goal
 
 -- `write_report` meets its contract: a short buffer, 9, the report with 28 behind it, the report alone.

@@ -1,7 +1,5 @@
-use Prim.Native.Nat.{◌<◌}
 use native.Mathlib.Omega.{arith}
 use borrow.Author.Rules.{rules}
-use Rattle.plan.specs.Value.{at}
 use Rattle.ask_why.proofs.FollowLaws.{link-some, stops-soon, stops-alone, falls-on, fits_on, followed, stopped}
 use Rattle.ask_why.proofs.walk.+follow.Goals as goal
 

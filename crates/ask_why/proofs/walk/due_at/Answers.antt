@@ -1,13 +1,7 @@
 use Rattle.book_view.proofs.Turns.{latest-more, bit-seen}
-use Rattle.plan.specs.Value.{at}
-use Rattle.laws.specs.Bits.{has}
 use Rattle.laws.specs.Picked.{latest}
-use lib.Dec.{ltb}
 use native.Mathlib.Omega.{arith}
-use mathlib.Core.Bool.{◌&&◌}
 use mathlib.Core.Path.{◌≡◌, refl}
-use Prim.Native.Nat.{◌-◌, ◌≤◌}
-use borrow.Author.Rules.{rules}
 use Rattle.ask_why.proofs.walk.due_at.Goals as goal
 
 pub loop-j-init : goal.loop-j-init

@@ -1,13 +1,10 @@
-use Rattle.book_view.proofs.Turns.{latest-more, bit-seen}
 use Rattle.plan.specs.Value.{at}
 use Rattle.laws.specs.Bits.{has}
 use Rattle.laws.specs.Picked.{latest}
 use lib.Dec.{ltb}
-use native.Mathlib.Omega.{arith}
 use mathlib.Core.Bool.{◌&&◌}
-use mathlib.Core.Path.{◌≡◌, refl}
+use mathlib.Core.Path.{◌≡◌}
 use Prim.Native.Nat.{◌-◌, ◌≤◌}
-use borrow.Author.Rules.{rules}
 use Rattle.ask_why.proofs.walk.due_at.Given as goal
 
 abbrev pub invariant-loop-j : goal.invariant-loop-j

@@ -1,14 +1,7 @@
 use Rattle.book_view.proofs.Turns.{bit-seen}
-use Rattle.plan.specs.Value.{at}
-use Rattle.laws.specs.Bits.{has}
-use Rattle.laws.specs.Scan.{scan_to}
 use Rattle.ask_why.proofs.WalkLaws.{lowest-hit, lowest-turn, lowest-end}
-use lib.Dec.{eqb, ltb}
 use native.Mathlib.Omega.{arith}
-use mathlib.Core.Bool.{◌&&◌}
-use mathlib.Core.Path.{◌≡◌, refl}
-use Prim.Native.Nat.{◌-◌, ◌≤◌}
-use borrow.Author.Rules.{rules}
+use mathlib.Core.Path.{refl}
 use Rattle.ask_why.proofs.walk.lowest_at.Goals as goal
 
 pub loop-j-init : goal.loop-j-init

@@ -1,6 +1,5 @@
 use Rattle.book.proofs.ReportLaws.{figure-refused, figure-granted}
 use Rattle.book.proofs.WaitLaws.{its-soundness}
-use borrow.Author.Rules.{rules}
 use Rattle.book.proofs.Book.minimum_early.Goals as goal
 
 pub returns-then-not-waits : goal.returns-then-not-waits

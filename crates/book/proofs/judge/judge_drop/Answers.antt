@@ -1,5 +1,3 @@
-use mathlib.Core.Path.{◌≡◌}
-use borrow.Author.Rules.{rules}
 use Rattle.book.proofs.judge.judge_drop.Goals as goal
 
 pub returns : goal.returns

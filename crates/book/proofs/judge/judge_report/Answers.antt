@@ -1,5 +1,4 @@
 use Rattle.book.specs.Private.Coded.{coded_report}
-use borrow.Author.Rules.{rules}
 use Rattle.book.proofs.judge.judge_report.Goals as goal
 
 pub returns : goal.returns

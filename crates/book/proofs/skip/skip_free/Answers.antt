@@ -1,7 +1,5 @@
-use Rattle.book.proofs.SkipLaws.{SkipTo, skip-begin, skip-idle, skip-more, skip-end}
+use Rattle.book.proofs.SkipLaws.{skip-begin, skip-idle, skip-more, skip-end}
 use native.Mathlib.Omega.{arith}
-use Prim.Native.Nat.{◌-◌, ◌≤◌}
-use borrow.Author.Rules.{rules}
 use Rattle.book.proofs.skip.skip_free.Goals as goal
 
 pub loop-n-init : goal.loop-n-init

@@ -1,7 +1,5 @@
-use Rattle.book.proofs.SkipLaws.{SkipTo, skip-begin, skip-idle, skip-more, skip-end}
-use native.Mathlib.Omega.{arith}
+use Rattle.book.proofs.SkipLaws.{SkipTo}
 use Prim.Native.Nat.{◌-◌, ◌≤◌}
-use borrow.Author.Rules.{rules}
 use Rattle.book.proofs.skip.skip_free.Given as goal
 
 abbrev pub invariant-loop-n : goal.invariant-loop-n

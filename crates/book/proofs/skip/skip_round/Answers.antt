@@ -1,13 +1,9 @@
 use Rattle.book.proofs.SkipLaws.{round-none, round-skips, round-stays, some-picked, some-passed}
-use Rattle.book.specs.Private.Table.{skips_by_row, round_by}
 use Rattle.laws.specs.Every.{any}
-use mathlib.Core.Logic.{⊎_elim}
 use native.Mathlib.Omega.{arith}
 use mathlib.Core.Path.{◌≡◌, refl, sym, ◌∙◌}
-use Prim.Native.Nat.{◌-◌, ◌≤◌}
-use borrow.Author.Rules.{rules}
 use Rattle.book.proofs.skip.skip_round.Goals as goal
-use Rattle.book.proofs.skip.skip_round.Goals.{else-may_skip,then-may_skip}
+use Rattle.book.proofs.skip.skip_round.Goals.{else-may_skip, then-may_skip}
 
 pub loop-i-init : goal.loop-i-init
 unfolding any

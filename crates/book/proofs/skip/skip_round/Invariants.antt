@@ -1,11 +1,7 @@
-use Rattle.book.proofs.SkipLaws.{round-none, round-skips, round-stays, some-picked, some-passed}
 use Rattle.book.specs.Private.Table.{skips_by_row, round_by}
 use Rattle.laws.specs.Every.{any}
-use mathlib.Core.Logic.{⊎_elim}
-use native.Mathlib.Omega.{arith}
-use mathlib.Core.Path.{◌≡◌, refl, sym, ◌∙◌}
+use mathlib.Core.Path.{◌≡◌}
 use Prim.Native.Nat.{◌-◌, ◌≤◌}
-use borrow.Author.Rules.{rules}
 use Rattle.book.proofs.skip.skip_round.Given as goal
 
 abbrev pub invariant-loop-i : goal.invariant-loop-i

@@ -1,5 +1,4 @@
 use borrow.Author.Tests.{eq-eqb, ne_eqb}
-use borrow.Author.Rules.{rules}
 use Rattle.book.proofs.start.has_ended.Goals as goal
 
 pub returns-then-held-eq0 : goal.returns-then-held-eq0

@@ -1,5 +1,4 @@
 use borrow.Author.Tests.{eq-eqb, ne_eqb}
-use borrow.Author.Rules.{rules}
 use Rattle.book.proofs.start.may_go.Goals as goal
 
 pub returns-then-mark-i-ne0 : goal.returns-then-mark-i-ne0

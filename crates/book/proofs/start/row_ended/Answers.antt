@@ -1,14 +1,10 @@
 use Rattle.book_view.proofs.Turns.{every-passed}
-use Rattle.book.specs.Private.Table.{has_ended, row_ended}
-use Rattle.plan.specs.Value.{at}
+use Rattle.book.specs.Private.Table.{row_ended}
 use Rattle.laws.specs.Every.{every}
 use Rattle.laws.proofs.Every.{every-not}
 use borrow.Author.Tests.{not-true, not-false}
-use mathlib.Core.Bool.{true}
 use native.Mathlib.Omega.{arith}
 use mathlib.Core.Path.{◌≡◌, refl, sym, ◌∙◌}
-use Prim.Native.Nat.{◌-◌, ◌≤◌}
-use borrow.Author.Rules.{rules}
 use Rattle.book.proofs.start.row_ended.Goals as goal
 
 pub loop-j-init : goal.loop-j-init

@@ -1,14 +1,9 @@
-use Rattle.book_view.proofs.Turns.{every-passed}
-use Rattle.book.specs.Private.Table.{has_ended, row_ended}
+use Rattle.book.specs.Private.Table.{has_ended}
 use Rattle.plan.specs.Value.{at}
 use Rattle.laws.specs.Every.{every}
-use Rattle.laws.proofs.Every.{every-not}
-use borrow.Author.Tests.{not-true, not-false}
 use mathlib.Core.Bool.{true}
-use native.Mathlib.Omega.{arith}
-use mathlib.Core.Path.{◌≡◌, refl, sym, ◌∙◌}
+use mathlib.Core.Path.{◌≡◌}
 use Prim.Native.Nat.{◌-◌, ◌≤◌}
-use borrow.Author.Rules.{rules}
 use Rattle.book.proofs.start.row_ended.Given as goal
 
 abbrev pub invariant-loop-j : goal.invariant-loop-j

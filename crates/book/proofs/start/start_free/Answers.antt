@@ -1,13 +1,8 @@
 use Rattle.book.proofs.StartLaws.{starts_none, starts-go, starts-stay}
-use Rattle.book.specs.Private.Table.{starts_by}
-use Rattle.plan.specs.Value.{at}
-use mathlib.Core.Logic.{⊎_elim}
 use native.Mathlib.Omega.{arith}
 use mathlib.Core.Path.{◌≡◌, sym, ◌∙◌}
-use Prim.Native.Nat.{◌-◌, ◌≤◌}
-use borrow.Author.Rules.{rules}
 use Rattle.book.proofs.start.start_free.Goals as goal
-use Rattle.book.proofs.start.start_free.Goals.{else-may_go,then-may_go}
+use Rattle.book.proofs.start.start_free.Goals.{else-may_go, then-may_go}
 
 pub loop-i-init : goal.loop-i-init
 loop-i-init c = (omega arith, starts_none _ _ _ _)

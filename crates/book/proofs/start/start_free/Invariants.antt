@@ -1,11 +1,7 @@
-use Rattle.book.proofs.StartLaws.{starts_none, starts-go, starts-stay}
 use Rattle.book.specs.Private.Table.{starts_by}
 use Rattle.plan.specs.Value.{at}
-use mathlib.Core.Logic.{⊎_elim}
-use native.Mathlib.Omega.{arith}
-use mathlib.Core.Path.{◌≡◌, sym, ◌∙◌}
+use mathlib.Core.Path.{◌≡◌}
 use Prim.Native.Nat.{◌-◌, ◌≤◌}
-use borrow.Author.Rules.{rules}
 use Rattle.book.proofs.start.start_free.Given as goal
 
 abbrev pub invariant-loop-i : goal.invariant-loop-i

@@ -1,16 +1,11 @@
-use mathlib.Core.List.{[]}
 use Rattle.book.proofs.TableLaws.{table_none, table-row, table-skip}
-use Rattle.book.specs.Private.Table.{TableTo}
-use Rattle.plan.specs.Value.{at}
 use lib.ListN.{length, length-set}
-use Rattle.book_view.specs.View.{plan_seen}
-use mathlib.Core.Logic.{⊎_elim}
 use native.Mathlib.Omega.{arith}
 use mathlib.Core.Path.{◌≡◌}
-use Prim.Native.Nat.{◌-◌, ◌<◌, ◌≤◌}
+use Prim.Native.Nat.{◌<◌}
 use borrow.Author.Rules.{rules}
 use Rattle.book.proofs.table.last_tasks.Goals as goal
-use Rattle.book.proofs.table.last_tasks.Goals.{else-mark-i-eq0,then-mark-i-eq0}
+use Rattle.book.proofs.table.last_tasks.Goals.{else-mark-i-eq0, then-mark-i-eq0}
 
 pub loop-i-init : goal.loop-i-init
 loop-i-init c = (omega arith, search rules, table_none _ _ _ _)

@@ -1,14 +1,10 @@
 use mathlib.Core.List.{[]}
-use Rattle.book.proofs.TableLaws.{table_none, table-row, table-skip}
 use Rattle.book.specs.Private.Table.{TableTo}
 use Rattle.plan.specs.Value.{at}
-use lib.ListN.{length, length-set}
+use lib.ListN.{length}
 use Rattle.book_view.specs.View.{plan_seen}
-use mathlib.Core.Logic.{⊎_elim}
-use native.Mathlib.Omega.{arith}
 use mathlib.Core.Path.{◌≡◌}
-use Prim.Native.Nat.{◌-◌, ◌<◌, ◌≤◌}
-use borrow.Author.Rules.{rules}
+use Prim.Native.Nat.{◌-◌, ◌≤◌}
 use Rattle.book.proofs.table.last_tasks.Given as goal
 
 abbrev pub invariant-loop-i : goal.invariant-loop-i

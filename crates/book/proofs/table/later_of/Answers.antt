@@ -1,5 +1,4 @@
 use Rattle.laws.proofs.Last.{later_first, later_more, later-less}
-use borrow.Author.Rules.{rules}
 use Rattle.book.proofs.table.later_of.Goals as goal
 
 pub returns-then-held-eq0 : goal.returns-then-held-eq0

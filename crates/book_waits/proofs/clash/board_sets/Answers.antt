@@ -1,13 +1,9 @@
-use Prim.Native.Nat.{◌+◌, ◌-◌, ◌≤◌}
 use native.Mathlib.Omega.{arith}
 use mathlib.Core.Bool.{true, and-true}
 use mathlib.Core.Path.{◌≡◌, refl, sym}
-use lib.Dec.{eqb}
-use Rattle.laws.specs.Bits.{set_of, sets_to}
+use Rattle.laws.specs.Bits.{set_of}
 use Rattle.laws.specs.Each.{each}
 use Rattle.laws.proofs.Noted.{sets-length, sets_more, note-one}
-use Rattle.plan.specs.Value.{at}
-use borrow.Author.Rules.{rules}
 use Rattle.book_waits.proofs.clash.board_sets.Goals as goal
 
 pub loop-k-init : goal.loop-k-init

@@ -1,4 +1,3 @@
-use borrow.Author.Rules.{rules}
 use Rattle.book_waits.proofs.clash.clash_set.Goals as goal
 
 pub returns : goal.returns

@@ -1,5 +1,4 @@
 use Rattle.plan.proofs.PlanRows.{part-row}
-use borrow.Author.Rules.{rules}
 use Rattle.book_waits.proofs.listed.listed_by.Goals as goal
 
 pub returns : goal.returns

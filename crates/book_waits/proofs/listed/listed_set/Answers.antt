@@ -1,10 +1,7 @@
-use Prim.Native.Nat.{◌-◌}
 use native.Mathlib.Omega.{arith}
-use lib.ListN.{length}
-use Rattle.laws.proofs.Gather.{SetFrom, gather-start, gather-stop, gather-out, gather-turn}
+use Rattle.laws.proofs.Gather.{gather-start, gather-stop, gather-out, gather-turn}
 use Rattle.plan.specs.Pairs.{is_listed}
 use Rattle.book_waits.proofs.ListLaws.{named, its-bit}
-use borrow.Author.Rules.{rules}
 use Rattle.book_waits.proofs.listed.listed_set.Goals as goal
 
 pub loop-i-init : goal.loop-i-init

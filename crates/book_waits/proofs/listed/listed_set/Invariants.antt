@@ -1,10 +1,7 @@
 use Prim.Native.Nat.{◌-◌}
-use native.Mathlib.Omega.{arith}
 use lib.ListN.{length}
-use Rattle.laws.proofs.Gather.{SetFrom, gather-start, gather-stop, gather-out, gather-turn}
-use Rattle.plan.specs.Pairs.{is_listed}
-use Rattle.book_waits.proofs.ListLaws.{named, its-bit}
-use borrow.Author.Rules.{rules}
+use Rattle.laws.proofs.Gather.{SetFrom}
+use Rattle.book_waits.proofs.ListLaws.{named}
 use Rattle.book_waits.proofs.listed.listed_set.Given as goal
 
 abbrev pub invariant-loop-i : goal.invariant-loop-i

@@ -1,6 +1,5 @@
 use mathlib.Core.Path.{◌∙◌}
 use Rattle.book_waits.proofs.ListLaws.{bit-number}
-use borrow.Author.Rules.{rules}
 use Rattle.book_waits.proofs.listed.number_bit.Goals as goal
 
 pub returns : goal.returns

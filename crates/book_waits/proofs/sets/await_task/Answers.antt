@@ -1,14 +1,10 @@
-use Prim.Native.Nat.{◌-◌, ◌^◌, ◌≤◌}
 use native.Mathlib.Omega.{arith}
-use mathlib.Core.Bool.{cond}
 use mathlib.Core.Path.{◌≡◌, refl}
-use lib.Bits.{bit_or}
 use lib.Dec.{leb}
 use Rattle.laws.specs.Each.{each}
 use Rattle.laws.specs.Private.Noted.{noted}
 use Rattle.plan.specs.Value.{at}
 use Rattle.book_waits.proofs.SetLaws.{await-more}
-use borrow.Author.Rules.{rules}
 use Rattle.book_waits.proofs.sets.await_task.Goals as goal
 
 pub loop-i-init : goal.loop-i-init

@@ -1,14 +1,10 @@
 use Prim.Native.Nat.{◌-◌, ◌^◌, ◌≤◌}
-use native.Mathlib.Omega.{arith}
 use mathlib.Core.Bool.{cond}
-use mathlib.Core.Path.{◌≡◌, refl}
+use mathlib.Core.Path.{◌≡◌}
 use lib.Bits.{bit_or}
 use lib.Dec.{leb}
 use Rattle.laws.specs.Each.{each}
-use Rattle.laws.specs.Private.Noted.{noted}
 use Rattle.plan.specs.Value.{at}
-use Rattle.book_waits.proofs.SetLaws.{await-more}
-use borrow.Author.Rules.{rules}
 use Rattle.book_waits.proofs.sets.await_task.Given as goal
 
 abbrev pub invariant-loop-i : goal.invariant-loop-i

@@ -1,10 +1,6 @@
 use Prim.Native.Nat.{◌-◌, ◌≤◌}
-use native.Mathlib.Omega.{arith}
-use mathlib.Core.Path.{◌≡◌, refl}
-use Rattle.laws.specs.Each.{each}
-use Rattle.book_waits.proofs.SetLaws.{clash-more}
+use mathlib.Core.Path.{◌≡◌}
 use Rattle.book_waits.specs.Private.Arrays.{clash_sets}
-use borrow.Author.Rules.{rules}
 use Rattle.book_waits.proofs.sets.clash_sets.Given as goal
 
 abbrev pub invariant-loop-i : goal.invariant-loop-i

@@ -1,12 +1,8 @@
-use Prim.Native.Nat.{◌-◌, ◌≤◌}
 use native.Mathlib.Omega.{arith}
 use mathlib.Core.Path.{◌≡◌}
-use lib.Dec.{leb}
-use Rattle.laws.specs.Bits.{set_of, sets_to}
+use Rattle.laws.specs.Bits.{set_of}
 use Rattle.laws.specs.Each.{each}
 use Rattle.laws.proofs.Noted.{sets-length, sets_more}
-use Rattle.plan.specs.Value.{at}
-use borrow.Author.Rules.{rules}
 use Rattle.book_waits.proofs.sets.early_sets.Goals as goal
 
 pub loop-j-init : goal.loop-j-init

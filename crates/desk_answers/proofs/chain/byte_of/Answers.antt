@@ -1,5 +1,4 @@
 use Rattle.desk_answers.proofs.ChainLaws.{of-past, of-task}
-use borrow.Author.Rules.{rules}
 use Rattle.desk_answers.proofs.chain.byte_of.Goals as goal
 
 pub returns-then-array-i : goal.returns-then-array-i

@@ -1,8 +1,6 @@
-use Prim.Native.Nat.{◌+◌, ◌-◌, ◌*◌, ◌≤◌}
 use mathlib.Core.Path.{◌≡◌}
-use lib.ListN.{length}
 use native.Mathlib.Omega.{arith}
-use Rattle.desk_answers.proofs.ChainLaws.{Below, links-none, links-turn}
+use Rattle.desk_answers.proofs.ChainLaws.{links-none, links-turn}
 use borrow.Author.Rules.{rules}
 use Rattle.desk_answers.proofs.chain.put_links.Goals as goal
 

@@ -1,9 +1,7 @@
-use Prim.Native.Nat.{◌+◌, ◌-◌, ◌*◌, ◌≤◌}
+use Prim.Native.Nat.{◌-◌, ◌≤◌}
 use mathlib.Core.Path.{◌≡◌}
 use lib.ListN.{length}
-use native.Mathlib.Omega.{arith}
-use Rattle.desk_answers.proofs.ChainLaws.{Below, links-none, links-turn}
-use borrow.Author.Rules.{rules}
+use Rattle.desk_answers.proofs.ChainLaws.{Below}
 use Rattle.desk_answers.proofs.chain.put_links.Given as goal
 
 -- `put_links` meets its contract: the first links were written.

@@ -1,5 +1,4 @@
 use Rattle.desk_answers.proofs.ChainLaws.{one_link}
-use borrow.Author.Rules.{rules}
 use Rattle.desk_answers.proofs.chain.put_one.Goals as goal
 
 pub returns : goal.returns

@@ -1,5 +1,4 @@
 use Rattle.desk_answers.proofs.DriveLaws.{drive-no, drive-yes}
-use borrow.Author.Rules.{rules}
 use Rattle.desk_answers.proofs.drive.answer_drive.Goals as goal
 
 pub returns-then-answer-ne0 : goal.returns-then-answer-ne0

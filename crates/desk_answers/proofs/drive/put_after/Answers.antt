@@ -1,6 +1,5 @@
 use native.Mathlib.Omega.{arith}
 use Rattle.desk_answers.proofs.DriveLaws.{after-wrote}
-use borrow.Author.Rules.{rules}
 use Rattle.desk_answers.proofs.drive.put_after.Goals as goal
 
 pub returns : goal.returns

@@ -1,4 +1,3 @@
-use lib.ListN.{length}
 use Rattle.desk_answers.proofs.DriveLaws.{drive-room, few-items, items-room, next-room, drive-wrote}
 use borrow.Author.Rules.{rules}
 use Rattle.desk_answers.proofs.drive.put_drive.Goals as goal

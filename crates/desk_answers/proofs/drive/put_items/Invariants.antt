@@ -1,10 +1,7 @@
 use Prim.Native.Nat.{◌+◌, ◌-◌, ◌*◌, ◌≤◌}
 use mathlib.Core.Path.{◌≡◌}
 use lib.ListN.{length}
-use native.Mathlib.Omega.{arith}
-use Rattle.log_write.proofs.WriteLaws.{wrote-length, left-all}
-use Rattle.desk_answers.proofs.DriveLaws.{dash-wrote, Rest, rest-turn, items-wrote}
-use borrow.Author.Rules.{rules}
+use Rattle.desk_answers.proofs.DriveLaws.{Rest}
 use Rattle.desk_answers.proofs.drive.put_items.Given as goal
 
 -- `put_items` meets its contract: the first item, then each after its comma.

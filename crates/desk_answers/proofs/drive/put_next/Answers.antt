@@ -1,5 +1,4 @@
 use Rattle.desk_answers.proofs.DriveLaws.{next-none, next-some}
-use borrow.Author.Rules.{rules}
 use Rattle.desk_answers.proofs.drive.put_next.Goals as goal
 
 pub returns-then-task-eq0 : goal.returns-then-task-eq0

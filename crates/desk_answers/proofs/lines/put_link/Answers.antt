@@ -2,7 +2,6 @@ use native.Mathlib.Omega.{arith}
 use mathlib.Core.List.{[], ◌∷◌}
 use Rattle.text.specs.Bytes.{bytes}
 use Rattle.desk_answers.proofs.KnownLaws.{known-yes, known-not}
-use borrow.Author.Rules.{rules}
 use Rattle.desk_answers.proofs.lines.put_link.Goals as goal
 
 pub returns-then-known : goal.returns-then-known

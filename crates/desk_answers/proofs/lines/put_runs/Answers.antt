@@ -1,4 +1,3 @@
-use borrow.Author.Rules.{rules}
 use Rattle.desk_answers.proofs.lines.put_runs.Goals as goal
 
 pub returns : goal.returns

@@ -1,8 +1,6 @@
-use Prim.Native.Nat.{◌+◌, ◌-◌, ◌*◌, ◌≤◌}
 use mathlib.Core.Path.{◌≡◌}
-use lib.ListN.{length}
 use native.Mathlib.Omega.{arith}
-use Rattle.desk_answers.proofs.LineLaws.{Below, run_none, run_length, run-passes, run-goes}
+use Rattle.desk_answers.proofs.LineLaws.{run_none, run-passes, run-goes}
 use borrow.Author.Rules.{rules}
 use Rattle.desk_answers.proofs.running.put_running.Goals as goal
 

@@ -1,9 +1,7 @@
-use Prim.Native.Nat.{◌+◌, ◌-◌, ◌*◌, ◌≤◌}
+use Prim.Native.Nat.{◌-◌, ◌≤◌}
 use mathlib.Core.Path.{◌≡◌}
 use lib.ListN.{length}
-use native.Mathlib.Omega.{arith}
-use Rattle.desk_answers.proofs.LineLaws.{Below, run_none, run_length, run-passes, run-goes}
-use borrow.Author.Rules.{rules}
+use Rattle.desk_answers.proofs.LineLaws.{Below}
 use Rattle.desk_answers.proofs.running.put_running.Given as goal
 
 -- `put_running` meets its contract: the lines of the tasks below the number were written.

@@ -1,8 +1,6 @@
-use Rattle.engine.proofs.FillLaws.{NoneTo, free_seen, free-found, free_more, free-none}
+use Rattle.engine.proofs.FillLaws.{free_seen, free-found, free_more, free-none}
 use mathlib.Core.Path.{sym, ◌∙◌}
-use Prim.Native.Nat.{◌-◌, ◌≤◌}
 use native.Mathlib.Omega.{arith}
-use borrow.Author.Rules.{rules}
 use Rattle.engine.proofs.fill.free_task.Goals as goal
 
 pub loop-i-init : goal.loop-i-init
@@ -15,8 +13,7 @@ returns-then-is_in-awaited c =
 
 pub loop-i-preserved : goal.loop-i-preserved
 loop-i-preserved c =
-    let i = c.loop-i.i in
-    (
+    let i = c.loop-i.i in (
       omega arith,
       free_more c.args.waits.now c.args.done c.args.tasks i c.loop-i.invariant.1
           (sym (free_seen c.args.waits.now c.args.done c.args.tasks i (omega arith) c.is_in.ensures) ∙ c.if-is_in-awaited.false),

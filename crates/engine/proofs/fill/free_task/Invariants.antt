@@ -1,8 +1,5 @@
-use Rattle.engine.proofs.FillLaws.{NoneTo, free_seen, free-found, free_more, free-none}
-use mathlib.Core.Path.{sym, ◌∙◌}
+use Rattle.engine.proofs.FillLaws.{NoneTo}
 use Prim.Native.Nat.{◌-◌, ◌≤◌}
-use native.Mathlib.Omega.{arith}
-use borrow.Author.Rules.{rules}
 use Rattle.engine.proofs.fill.free_task.Given as goal
 
 abbrev pub invariant-loop-i : goal.invariant-loop-i

@@ -1,4 +1,3 @@
-use borrow.Author.Rules.{rules}
 use Rattle.log_read.proofs.RuleLaws.{choice-unsaid, choice-malformed, choice-chosen}
 use Rattle.log_read.proofs.rules.read_choice.Goals as goal
 

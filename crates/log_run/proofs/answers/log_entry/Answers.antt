@@ -1,5 +1,4 @@
 use Rattle.log_run.proofs.ShortLaws.{short-made}
-use borrow.Author.Rules.{rules}
 use Rattle.log_run.proofs.answers.log_entry.Goals as goal
 
 pub log_short-requires : goal.log_short-requires

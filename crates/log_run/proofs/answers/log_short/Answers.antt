@@ -1,6 +1,3 @@
-use native.Mathlib.Omega.{arith}
-use lib.ListN.{length}
-use mathlib.Core.Path.{◌≡◌}
 use Rattle.log_run.proofs.ReportLaws.{told_names}
 use Rattle.log_run.proofs.AnswerLaws.{entry-logged}
 use borrow.Author.Rules.{rules}

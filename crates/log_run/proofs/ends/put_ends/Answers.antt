@@ -1,9 +1,8 @@
 use Prim.{tt}
 use native.Mathlib.Omega.{arith}
-use lib.ListN.{length}
 use Rattle.log_write.proofs.WriteLaws.{wrote-length}
 use Rattle.log_run.proofs.ReportLaws.{told_names}
-use Rattle.log_run.proofs.EndsLaws.{Walk, walk_start, walk-short, walk_end, walk-stops, walk-less, walk-goes}
+use Rattle.log_run.proofs.EndsLaws.{walk_start, walk-short, walk_end, walk-stops, walk-less, walk-goes}
 use Rattle.log_run.proofs.ends.put_ends.Goals as goal
 
 pub loop-rest-init : goal.loop-rest-init

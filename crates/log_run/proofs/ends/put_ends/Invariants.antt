@@ -1,9 +1,5 @@
-use Prim.{tt}
-use native.Mathlib.Omega.{arith}
 use lib.ListN.{length}
-use Rattle.log_write.proofs.WriteLaws.{wrote-length}
-use Rattle.log_run.proofs.ReportLaws.{told_names}
-use Rattle.log_run.proofs.EndsLaws.{Walk, walk_start, walk-short, walk_end, walk-stops, walk-less, walk-goes}
+use Rattle.log_run.proofs.EndsLaws.{Walk}
 use Rattle.log_run.proofs.ends.put_ends.Given as goal
 
 abbrev pub invariant-loop-rest : goal.invariant-loop-rest

@@ -1,8 +1,7 @@
 use Prim.{tt}
-use Prim.Native.Nat.{◌-◌, ◌≤◌}
 use native.Mathlib.Omega.{arith}
 use Rattle.log_write.proofs.WriteLaws.{wrote-length}
-use Rattle.log_run.proofs.StartLaws.{Below, starts_none, starts-passes, starts-goes, starts-end}
+use Rattle.log_run.proofs.StartLaws.{starts_none, starts-passes, starts-goes, starts-end}
 use borrow.Author.Rules.{rules}
 use Rattle.log_run.proofs.starts.put_starts.Goals as goal
 

@@ -1,7 +1,6 @@
 use Prim.{tt}
 use native.Mathlib.Omega.{arith}
 use Rattle.log_write.proofs.WriteLaws.{also, wrote-line, wrote-length}
-use borrow.Author.Rules.{rules}
 use Rattle.log_run.proofs.told.put_ended.Goals as goal
 
 pub put_end-next-requires : goal.put_end-next-requires

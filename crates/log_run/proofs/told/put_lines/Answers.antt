@@ -2,7 +2,6 @@ use Prim.{tt}
 use native.Mathlib.Omega.{arith}
 use Rattle.log_write.proofs.WriteLaws.{wrote-length, wrote-line}
 use Rattle.log_run.proofs.ToldLaws.{named_end, named-drop, lines_none}
-use borrow.Author.Rules.{rules}
 use Rattle.log_run.proofs.told.put_lines.Goals as goal
 
 pub put_ended-requires : goal.put_ended-requires

@@ -1,5 +1,4 @@
 use Rattle.log_run.proofs.ShortLaws.{made-end, made-drop, made-refused}
-use borrow.Author.Rules.{rules}
 use Rattle.log_run.proofs.told.shortened.Goals as goal
 
 pub returns-in-End : goal.returns-in-End

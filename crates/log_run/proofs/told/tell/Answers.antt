@@ -1,7 +1,6 @@
 use Prim.{tt}
 use Rattle.log_run.proofs.ToldLaws.{tell-end, tell-drop, tell-refused, short-column}
 use Rattle.log_run.proofs.BookLaws.{report-stays, drop-stays}
-use borrow.Author.Rules.{rules}
 use Rattle.log_run.proofs.told.tell.Goals as goal
 
 pub report-reported-requires : goal.report-reported-requires

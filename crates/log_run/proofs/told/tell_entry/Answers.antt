@@ -1,5 +1,4 @@
 use Rattle.log_run.proofs.ShortLaws.{short-made}
-use borrow.Author.Rules.{rules}
 use Rattle.log_run.proofs.told.tell_entry.Goals as goal
 
 pub tell-requires : goal.tell-requires

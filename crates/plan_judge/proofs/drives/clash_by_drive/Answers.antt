@@ -1,6 +1,5 @@
 use Rattle.plan.proofs.PlanRows.{part-row}
 use Rattle.plan_judge.proofs.DriveLaws.{sets-clash}
-use borrow.Author.Rules.{rules}
 use Rattle.plan_judge.proofs.drives.clash_by_drive.Goals as goal
 
 pub returns : goal.returns

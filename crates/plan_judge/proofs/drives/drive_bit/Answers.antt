@@ -1,7 +1,6 @@
 use mathlib.Core.Path.{sym, ◌∙◌}
 use Rattle.plan.proofs.Drives.{drive-shift}
 use Rattle.plan_judge.proofs.DriveLaws.{shifted-bit, of-a-drive}
-use borrow.Author.Rules.{rules}
 use Rattle.plan_judge.proofs.drives.drive_bit.Goals as goal
 
 pub overflow_sub-result : goal.overflow_sub-result

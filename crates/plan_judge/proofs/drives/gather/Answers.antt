@@ -1,8 +1,5 @@
-use Prim.Native.Nat.{◌-◌}
-use lib.ListN.{length}
-use Rattle.laws.proofs.Gather.{SetFrom, gather-start, gather-stop, gather-out, gather-turn}
-use Rattle.plan_judge.proofs.DriveLaws.{on_drive, is_exclusive, is_any, held-bit, exclusive-bit}
-use borrow.Author.Rules.{rules}
+use Rattle.laws.proofs.Gather.{gather-start, gather-stop, gather-out, gather-turn}
+use Rattle.plan_judge.proofs.DriveLaws.{held-bit, exclusive-bit}
 use Rattle.plan_judge.proofs.drives.gather.Goals as goal
 
 pub loop-i-init : goal.loop-i-init

@@ -1,8 +1,7 @@
 use Prim.Native.Nat.{◌-◌}
 use lib.ListN.{length}
-use Rattle.laws.proofs.Gather.{SetFrom, gather-start, gather-stop, gather-out, gather-turn}
-use Rattle.plan_judge.proofs.DriveLaws.{on_drive, is_exclusive, is_any, held-bit, exclusive-bit}
-use borrow.Author.Rules.{rules}
+use Rattle.laws.proofs.Gather.{SetFrom}
+use Rattle.plan_judge.proofs.DriveLaws.{on_drive, is_exclusive, is_any}
 use Rattle.plan_judge.proofs.drives.gather.Given as goal
 
 abbrev pub invariant-loop-i : goal.invariant-loop-i

@@ -1,11 +1,7 @@
-use Prim.Native.Nat.{◌-◌}
-use mathlib.Core.Path.{◌≡◌, refl, sym, ◌∙◌}
-use mathlib.Core.Bool.{true}
+use mathlib.Core.Path.{refl, sym, ◌∙◌}
 use borrow.Author.Tests.{not-true, not-false}
 use Rattle.laws.specs.Every.{every}
 use Rattle.laws.proofs.Every.{every-not, every-pass, every-out}
-use Rattle.plan_judge.specs.Private.Arrays.{row_in_order}
-use borrow.Author.Rules.{rules}
 use Rattle.plan_judge.proofs.order.in_order.Goals as goal
 
 pub loop-k-init : goal.loop-k-init

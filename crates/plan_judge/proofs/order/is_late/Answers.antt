@@ -1,5 +1,4 @@
 use borrow.Author.Tests.{lt-ltb, le-ltb}
-use borrow.Author.Rules.{rules}
 use Rattle.plan_judge.proofs.order.is_late.Goals as goal
 
 pub returns-then-number-gt64 : goal.returns-then-number-gt64

@@ -1,13 +1,10 @@
 use Prim.Native.Nat.{◌-◌}
-use mathlib.Core.Path.{◌≡◌, refl, sym, ◌∙◌}
-use native.Mathlib.Omega.{arith}
+use mathlib.Core.Path.{◌≡◌}
 use lib.ListN.{length, drop}
 use Rattle.laws.specs.Lists.{any_of}
 use Rattle.laws.specs.Split.{before}
 use Rattle.plan.specs.Value.{items}
 use Rattle.plan_judge.specs.Private.Arrays.{is_late}
-use Rattle.plan_judge.proofs.ItemLaws.{search-stop, search-out, search-hit, search-pass}
-use borrow.Author.Rules.{rules}
 use Rattle.plan_judge.proofs.order.lists_late.Given as goal
 
 abbrev pub invariant-loop-i : goal.invariant-loop-i

@@ -1,7 +1,6 @@
 use mathlib.Core.Path.{ap}
 use mathlib.Core.Bool.{not}
 use Rattle.plan.proofs.PlanRows.{part-row}
-use borrow.Author.Rules.{rules}
 use Rattle.plan_judge.proofs.order.row_in_order.Goals as goal
 
 pub returns : goal.returns

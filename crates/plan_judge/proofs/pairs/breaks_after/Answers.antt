@@ -1,5 +1,4 @@
 use borrow.Author.Tests.{lt-ltb, le-ltb}
-use borrow.Author.Rules.{rules}
 use Rattle.plan_judge.proofs.pairs.breaks_after.Goals as goal
 
 pub returns-then-begin-a : goal.returns-then-begin-a

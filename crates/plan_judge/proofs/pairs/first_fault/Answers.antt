@@ -1,11 +1,8 @@
-use Prim.Native.Nat.{◌-◌}
 use mathlib.Core.Path.{refl}
 use native.Mathlib.Omega.{arith}
 use Rattle.plan.specs.Pairs.{pairs_fault, first_fault}
-use Rattle.plan_judge.specs.Tasks.{tasks_in}
-use Rattle.plan_judge.proofs.PairLaws.{RowsFrom, PairsFrom, pair-passed, row-passed, pair_found, none_found}
+use Rattle.plan_judge.proofs.PairLaws.{pair-passed, row-passed, pair_found, none_found}
 use Rattle.plan_judge.proofs.OrderLaws.{pair-in-order, passed_over}
-use borrow.Author.Rules.{rules}
 use Rattle.plan_judge.proofs.pairs.first_fault.Goals as goal
 
 pub in_order-ordered-requires : goal.in_order-ordered-requires

@@ -1,11 +1,6 @@
 use Prim.Native.Nat.{◌-◌}
-use mathlib.Core.Path.{refl}
-use native.Mathlib.Omega.{arith}
-use Rattle.plan.specs.Pairs.{pairs_fault, first_fault}
 use Rattle.plan_judge.specs.Tasks.{tasks_in}
-use Rattle.plan_judge.proofs.PairLaws.{RowsFrom, PairsFrom, pair-passed, row-passed, pair_found, none_found}
-use Rattle.plan_judge.proofs.OrderLaws.{pair-in-order, passed_over}
-use borrow.Author.Rules.{rules}
+use Rattle.plan_judge.proofs.PairLaws.{RowsFrom, PairsFrom}
 use Rattle.plan_judge.proofs.pairs.first_fault.Given as goal
 
 abbrev pub invariant-loop-b : goal.invariant-loop-b

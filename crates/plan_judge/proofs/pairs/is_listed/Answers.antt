@@ -1,11 +1,5 @@
-use Prim.Native.Nat.{◌≤◌, ◌-◌}
-use mathlib.Core.Path.{◌≡◌, refl}
-use lib.ListN.{length, drop}
-use Rattle.laws.specs.Lists.{any_of}
-use Rattle.laws.specs.Split.{before}
-use Rattle.plan.specs.Value.{items}
+use mathlib.Core.Path.{refl}
 use Rattle.plan_judge.proofs.ItemLaws.{search-stop, search-out, search-hit, search-pass}
-use lib.Dec.{eqb}
 use borrow.Author.Tests.{eq-eqb, ne_eqb}
 use Rattle.plan.specs.Pairs.{is_listed}
 use borrow.Author.Rules.{rules}

@@ -1,5 +1,4 @@
 use Rattle.plan.proofs.PlanRows.{part-row}
-use borrow.Author.Rules.{rules}
 use Rattle.plan_judge.proofs.pairs.lists.Goals as goal
 
 pub returns : goal.returns

@@ -1,4 +1,3 @@
-use borrow.Author.Rules.{rules}
 use Rattle.plan_judge.proofs.pairs.meet_on_drive.Goals as goal
 
 pub returns-then-met : goal.returns-then-met

@@ -1,10 +1,5 @@
-use Prim.Native.Nat.{◌-◌}
-use mathlib.Core.Path.{◌≡◌}
-use mathlib.Core.Bool.{true}
 use borrow.Author.Tests.{not-false}
-use Rattle.plan_judge.specs.Private.Arrays.{PassedOver}
 use Rattle.plan_judge.proofs.OrderLaws.{none_over, one-over}
-use borrow.Author.Rules.{rules}
 use Rattle.plan_judge.proofs.pairs.next_pair.Goals as goal
 
 pub returns-then-not-ordered : goal.returns-then-not-ordered

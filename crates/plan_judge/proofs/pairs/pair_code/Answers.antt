@@ -1,6 +1,5 @@
 use mathlib.Core.Path.{refl}
 use Rattle.plan_judge.proofs.PairLaws.{pair-6, pair-7, pair-8-this, pair-8-that, pair-0}
-use borrow.Author.Rules.{rules}
 use Rattle.plan_judge.proofs.pairs.pair_code.Goals as goal
 
 pub returns-then-met-board : goal.returns-then-met-board

@@ -1,5 +1,4 @@
 use Rattle.plan_judge.proofs.StartLaws.{answered-late, answered-pairs}
-use borrow.Author.Rules.{rules}
 use Rattle.plan_judge.proofs.tasks.judge_kept.Goals as goal
 
 pub returns-then-least-ne0 : goal.returns-then-least-ne0

@@ -2,7 +2,6 @@ use mathlib.Core.Bool.{Bool, ◌&&◌}
 use mathlib.Core.Path.{ap, ◌∙◌}
 use Rattle.text_fields.specs.Items.{between}
 use Rattle.plan_judge.proofs.PlaceLaws.{tasks-nine, tasks-in-range, tasks-judged}
-use borrow.Author.Rules.{rules}
 use Rattle.plan_judge.proofs.tasks.judge_tasks.Goals as goal
 
 pub returns-then-not-tasks-places_ok : goal.returns-then-not-tasks-places_ok

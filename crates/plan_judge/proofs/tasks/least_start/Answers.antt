@@ -1,7 +1,5 @@
-use Prim.Native.Nat.{◌-◌, ◌≤◌}
 use native.Mathlib.Omega.{arith}
-use Rattle.plan_judge.proofs.StartLaws.{LeastTo, least_first, least-next, least-out}
-use borrow.Author.Rules.{rules}
+use Rattle.plan_judge.proofs.StartLaws.{least_first, least-next, least-out}
 use Rattle.plan_judge.proofs.tasks.least_start.Goals as goal
 
 pub loop-k-init : goal.loop-k-init

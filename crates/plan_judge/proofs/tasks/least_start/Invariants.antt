@@ -1,7 +1,5 @@
 use Prim.Native.Nat.{◌-◌, ◌≤◌}
-use native.Mathlib.Omega.{arith}
-use Rattle.plan_judge.proofs.StartLaws.{LeastTo, least_first, least-next, least-out}
-use borrow.Author.Rules.{rules}
+use Rattle.plan_judge.proofs.StartLaws.{LeastTo}
 use Rattle.plan_judge.proofs.tasks.least_start.Given as goal
 
 abbrev pub invariant-loop-k : goal.invariant-loop-k

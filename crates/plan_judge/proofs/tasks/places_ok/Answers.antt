@@ -1,8 +1,5 @@
-use Prim.Native.Nat.{◌-◌}
 use mathlib.Core.Path.{refl}
-use lib.ListN.{length}
-use Rattle.plan_judge.proofs.PlaceLaws.{PlacesRest, places-turn, places-out}
-use borrow.Author.Rules.{rules}
+use Rattle.plan_judge.proofs.PlaceLaws.{places-turn, places-out}
 use Rattle.plan_judge.proofs.tasks.places_ok.Goals as goal
 
 pub loop-i-init : goal.loop-i-init

@@ -1,8 +1,6 @@
 use Prim.Native.Nat.{◌-◌}
-use mathlib.Core.Path.{refl}
 use lib.ListN.{length}
-use Rattle.plan_judge.proofs.PlaceLaws.{PlacesRest, places-turn, places-out}
-use borrow.Author.Rules.{rules}
+use Rattle.plan_judge.proofs.PlaceLaws.{PlacesRest}
 use Rattle.plan_judge.proofs.tasks.places_ok.Given as goal
 
 abbrev pub invariant-loop-i : goal.invariant-loop-i

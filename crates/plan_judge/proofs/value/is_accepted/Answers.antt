@@ -1,5 +1,4 @@
 use Rattle.plan_judge.proofs.ValueLaws.{kept-in-range, not-kept, accepted-by}
-use borrow.Author.Rules.{rules}
 use Rattle.plan_judge.proofs.value.is_accepted.Goals as goal
 
 pub returns-then-not-keeps_ranges : goal.returns-then-not-keeps_ranges

@@ -1,6 +1,5 @@
 use mathlib.Core.Path.{◌∙◌}
 use Rattle.plan_judge.proofs.ValueLaws.{judged-nine, kept-in-range, judged-tasks}
-use borrow.Author.Rules.{rules}
 use Rattle.plan_judge.proofs.value.judge_plan.Goals as goal
 
 pub returns-then-not-keeps_ranges : goal.returns-then-not-keeps_ranges

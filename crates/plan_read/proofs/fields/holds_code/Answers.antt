@@ -1,4 +1,3 @@
-use borrow.Author.Rules.{rules}
 use Rattle.plan_read.proofs.TailLaws.{holds-twenty, holds-other}
 use Rattle.plan_read.proofs.fields.holds_code.Goals as goal
 

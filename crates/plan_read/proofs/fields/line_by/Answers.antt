@@ -1,4 +1,3 @@
-use borrow.Author.Rules.{rules}
 use mathlib.Core.Path.{◌∙◌}
 use Rattle.plan_read.proofs.LineLaws.{by-refused, by-says}
 use Rattle.plan_read.proofs.fields.line_by.Goals as goal

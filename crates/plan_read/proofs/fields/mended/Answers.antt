@@ -1,4 +1,3 @@
-use borrow.Author.Rules.{rules}
 use Rattle.plan_read.proofs.TailLaws.{mended-not, mended-is}
 use Rattle.plan_read.proofs.fields.mended.Goals as goal
 

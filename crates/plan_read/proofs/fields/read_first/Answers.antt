@@ -1,4 +1,3 @@
-use borrow.Author.Rules.{rules}
 use mathlib.Core.Path.{◌∙◌}
 use Rattle.plan_read.proofs.LineLaws.{first-is}
 use Rattle.plan_read.proofs.TailLaws.{tail-moves}

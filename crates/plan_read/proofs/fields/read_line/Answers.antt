@@ -1,4 +1,3 @@
-use borrow.Author.Rules.{rules}
 use mathlib.Core.Path.{◌∙◌}
 use Rattle.plan_read.proofs.CutLaws.{head-cut, line-rest}
 use Rattle.plan_read.proofs.LineLaws.{line_second, line_first}

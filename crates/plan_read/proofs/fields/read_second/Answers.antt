@@ -1,4 +1,3 @@
-use borrow.Author.Rules.{rules}
 use mathlib.Core.Path.{◌∙◌}
 use Rattle.text.proofs.Parts.{skip-next}
 use Rattle.plan_read.proofs.LineLaws.{second_is}

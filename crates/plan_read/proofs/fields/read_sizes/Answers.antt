@@ -1,4 +1,3 @@
-use borrow.Author.Rules.{rules}
 use mathlib.Core.Path.{sym, ◌∙◌}
 use Rattle.plan_read.proofs.SizesLaws.{sizes-count, sizes-word, sizes-off, sizes-in}
 use Rattle.plan_read.proofs.fields.read_sizes.Goals as goal

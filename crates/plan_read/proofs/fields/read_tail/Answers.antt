@@ -1,4 +1,3 @@
-use borrow.Author.Rules.{rules}
 use native.Mathlib.Omega.{arith}
 use Rattle.text_fields.proofs.RangedLaws.{ranged-small}
 use Rattle.plan_read.proofs.CutLaws.{line-cut}

@@ -1,6 +1,5 @@
 use mathlib.Core.Path.{ap, ◌∙◌}
 use Rattle.plan_read.proofs.FormLaws.{refused_reading, reading-long, reading-no-line, reading-no-sizes, first_read}
-use borrow.Author.Rules.{rules}
 use Rattle.plan_read.proofs.lines.read_lines.Goals as goal
 
 pub returns-then-text-gt-TEXT_MOST : goal.returns-then-text-gt-TEXT_MOST

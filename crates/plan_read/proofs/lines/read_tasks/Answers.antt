@@ -1,9 +1,8 @@
 use borrow.Author.Rules.{rules}
-use Prim.Native.Nat.{◌-◌, ◌≤◌}
 use mathlib.Core.Path.{ap, ◌∙◌}
 use native.Mathlib.Omega.{arith}
 use Rattle.plan_read.proofs.FormLaws.{refused_reading}
-use Rattle.plan_read.proofs.TaskLaws.{Going, going_start, past-line, going-refused, column-small, going-turn, going_more, going_end, board-small, holds-room, after-room, holds-whole, after-whole}
+use Rattle.plan_read.proofs.TaskLaws.{going_start, past-line, going-refused, column-small, going-turn, going_more, going_end, board-small, holds-room, after-room, holds-whole, after-whole}
 use Rattle.plan_read.proofs.lines.read_tasks.Goals as goal
 
 pub loop-k-init : goal.loop-k-init

@@ -1,6 +1,5 @@
 use mathlib.Core.Path.{ap}
 use Rattle.plan.specs.declared.Plan.{Plan}
-use borrow.Author.Rules.{rules}
 use Rattle.plan_read.proofs.lines.refused.Goals as goal
 
 pub returns : goal.returns

@@ -1,6 +1,5 @@
 use native.Mathlib.Omega.{arith}
 use Rattle.plan_write.proofs.WriteLaws.{letter-length, plain-length}
-use borrow.Author.Rules.{rules}
 use Rattle.plan_write.proofs.measure.item_len.Goals as goal
 
 pub returns-then-lettered : goal.returns-then-lettered

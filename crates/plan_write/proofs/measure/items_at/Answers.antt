@@ -1,6 +1,5 @@
 use mathlib.Core.Path.{◌∙◌}
 use Rattle.plan_write.proofs.WriteLaws.{part-items}
-use borrow.Author.Rules.{rules}
 use Rattle.plan_write.proofs.measure.items_at.Goals as goal
 
 pub returns : goal.returns

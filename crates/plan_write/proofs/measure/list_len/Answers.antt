@@ -1,11 +1,7 @@
-use Prim.Native.Nat.{◌+◌, ◌-◌, ◌*◌, ◌≤◌}
-use mathlib.Core.Path.{◌≡◌, sym, ap}
+use mathlib.Core.Path.{sym, ap}
 use native.Mathlib.Omega.{arith}
-use lib.ListN.{length, drop}
-use Rattle.text_fields.specs.Items.{list_text}
-use Rattle.plan_write.specs.Private.WriteParts.{item_text}
-use Rattle.plan_write.proofs.WriteLaws.{later_text, list-none, len-start, len-turn, len-end}
-use borrow.Author.Rules.{rules}
+use lib.ListN.{length}
+use Rattle.plan_write.proofs.WriteLaws.{list-none, len-start, len-turn, len-end}
 use Rattle.plan_write.proofs.measure.list_len.Goals as goal
 
 pub returns-then-items-eq0 : goal.returns-then-items-eq0

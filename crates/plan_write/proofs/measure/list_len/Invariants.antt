@@ -1,11 +1,9 @@
 use Prim.Native.Nat.{◌+◌, ◌-◌, ◌*◌, ◌≤◌}
-use mathlib.Core.Path.{◌≡◌, sym, ap}
-use native.Mathlib.Omega.{arith}
+use mathlib.Core.Path.{◌≡◌}
 use lib.ListN.{length, drop}
 use Rattle.text_fields.specs.Items.{list_text}
 use Rattle.plan_write.specs.Private.WriteParts.{item_text}
-use Rattle.plan_write.proofs.WriteLaws.{later_text, list-none, len-start, len-turn, len-end}
-use borrow.Author.Rules.{rules}
+use Rattle.plan_write.proofs.WriteLaws.{later_text}
 use Rattle.plan_write.proofs.measure.list_len.Given as goal
 
 abbrev pub invariant-loop-i : goal.invariant-loop-i

@@ -2,7 +2,6 @@ use mathlib.Core.Path.{ap}
 use native.Mathlib.Omega.{arith}
 use lib.ListN.{length, length-append}
 use Rattle.plan_write.proofs.WriteLaws.{ready-stands, ready-none}
-use borrow.Author.Rules.{rules}
 use Rattle.plan_write.proofs.measure.ready_len.Goals as goal
 
 pub returns-then-edition-eq2 : goal.returns-then-edition-eq2

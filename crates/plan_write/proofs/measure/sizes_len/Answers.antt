@@ -1,6 +1,5 @@
 use native.Mathlib.Omega.{arith}
 use Rattle.plan_write.proofs.WriteLaws.{sizes-length}
-use borrow.Author.Rules.{rules}
 use Rattle.plan_write.proofs.measure.sizes_len.Goals as goal
 
 pub returns : goal.returns

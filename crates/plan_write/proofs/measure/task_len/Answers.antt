@@ -2,7 +2,6 @@ use Prim.Native.Nat.{◌+◌}
 use native.Mathlib.Omega.{arith}
 use Rattle.plan_write.specs.Private.WriteParts.{tasks_in}
 use Rattle.plan_write.proofs.WriteLaws.{few-items, task-length}
-use borrow.Author.Rules.{rules}
 use Rattle.plan_write.proofs.measure.task_len.Goals as goal
 
 pub list_len-held-requires : goal.list_len-held-requires

@@ -1,12 +1,8 @@
-use Prim.Native.Nat.{◌-◌, ◌*◌, ◌≤◌}
-use mathlib.Core.Path.{◌≡◌, refl}
+use mathlib.Core.Path.{refl}
 use native.Mathlib.Omega.{arith}
-use lib.ListN.{length}
 use Rattle.text.specs.Line.{lines_below}
-use Rattle.plan.specs.Write.{task_texts}
 use Rattle.plan_write.specs.Private.WriteParts.{tasks_in}
 use Rattle.plan_write.proofs.WriteLaws.{texts-length, all-length}
-use borrow.Author.Rules.{rules}
 use Rattle.plan_write.proofs.measure.tasks_len.Goals as goal
 
 pub loop-k-init : goal.loop-k-init
@@ -14,13 +10,12 @@ unfolding lines_below
 loop-k-init c = (omega arith, omega arith, refl)
 
 pub loop-k-preserved : goal.loop-k-preserved
-loop-k-preserved c =
-    (
-      omega arith,
-      omega arith,
-      omega
-          (arith, texts-length c.args.edition (tasks_in c.args.board.now c.args.ready.now c.args.begin.now c.args.finish.now c.args.holds.now c.args.after.now) c.loop-k.k),
-    )
+loop-k-preserved c = (
+  omega arith,
+  omega arith,
+  omega
+      (arith, texts-length c.args.edition (tasks_in c.args.board.now c.args.ready.now c.args.begin.now c.args.finish.now c.args.holds.now c.args.after.now) c.loop-k.k),
+)
 
 pub returns : goal.returns
 returns c = record { is = all-length _ _ c.loop-k.invariant.0 c.loop-k-test.false c.loop-k.invariant.2; small = omega arith }

@@ -1,12 +1,8 @@
 use Prim.Native.Nat.{◌-◌, ◌*◌, ◌≤◌}
-use mathlib.Core.Path.{◌≡◌, refl}
-use native.Mathlib.Omega.{arith}
+use mathlib.Core.Path.{◌≡◌}
 use lib.ListN.{length}
-use Rattle.text.specs.Line.{lines_below}
 use Rattle.plan.specs.Write.{task_texts}
 use Rattle.plan_write.specs.Private.WriteParts.{tasks_in}
-use Rattle.plan_write.proofs.WriteLaws.{texts-length, all-length}
-use borrow.Author.Rules.{rules}
 use Rattle.plan_write.proofs.measure.tasks_len.Given as goal
 
 abbrev pub invariant-loop-k : goal.invariant-loop-k

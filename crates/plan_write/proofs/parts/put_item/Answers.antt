@@ -2,7 +2,6 @@ use mathlib.Core.List.{[], ◌∷◌}
 use Rattle.laws.specs.Digits.{digits_of}
 use Rattle.plan_write.proofs.RunLaws.{all_left, put, done}
 use Rattle.plan_write.proofs.WriteLaws.{letter-item, plain-item}
-use borrow.Author.Rules.{rules}
 use Rattle.plan_write.proofs.parts.put_item.Goals as goal
 
 pub returns-then-lettered : goal.returns-then-lettered

@@ -1,12 +1,9 @@
 use mathlib.Core.List.{[], ◌∷◌}
-use Rattle.text_fields.specs.Items.{NONE}
 use Prim.Native.Nat.{◌-◌}
-use mathlib.Core.Path.{◌∙◌}
-use lib.ListN.{length, get_or, drop}
+use lib.ListN.{length, drop}
 use Rattle.plan_write.specs.Private.WriteParts.{item_text}
-use Rattle.plan_write.proofs.RunLaws.{Left, one, two, all_left, next-room, put, turn, done_at, done, wrote-length}
-use Rattle.plan_write.proofs.WriteLaws.{later_text, list-none, list-some, next-item, later-end}
-use borrow.Author.Rules.{rules}
+use Rattle.plan_write.proofs.RunLaws.{Left}
+use Rattle.plan_write.proofs.WriteLaws.{later_text}
 use Rattle.plan_write.proofs.parts.put_items.Given as goal
 
 abbrev pub invariant-loop-i : goal.invariant-loop-i

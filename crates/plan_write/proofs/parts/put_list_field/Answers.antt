@@ -1,5 +1,4 @@
 use Rattle.plan_write.proofs.RunLaws.{two, all_left, next-room, put, turn, done}
-use borrow.Author.Rules.{rules}
 use Rattle.plan_write.proofs.parts.put_list_field.Goals as goal
 
 pub put_items-next-requires : goal.put_items-next-requires

@@ -2,7 +2,6 @@ use mathlib.Core.List.{[], ◌∷◌}
 use Rattle.text_fields.specs.Items.{COMMA}
 use Rattle.plan_write.specs.Private.WriteParts.{item_text}
 use Rattle.plan_write.proofs.RunLaws.{two, all_left, next-room, put, turn, done}
-use borrow.Author.Rules.{rules}
 use Rattle.plan_write.proofs.parts.put_next_item.Goals as goal
 
 pub put_item-requires : goal.put_item-requires

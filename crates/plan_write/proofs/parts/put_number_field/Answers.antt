@@ -1,7 +1,6 @@
 use mathlib.Core.List.{[], ◌∷◌}
 use Rattle.laws.specs.Digits.{digits_of}
 use Rattle.plan_write.proofs.RunLaws.{two, all_left, put, done}
-use borrow.Author.Rules.{rules}
 use Rattle.plan_write.proofs.parts.put_number_field.Goals as goal
 
 pub returns : goal.returns

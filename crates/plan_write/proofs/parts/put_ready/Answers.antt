@@ -1,6 +1,5 @@
 use Rattle.plan_write.proofs.RunLaws.{nothing}
 use Rattle.plan_write.proofs.WriteLaws.{ready-stands, ready-none}
-use borrow.Author.Rules.{rules}
 use Rattle.plan_write.proofs.parts.put_ready.Goals as goal
 
 pub put_number_field-requires : goal.put_number_field-requires

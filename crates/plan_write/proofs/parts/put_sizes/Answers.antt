@@ -1,6 +1,5 @@
 use Rattle.plan_write.proofs.RunLaws.{all_left, next-room, put, turn, done, wrote-length}
 use Rattle.plan_write.proofs.WriteLaws.{sizes-text}
-use borrow.Author.Rules.{rules}
 use Rattle.plan_write.proofs.parts.put_sizes.Goals as goal
 
 pub put_number_field-first-requires : goal.put_number_field-first-requires

@@ -1,6 +1,5 @@
 use Rattle.plan_write.proofs.RunLaws.{all_left, next-room, put, turn, done, wrote-length}
 use Rattle.plan_write.proofs.WriteLaws.{task-text}
-use borrow.Author.Rules.{rules}
 use Rattle.plan_write.proofs.parts.put_task.Goals as goal
 
 pub put_numbers-numbers-requires : goal.put_numbers-numbers-requires

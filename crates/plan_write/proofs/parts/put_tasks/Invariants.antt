@@ -1,10 +1,6 @@
 use Prim.Native.Nat.{◌-◌, ◌≤◌}
-use native.Mathlib.Omega.{arith}
 use Rattle.plan.specs.Write.{task_texts}
 use Rattle.plan_write.specs.Private.WriteParts.{tasks_in, Wrote}
-use Rattle.plan_write.proofs.RunLaws.{also, wrote-length}
-use Rattle.plan_write.proofs.WriteLaws.{texts-turn, task-room, all-written, none_written}
-use borrow.Author.Rules.{rules}
 use Rattle.plan_write.proofs.parts.put_tasks.Given as goal
 
 abbrev pub invariant-loop-k : goal.invariant-loop-k

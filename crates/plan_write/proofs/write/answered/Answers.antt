@@ -1,4 +1,3 @@
-use borrow.Author.Rules.{rules}
 use Rattle.plan_write.proofs.write.answered.Goals as goal
 
 pub returns : goal.returns

@@ -1,5 +1,4 @@
 use Rattle.plan_write.proofs.WriteLaws.{few_tasks, sixteen, head-room, body-room, granted-text}
-use borrow.Author.Rules.{rules}
 use Rattle.plan_write.proofs.write.write_accepted.Goals as goal
 
 pub tasks_len-requires : goal.tasks_len-requires

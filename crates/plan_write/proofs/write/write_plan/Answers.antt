@@ -1,5 +1,4 @@
 use Rattle.plan_write.proofs.WriteLaws.{nine, yes-accepted}
-use borrow.Author.Rules.{rules}
 use Rattle.plan_write.proofs.write.write_plan.Goals as goal
 
 pub returns-then-not-is_accepted : goal.returns-then-not-is_accepted

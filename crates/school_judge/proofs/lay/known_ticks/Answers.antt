@@ -1,11 +1,6 @@
 use Rattle.school_judge.proofs.FoundLaws.{laid_out}
 use native.Mathlib.Omega.{arith}
-use Prim.Native.Nat.{◌-◌, ◌≤◌}
-use mathlib.Core.Path.{◌≡◌}
-use Rattle.school_judge.specs.Private.Laid.{tick_in}
-use Rattle.book_view.specs.View.{laid}
 use Rattle.book_view.proofs.Laid.{laid-first, laid_more}
-use borrow.Author.Rules.{rules}
 use Rattle.school_judge.proofs.lay.known_ticks.Goals as goal
 
 pub loop-i-init : goal.loop-i-init

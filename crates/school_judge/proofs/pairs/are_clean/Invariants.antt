@@ -1,13 +1,9 @@
-use native.Mathlib.Omega.{arith}
 use Prim.Native.Nat.{◌-◌, ◌≤◌}
-use mathlib.Core.Path.{◌≡◌, sym, ap, ◌∙◌}
+use mathlib.Core.Path.{◌≡◌}
 use mathlib.Core.Bool.{true, not}
 use Rattle.plan.specs.Value.{at}
 use Rattle.school_judge.specs.Tests.{is_sooner_by}
-use Rattle.school_judge.proofs.PairLaws.{every-none}
-use Rattle.laws.proofs.Every.{every-pass, every-out, every-not}
 use Rattle.laws.specs.Every.{every, any}
-use borrow.Author.Rules.{rules}
 use Rattle.school_judge.proofs.pairs.are_clean.Given as goal
 
 abbrev pub invariant-loop-j : goal.invariant-loop-j

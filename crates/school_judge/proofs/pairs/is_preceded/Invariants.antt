@@ -1,14 +1,10 @@
-use Rattle.school_judge.proofs.PairLaws.{any_none, any-grow, any_out}
-use native.Mathlib.Omega.{arith}
 use Prim.Native.Nat.{◌-◌, ◌≤◌}
 use lib.Dec.{ltb}
 use mathlib.Core.Path.{◌≡◌}
 use mathlib.Core.Bool.{◌&&◌}
-use Rattle.school_judge.proofs.PairLaws.{own-bit}
 use Rattle.plan.specs.Value.{at}
 use Rattle.laws.specs.Every.{any}
 use Rattle.laws.specs.Bits.{has}
-use borrow.Author.Rules.{rules}
 use Rattle.school_judge.proofs.pairs.is_preceded.Given as goal
 
 abbrev pub invariant-loop-i : goal.invariant-loop-i

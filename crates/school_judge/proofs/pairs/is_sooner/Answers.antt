@@ -2,7 +2,6 @@ use native.Mathlib.Omega.{arith}
 use lib.Dec.{ltb}
 use Rattle.plan.specs.Value.{at}
 use Rattle.school_judge.proofs.PairLaws.{own-bit}
-use borrow.Author.Rules.{rules}
 use Rattle.school_judge.proofs.pairs.is_sooner.Goals as goal
 
 pub returns : goal.returns

@@ -1,10 +1,6 @@
 use native.Mathlib.Omega.{arith}
-use Prim.Native.Nat.{◌-◌, ◌≤◌}
 use mathlib.Core.Path.{sym, ◌∙◌}
-use Rattle.plan.specs.Value.{at}
-use Rattle.school_judge.specs.Tests.{is_against_by}
-use Rattle.school_judge.proofs.PairLaws.{Rest, rows-first, rows-turn, rows-hit, rows_out, clean-none}
-use borrow.Author.Rules.{rules}
+use Rattle.school_judge.proofs.PairLaws.{rows-first, rows-turn, rows-hit, rows_out, clean-none}
 use Rattle.school_judge.proofs.pairs.pairs_fault.Goals as goal
 
 pub returns-then-are_clean : goal.returns-then-are_clean

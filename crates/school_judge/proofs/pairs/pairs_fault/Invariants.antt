@@ -1,10 +1,7 @@
-use native.Mathlib.Omega.{arith}
 use Prim.Native.Nat.{◌-◌, ◌≤◌}
-use mathlib.Core.Path.{sym, ◌∙◌}
 use Rattle.plan.specs.Value.{at}
 use Rattle.school_judge.specs.Tests.{is_against_by}
-use Rattle.school_judge.proofs.PairLaws.{Rest, rows-first, rows-turn, rows-hit, rows_out, clean-none}
-use borrow.Author.Rules.{rules}
+use Rattle.school_judge.proofs.PairLaws.{Rest}
 use Rattle.school_judge.proofs.pairs.pairs_fault.Given as goal
 
 abbrev pub invariant-loop-a : goal.invariant-loop-a

@@ -1,10 +1,7 @@
-use Rattle.school_judge.proofs.PairLaws.{both}
-use native.Mathlib.Omega.{arith}
 use Prim.Native.Nat.{◌-◌, ◌≤◌}
 use Rattle.plan.specs.Value.{at}
 use Rattle.school_judge.specs.Tests.{is_against_by}
-use Rattle.school_judge.proofs.PairLaws.{RowRest, row_first, row-turn, row-hit, row_out}
-use borrow.Author.Rules.{rules}
+use Rattle.school_judge.proofs.PairLaws.{RowRest}
 use Rattle.school_judge.proofs.pairs.row_fault.Given as goal
 
 abbrev pub invariant-loop-b : goal.invariant-loop-b

@@ -1,10 +1,5 @@
 use native.Mathlib.Omega.{arith}
-use Prim.Native.Nat.{◌-◌, ◌≤◌}
-use mathlib.Core.Path.{◌≡◌}
-use Rattle.school_judge.specs.Tests.{is_amiss}
-use Rattle.theory.specs.Times.{lowest}
-use Rattle.theory.proofs.Lowest.{lowest_from, lowest-first, lowest-turn, lowest-hit, lowest-out}
-use borrow.Author.Rules.{rules}
+use Rattle.theory.proofs.Lowest.{lowest-first, lowest-turn, lowest-hit, lowest-out}
 use Rattle.school_judge.proofs.tasks.amiss.Goals as goal
 
 pub loop-i-init : goal.loop-i-init

@@ -1,10 +1,8 @@
-use native.Mathlib.Omega.{arith}
 use Prim.Native.Nat.{◌-◌, ◌≤◌}
 use mathlib.Core.Path.{◌≡◌}
 use Rattle.school_judge.specs.Tests.{is_amiss}
 use Rattle.theory.specs.Times.{lowest}
-use Rattle.theory.proofs.Lowest.{lowest_from, lowest-first, lowest-turn, lowest-hit, lowest-out}
-use borrow.Author.Rules.{rules}
+use Rattle.theory.proofs.Lowest.{lowest_from}
 use Rattle.school_judge.proofs.tasks.amiss.Given as goal
 
 abbrev pub invariant-loop-i : goal.invariant-loop-i

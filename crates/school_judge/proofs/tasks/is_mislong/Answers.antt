@@ -1,7 +1,6 @@
 use Prim.Native.Nat.{◌-◌}
 use native.Mathlib.Omega.{arith}
 use Rattle.school_judge.proofs.LengthLaws.{mislong-of}
-use borrow.Author.Rules.{rules}
 use Rattle.school_judge.proofs.tasks.is_mislong.Goals as goal
 
 pub returns-then-end-start : goal.returns-then-end-start

@@ -1,13 +1,11 @@
-use native.Mathlib.Omega.{arith}
 use Prim.Native.Nat.{◌-◌, ◌≤◌}
-use mathlib.Core.Path.{◌≡◌, sym, ◌∙◌}
+use mathlib.Core.Path.{◌≡◌}
 use mathlib.Core.List.{[]}
 use Rattle.school_judge.specs.Tests.{times_of}
 use Rattle.school.specs.Tests.{is_mislong}
 use Rattle.plan.specs.Value.{at}
 use Rattle.theory.specs.Times.{lowest}
-use Rattle.theory.proofs.Lowest.{lowest_from, lowest-first, lowest-turn, lowest-hit, lowest-out}
-use borrow.Author.Rules.{rules}
+use Rattle.theory.proofs.Lowest.{lowest_from}
 use Rattle.school_judge.proofs.tasks.mislong.Given as goal
 
 abbrev pub invariant-loop-i : goal.invariant-loop-i

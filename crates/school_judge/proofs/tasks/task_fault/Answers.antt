@@ -1,6 +1,5 @@
 use mathlib.Core.Path.{◌∙◌}
 use borrow.Author.Tests.{eq-eqb, ne_eqb}
-use borrow.Author.Rules.{rules}
 use Rattle.school_judge.proofs.tasks.task_fault.Goals as goal
 
 pub returns-then-task-eq0 : goal.returns-then-task-eq0

@@ -1,13 +1,5 @@
 use native.Mathlib.Omega.{arith}
-use Prim.Native.Nat.{◌-◌, ◌≤◌}
-use mathlib.Core.Path.{◌≡◌}
-use mathlib.Core.List.{[]}
-use Rattle.school_judge.specs.Tests.{times_of}
-use Rattle.school.specs.Tests.{is_untimely}
-use Rattle.plan.specs.Value.{at}
-use Rattle.theory.specs.Times.{lowest}
-use Rattle.theory.proofs.Lowest.{lowest_from, lowest-first, lowest-turn, lowest-hit, lowest-out}
-use borrow.Author.Rules.{rules}
+use Rattle.theory.proofs.Lowest.{lowest-first, lowest-turn, lowest-hit, lowest-out}
 use Rattle.school_judge.proofs.tasks.untimely.Goals as goal
 
 pub loop-i-init : goal.loop-i-init

@@ -1,4 +1,3 @@
-use native.Mathlib.Omega.{arith}
 use Prim.Native.Nat.{◌-◌, ◌≤◌}
 use mathlib.Core.Path.{◌≡◌}
 use mathlib.Core.List.{[]}
@@ -6,8 +5,7 @@ use Rattle.school_judge.specs.Tests.{times_of}
 use Rattle.school.specs.Tests.{is_untimely}
 use Rattle.plan.specs.Value.{at}
 use Rattle.theory.specs.Times.{lowest}
-use Rattle.theory.proofs.Lowest.{lowest_from, lowest-first, lowest-turn, lowest-hit, lowest-out}
-use borrow.Author.Rules.{rules}
+use Rattle.theory.proofs.Lowest.{lowest_from}
 use Rattle.school_judge.proofs.tasks.untimely.Given as goal
 
 abbrev pub invariant-loop-i : goal.invariant-loop-i

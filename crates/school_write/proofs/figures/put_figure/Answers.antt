@@ -5,7 +5,6 @@ use mathlib.Core.Path.{sym, subst}
 use Prim.Native.Nat.{◌≤◌}
 use Rattle.school_write.proofs.LineLaws.{after-tab, figure-wrote}
 use Rattle.school_write.proofs.SignedLaws.{small-difference}
-use borrow.Author.Rules.{rules}
 use Rattle.school_write.proofs.figures.put_figure.Goals as goal
 
 pub put_signed-past_early-requires : goal.put_signed-past_early-requires

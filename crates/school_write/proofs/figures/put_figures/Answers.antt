@@ -1,8 +1,6 @@
 use native.Mathlib.Omega.{arith}
-use Prim.Native.Nat.{◌-◌, ◌≤◌}
 use Rattle.log_write.proofs.WriteLaws.{wrote-length}
-use Rattle.school_write.proofs.LineLaws.{Below, figures-none, figures-turn, figures-room, figures-end}
-use borrow.Author.Rules.{rules}
+use Rattle.school_write.proofs.LineLaws.{figures-none, figures-turn, figures-room, figures-end}
 use Rattle.school_write.proofs.figures.put_figures.Goals as goal
 
 pub loop-number-init : goal.loop-number-init

@@ -1,5 +1,4 @@
 use Rattle.school_write.proofs.LineLaws.{known-none, known-line}
-use borrow.Author.Rules.{rules}
 use Rattle.school_write.proofs.figures.put_known.Goals as goal
 
 pub returns-then-known-ne1 : goal.returns-then-known-ne1

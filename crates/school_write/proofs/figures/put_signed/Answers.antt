@@ -1,6 +1,5 @@
 use Rattle.school_write.proofs.SignedLaws.{size-read, sign_read}
 use Rattle.school_write.proofs.LineLaws.{signed_below, signed_above}
-use borrow.Author.Rules.{rules}
 use Rattle.school_write.proofs.figures.put_signed.Goals as goal
 
 pub returns-then-is_below_zero : goal.returns-then-is_below_zero

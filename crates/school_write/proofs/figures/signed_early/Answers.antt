@@ -1,5 +1,4 @@
 use Rattle.school_write.proofs.SignedLaws.{early-fits, early_is}
-use borrow.Author.Rules.{rules}
 use Rattle.school_write.proofs.figures.signed_early.Goals as goal
 
 pub overflow_sub-result : goal.overflow_sub-result

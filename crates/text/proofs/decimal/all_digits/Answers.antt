@@ -1,8 +1,3 @@
-use borrow.Author.Rules.{rules}
-use Prim.Native.Nat.{◌-◌, ◌≤◌}
-use mathlib.Core.Path.{◌≡◌}
-use lib.ListN.{length, drop}
-use Rattle.laws.specs.Lists.{all_of}
 use Rattle.text.specs.Number.{is_digit}
 use Rattle.text.proofs.Spell.{all-stop, all-next, all_done}
 use native.Mathlib.Omega.{arith}

@@ -1,4 +1,3 @@
-use borrow.Author.Rules.{rules}
 use mathlib.Core.Path.{◌∙◌}
 use Rattle.text.proofs.Spell.{number-no, number-rest}
 use Rattle.text.proofs.decimal.is_number.Goals as goal

@@ -1,4 +1,3 @@
-use borrow.Author.Rules.{rules}
 use mathlib.Core.Path.{sym, ap, ◌∙◌}
 use Rattle.text.proofs.Spell.{stop_of, stop-at}
 use Rattle.text.proofs.decimal.number_stop.Goals as goal

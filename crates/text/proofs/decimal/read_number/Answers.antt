@@ -1,15 +1,10 @@
-use borrow.Author.Rules.{rules}
-use Prim.Native.Nat.{◌+◌, ◌-◌, ◌≤◌}
-use mathlib.Core.Path.{◌≡◌, refl, sym, ◌∙◌}
+use mathlib.Core.Path.{refl, sym, ◌∙◌}
 use mathlib.Core.Bool.{true, false}
 use native.Mathlib.Omega.{arith}
-use lib.ListN.{length, drop}
 use borrow.Author.Tests.{not-true, not-false}
-use Rattle.laws.specs.Lists.{all_of, first_not}
 use Rattle.laws.proofs.Lists.{first-stop, first_next, first-end}
-use Rattle.laws.specs.Digits.{value_after}
-use Rattle.text.specs.Number.{is_digit, value_of}
-use Rattle.text.proofs.Spell.{all-stop, all-next, all_done, number-no, number-rest, stop-empty, stop-zero, stop-well, digit-range, held, held-turn, held-end, read-misspelt, read-value, read-over}
+use Rattle.text.specs.Number.{is_digit}
+use Rattle.text.proofs.Spell.{all-stop, all-next, all_done, number-no, number-rest, stop-empty, stop-zero, stop-well, digit-range, held-turn, held-end, read-misspelt, read-value, read-over}
 use Rattle.text.proofs.decimal.read_number.Goals as goal
 
 pub returns-then-field-eq0 : goal.returns-then-field-eq0
@@ -34,14 +29,13 @@ pub grown-v-requires : goal.grown-v-requires
 grown-v-requires c = let d = digit-range _ _ c.is_digit.ensures c.if-not-is_digit.false-raw in (omega arith, d.0, d.1)
 
 pub loop-i-preserved : goal.loop-i-preserved
-loop-i-preserved c =
-    (
-      omega arith,
-      omega arith,
-      all-next is_digit _ _ 0 _ _ c.loop-i-test.true c.is_digit.ensures c.if-not-is_digit.false-raw c.loop-i.invariant.2,
-      held-turn _ _ _ _ _ c.loop-i-test.true c.grown-v.ensures c.loop-i.invariant.3,
-      first_next is_digit _ _ 0 c.loop-i-test.true (sym c.is_digit.ensures ∙ not-false _ c.if-not-is_digit.false-raw) c.loop-i.invariant.4,
-    )
+loop-i-preserved c = (
+  omega arith,
+  omega arith,
+  all-next is_digit _ _ 0 _ _ c.loop-i-test.true c.is_digit.ensures c.if-not-is_digit.false-raw c.loop-i.invariant.2,
+  held-turn _ _ _ _ _ c.loop-i-test.true c.grown-v.ensures c.loop-i.invariant.3,
+  first_next is_digit _ _ 0 c.loop-i-test.true (sym c.is_digit.ensures ∙ not-false _ c.if-not-is_digit.false-raw) c.loop-i.invariant.4,
+)
 
 pub returns-then-v-le-NUMBER_MOST : goal.returns-then-v-le-NUMBER_MOST
 returns-then-v-le-NUMBER_MOST c =

@@ -1,15 +1,10 @@
-use borrow.Author.Rules.{rules}
 use Prim.Native.Nat.{◌+◌, ◌-◌, ◌≤◌}
-use mathlib.Core.Path.{◌≡◌, refl, sym, ◌∙◌}
-use mathlib.Core.Bool.{true, false}
-use native.Mathlib.Omega.{arith}
+use mathlib.Core.Path.{◌≡◌}
 use lib.ListN.{length, drop}
-use borrow.Author.Tests.{not-true, not-false}
 use Rattle.laws.specs.Lists.{all_of, first_not}
-use Rattle.laws.proofs.Lists.{first-stop, first_next, first-end}
 use Rattle.laws.specs.Digits.{value_after}
 use Rattle.text.specs.Number.{is_digit, value_of}
-use Rattle.text.proofs.Spell.{all-stop, all-next, all_done, number-no, number-rest, stop-empty, stop-zero, stop-well, digit-range, held, held-turn, held-end, read-misspelt, read-value, read-over}
+use Rattle.text.proofs.Spell.{held}
 use Rattle.text.proofs.decimal.read_number.Given as goal
 
 -- `text::decimal::read_number` meets its contract: the rest is all digits where the whole is; the value so far, with the digits of the rest after it, is the whole's; both held.

@@ -1,4 +1,3 @@
-use borrow.Author.Rules.{rules}
 use Rattle.text.proofs.Spell.{starts_none, starts-some}
 use Rattle.text.proofs.decimal.starts_well.Goals as goal
 

@@ -1,13 +1,7 @@
-use borrow.Author.Rules.{rules}
-use Prim.Native.Nat.{◌+◌, ◌-◌, ◌≤◌}
-use mathlib.Core.Path.{◌≡◌}
-use mathlib.Core.Logic.{⊎_elim}
 use native.Mathlib.Omega.{arith}
-use lib.ListN.{length, drop}
-use Rattle.text.specs.Line.{fields}
 use Rattle.text.proofs.Parts.{count-here, count_next, count_none}
 use Rattle.text.proofs.part.count_fields.Goals as goal
-use Rattle.text.proofs.part.count_fields.Goals.{else-line-i-eq-TAB,then-line-i-eq-TAB}
+use Rattle.text.proofs.part.count_fields.Goals.{else-line-i-eq-TAB, then-line-i-eq-TAB}
 
 pub loop-i-preserved : goal.loop-i-preserved
 loop-i-preserved c =

@@ -1,11 +1,7 @@
-use borrow.Author.Rules.{rules}
 use Prim.Native.Nat.{◌+◌, ◌-◌, ◌≤◌}
 use mathlib.Core.Path.{◌≡◌}
-use mathlib.Core.Logic.{⊎_elim}
-use native.Mathlib.Omega.{arith}
 use lib.ListN.{length, drop}
 use Rattle.text.specs.Line.{fields}
-use Rattle.text.proofs.Parts.{count-here, count_next, count_none}
 use Rattle.text.proofs.part.count_fields.Given as goal
 
 -- `text::part::count_fields` meets its contract: the parts counted and those of the rest are one more than all.

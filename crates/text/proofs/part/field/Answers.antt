@@ -1,4 +1,3 @@
-use borrow.Author.Rules.{rules}
 use mathlib.Core.Path.{◌∙◌}
 use Rattle.text.proofs.Parts.{field_at}
 use Rattle.text.proofs.part.field.Goals as goal

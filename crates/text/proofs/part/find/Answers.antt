@@ -1,8 +1,3 @@
-use borrow.Author.Rules.{rules}
-use Prim.Native.Nat.{◌+◌, ◌-◌, ◌≤◌}
-use mathlib.Core.Path.{◌≡◌}
-use lib.ListN.{length, drop}
-use Rattle.laws.specs.Split.{index_of}
 use Rattle.text.proofs.Parts.{found_here, found-next, found_none}
 use Rattle.text.proofs.part.find.Goals as goal
 

@@ -1,9 +1,7 @@
-use borrow.Author.Rules.{rules}
 use Prim.Native.Nat.{◌+◌, ◌-◌, ◌≤◌}
 use mathlib.Core.Path.{◌≡◌}
 use lib.ListN.{length, drop}
 use Rattle.laws.specs.Split.{index_of}
-use Rattle.text.proofs.Parts.{found_here, found-next, found_none}
 use Rattle.text.proofs.part.find.Given as goal
 
 -- `text::part::find` meets its contract: the places passed and the place of the first c in the rest make the place in the whole.

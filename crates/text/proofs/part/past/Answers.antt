@@ -1,4 +1,3 @@
-use borrow.Author.Rules.{rules}
 use Rattle.text.proofs.Parts.{past-some, past-none}
 use Rattle.text.proofs.part.past.Goals as goal
 

@@ -1,6 +1,3 @@
-use borrow.Author.Rules.{rules}
-use mathlib.Core.Path.{◌≡◌}
-use Rattle.laws.specs.Split.{skip_on}
 use Rattle.text.specs.Line.{TAB}
 use Rattle.text.proofs.Parts.{skip-turn, skip-done}
 use Rattle.text.proofs.part.past_fields.Goals as goal

@@ -1,8 +1,6 @@
-use borrow.Author.Rules.{rules}
 use mathlib.Core.Path.{◌≡◌}
 use Rattle.laws.specs.Split.{skip_on}
 use Rattle.text.specs.Line.{TAB}
-use Rattle.text.proofs.Parts.{skip-turn, skip-done}
 use Rattle.text.proofs.part.past_fields.Given as goal
 
 -- `text::part::past_fields` meets its contract: what is left of the rest after `left` fields is what is left of the line after n.

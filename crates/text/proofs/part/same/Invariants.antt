@@ -1,10 +1,7 @@
-use borrow.Author.Rules.{rules}
 use Prim.Native.Nat.{◌-◌, ◌≤◌}
-use mathlib.Core.Path.{◌≡◌, sym, ◌∙◌}
-use native.Mathlib.Omega.{arith}
+use mathlib.Core.Path.{◌≡◌}
 use lib.ListN.{length, drop}
 use Rattle.laws.specs.Lists.{same}
-use Rattle.text.proofs.Parts.{same-lengths, same_next, same_here, same_none}
 use Rattle.text.proofs.part.same.Given as goal
 
 -- `text::part::same` meets its contract: the rests are the same where the wholes are.

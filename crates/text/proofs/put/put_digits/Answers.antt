@@ -1,10 +1,5 @@
-use borrow.Author.Rules.{rules}
-use Prim.Native.Nat.{◌+◌, ◌≤◌}
-use mathlib.Core.Path.{◌≡◌}
 use native.Mathlib.Omega.{arith}
-use lib.ListN.{length, length-set}
-use lib.Seq.{sets}
-use Rattle.laws.specs.Digits.{digits_of}
+use lib.ListN.{length-set}
 use Rattle.text.proofs.Spell.{width_small, width-big}
 use Rattle.text.proofs.Store.{digits-turn, digits-end}
 use Rattle.text.proofs.put.put_digits.Goals as goal

@@ -1,10 +1,7 @@
-use borrow.Author.Rules.{rules}
 use Prim.Native.Nat.{◌+◌, ◌-◌, ◌≤◌}
 use mathlib.Core.Path.{◌≡◌}
-use native.Mathlib.Omega.{arith}
-use lib.ListN.{length, drop, length-set}
+use lib.ListN.{length, drop}
 use lib.Seq.{sets}
-use Rattle.text.proofs.Store.{has, has-not, put-none, put_whole, copy_start, copy-turn, copy-end}
 use Rattle.text.proofs.put.put_text.Given as goal
 
 -- `text::put::put_text` meets its contract: the rest stored from where the copy stands gives the whole stored.

@@ -1,12 +1,8 @@
-use borrow.Author.Rules.{rules}
 use Prim.Native.Nat.{◌+◌, ◌≤◌}
 use mathlib.Core.Path.{◌≡◌}
-use native.Mathlib.Omega.{arith}
-use lib.ListN.{length, length-set}
+use lib.ListN.{length}
 use lib.Seq.{sets}
 use Rattle.laws.specs.Digits.{digits_of}
-use Rattle.text.proofs.Spell.{width_small, width-big}
-use Rattle.text.proofs.Store.{digits-turn, digits-end}
 use Rattle.text.proofs.wide.put_digits.Given as goal
 
 -- `put_digits` meets its contract: the digits of the rest stored before those written give the whole stored.

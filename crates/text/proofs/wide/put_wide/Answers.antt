@@ -1,10 +1,5 @@
 use native.Mathlib.Omega.{arith}
-use borrow.Author.Rules.{rules}
 use Rattle.text.proofs.Store.{put-none, put_whole}
-use Rattle.text.proofs.wide.put_wide.Reads as reads
-use Rattle.text.proofs.wide.put_wide.Lts as lts
-use Rattle.text.proofs.wide.put_digits.Reads as put-digits-reads
-use Rattle.text.proofs.wide.width.Reads as width-reads
 use Rattle.text.proofs.wide.put_wide.Goals as goal
 
 -- src/lib.rt:43:9

@@ -1,10 +1,7 @@
-use borrow.Author.Rules.{rules}
 use Prim.Native.Nat.{◌+◌, ◌≤◌}
 use mathlib.Core.Path.{◌≡◌}
-use native.Mathlib.Omega.{arith}
 use lib.ListN.{length}
 use Rattle.laws.specs.Digits.{digits_of}
-use Rattle.text.proofs.Spell.{width_small, width-big}
 use Rattle.text.proofs.wide.width.Given as goal
 
 -- `width` meets its contract: the digits counted and those of the rest are one more than all.

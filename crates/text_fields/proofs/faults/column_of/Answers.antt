@@ -1,4 +1,3 @@
-use borrow.Author.Rules.{rules}
 use Rattle.text_fields.proofs.FaultLaws.{column-is, rest-short}
 use Rattle.text_fields.proofs.faults.column_of.Goals as goal
 

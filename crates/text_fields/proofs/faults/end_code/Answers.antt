@@ -1,4 +1,3 @@
-use borrow.Author.Rules.{rules}
 use Rattle.text_fields.proofs.FaultLaws.{end-right, end-wrong}
 use Rattle.text_fields.proofs.faults.end_code.Goals as goal
 

@@ -1,4 +1,3 @@
-use borrow.Author.Rules.{rules}
 use Rattle.text_fields.proofs.FaultLaws.{fault-three, fault-four, fault-twenty, fault-eighteen, fault-none}
 use Rattle.text_fields.proofs.faults.fault_of.Goals as goal
 

@@ -1,10 +1,5 @@
-use borrow.Author.Rules.{rules}
-use Prim.Native.Nat.{◌-◌, ◌≤◌}
-use mathlib.Core.Path.{◌≡◌}
 use native.Mathlib.Omega.{arith}
 use lib.Dec.{eqb}
-use lib.ListN.{length, drop}
-use Rattle.laws.specs.Lists.{all_of}
 use Rattle.text.proofs.Spell.{all_done}
 use Rattle.text_fields.proofs.FaultLaws.{zero-stop, zero-next}
 use Rattle.text_fields.proofs.faults.is_faultless.Goals as goal

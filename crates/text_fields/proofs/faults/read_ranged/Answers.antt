@@ -1,5 +1,4 @@
 use borrow.Enum.Refused.{opened}
-use borrow.Author.Rules.{rules}
 use mathlib.Core.Path.{◌∙◌}
 use Rattle.text_fields.proofs.RangedLaws.{ranged-none, ranged-off, ranged-in}
 use Rattle.text_fields.proofs.faults.read_ranged.Goals as goal

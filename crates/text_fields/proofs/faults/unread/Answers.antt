@@ -1,4 +1,3 @@
-use borrow.Author.Rules.{rules}
 use Rattle.text_fields.proofs.RangedLaws.{unread-is}
 use Rattle.text_fields.proofs.faults.unread.Goals as goal
 

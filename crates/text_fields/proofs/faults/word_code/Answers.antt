@@ -1,4 +1,3 @@
-use borrow.Author.Rules.{rules}
 use Rattle.text_fields.proofs.FaultLaws.{word-right, word-wrong}
 use Rattle.text_fields.proofs.faults.word_code.Goals as goal
 

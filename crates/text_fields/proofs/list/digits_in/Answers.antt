@@ -1,4 +1,3 @@
-use borrow.Author.Rules.{rules}
 use Rattle.text_fields.proofs.ItemLaws.{digits-plain, digits-past}
 use Rattle.text_fields.proofs.list.digits_in.Goals as goal
 

@@ -1,7 +1,4 @@
-use borrow.Author.Rules.{rules}
-use Prim.Native.Nat.{◌-◌}
-use lib.ListN.{length}
-use Rattle.text_fields.proofs.Shared.{SharedRest, shared_start, shared-turn, shared-out}
+use Rattle.text_fields.proofs.Shared.{shared_start, shared-turn, shared-out}
 use Rattle.text_fields.proofs.list.has_shared.Goals as goal
 
 pub loop-i-init : goal.loop-i-init

@@ -1,7 +1,6 @@
-use borrow.Author.Rules.{rules}
 use Prim.Native.Nat.{◌-◌}
 use lib.ListN.{length}
-use Rattle.text_fields.proofs.Shared.{SharedRest, shared_start, shared-turn, shared-out}
+use Rattle.text_fields.proofs.Shared.{SharedRest}
 use Rattle.text_fields.proofs.list.has_shared.Given as goal
 
 -- `lists::has_shared` meets its contract: a shared hold was seen, or stands in the rest.

@@ -1,4 +1,3 @@
-use borrow.Author.Rules.{rules}
 use Rattle.text_fields.proofs.ItemLaws.{item-both}
 use Rattle.text_fields.proofs.list.is_item.Goals as goal
 

@@ -1,4 +1,3 @@
-use borrow.Author.Rules.{rules}
 use Rattle.text_fields.proofs.ItemLaws.{number-none, number-some}
 use Rattle.text_fields.proofs.list.item_number.Goals as goal
 

@@ -1,4 +1,3 @@
-use borrow.Author.Rules.{rules}
 use borrow.Author.Tests.{not-false}
 use Rattle.text_fields.proofs.ItemLaws.{item-some, item-plain, item-shared, item-alone}
 use Rattle.text_fields.proofs.list.item_of.Goals as goal

@@ -1,4 +1,3 @@
-use borrow.Author.Rules.{rules}
 use native.Mathlib.Omega.{arith}
 use Rattle.text.proofs.Spell.{stop_le}
 use Rattle.text_fields.proofs.ItemLaws.{stop-none, stop-lettered, stop-plain, digits-short}

@@ -1,9 +1,7 @@
 use borrow.Author.Rules.{rules}
-use Prim.Native.Nat.{◌-◌, ◌≤◌}
-use mathlib.Core.Path.{◌≡◌, refl}
+use mathlib.Core.Path.{refl}
 use native.Mathlib.Omega.{arith}
-use lib.ListN.{length}
-use Rattle.text_fields.proofs.Shared.{front_made, made-start, made_again, made-end}
+use Rattle.text_fields.proofs.Shared.{made-start, made_again, made-end}
 use Rattle.text_fields.proofs.list.make_exclusive.Goals as goal
 
 pub loop-i-init : goal.loop-i-init

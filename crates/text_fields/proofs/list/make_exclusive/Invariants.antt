@@ -1,9 +1,7 @@
-use borrow.Author.Rules.{rules}
 use Prim.Native.Nat.{◌-◌, ◌≤◌}
-use mathlib.Core.Path.{◌≡◌, refl}
-use native.Mathlib.Omega.{arith}
+use mathlib.Core.Path.{◌≡◌}
 use lib.ListN.{length}
-use Rattle.text_fields.proofs.Shared.{front_made, made-start, made_again, made-end}
+use Rattle.text_fields.proofs.Shared.{front_made}
 use Rattle.text_fields.proofs.list.make_exclusive.Given as goal
 
 -- `lists::make_exclusive` meets its contract: the first i holds are made.

@@ -1,4 +1,3 @@
-use borrow.Author.Rules.{rules}
 use mathlib.Core.Path.{◌∙◌}
 use Rattle.text_fields.proofs.Rise.{holds-is}
 use Rattle.text_fields.proofs.list.read_holds.Goals as goal

@@ -1,16 +1,11 @@
-use borrow.Author.Rules.{rules}
 use Prim.Native.Nat.{◌≤◌}
-use mathlib.Core.Path.{◌≡◌, sym, ◌∙◌, refl}
-use mathlib.Core.Bool.{true}
-use native.Mathlib.Omega.{arith}
-use lib.ListN.{length, length-set}
+use mathlib.Core.Path.{◌≡◌}
+use lib.ListN.{length}
 use Rattle.laws.specs.Lists.{all_of}
 use Rattle.laws.specs.Split.{split_on}
 use Rattle.text_fields.specs.Items.{COMMA}
 use Rattle.text_fields.specs.Private.Lettered.{is_item}
-use Rattle.text.proofs.Parts.{after_less, past-part}
-use Rattle.text_fields.proofs.ItemLaws.{number-spelt, value-item, value-is, over-is, item-digits}
-use Rattle.text_fields.proofs.Rise.{items_left, spelt_read, items-start, all-spelt, refused-is, refuse, keep-last, keep-more, refuse-over, passed, first_passes, parts_next, parts-end}
+use Rattle.text_fields.proofs.Rise.{items_left, spelt_read}
 use Rattle.text_fields.proofs.list.read_items.Given as goal
 
 -- `lists::read_items` meets its contract: what is kept, with what the rest gives, is the answer where all parts are items; there are never more items than the last number.

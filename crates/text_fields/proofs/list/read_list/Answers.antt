@@ -1,4 +1,3 @@
-use borrow.Author.Rules.{rules}
 use mathlib.Core.Path.{◌∙◌}
 use Rattle.text_fields.proofs.Rise.{list-none, list-items}
 use Rattle.text_fields.proofs.list.read_list.Goals as goal

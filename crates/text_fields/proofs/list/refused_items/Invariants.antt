@@ -1,15 +1,10 @@
-use borrow.Author.Rules.{rules}
 use Prim.Native.Nat.{◌+◌, ◌-◌, ◌≤◌}
-use mathlib.Core.Path.{◌≡◌, refl, ◌∙◌}
-use native.Mathlib.Omega.{arith}
+use mathlib.Core.Path.{◌≡◌}
 use lib.ListN.{length}
 use Rattle.laws.specs.Lists.{all_of}
 use Rattle.laws.specs.Split.{split_on}
 use Rattle.text_fields.specs.Items.{COMMA}
 use Rattle.text_fields.specs.Private.Lettered.{is_item, parts_stop}
-use Rattle.text.proofs.Parts.{after_less, past-part, part-within}
-use Rattle.text_fields.proofs.ItemLaws.{item-stop-le}
-use Rattle.text_fields.proofs.Rise.{parts_next, refused-three, refused-four, refused-next}
 use Rattle.text_fields.proofs.list.refused_items.Given as goal
 
 -- `lists::refused_items` meets its contract: where the rest stops, after the bytes passed, is where the whole stops.

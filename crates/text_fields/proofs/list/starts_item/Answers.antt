@@ -1,4 +1,3 @@
-use borrow.Author.Rules.{rules}
 use Rattle.text_fields.proofs.ItemLaws.{starts-plain, starts_none, starts-letter}
 use Rattle.text_fields.proofs.list.starts_item.Goals as goal
 
