@@ -57,6 +57,16 @@ fn expect_report(folder: &Path, list: &[u8], report: &str) {
     assert!(output.status.success());
 }
 
+/// The same of the command.
+fn expect_report_of_command(folder: &Path, list: &[u8], report: &str) {
+    let file = folder.join("list.txt");
+    fs::write(&file, list).unwrap();
+    let output = script(folder, &file);
+    assert_eq!(String::from_utf8_lossy(&output.stderr), "");
+    assert_eq!(String::from_utf8_lossy(&output.stdout), report);
+    assert_eq!(output.status.code(), Some(0));
+}
+
 fn has(words: &[u8], part: &[u8]) -> bool {
     part.is_empty() || words.windows(part.len()).any(|window| window == part)
 }
@@ -191,6 +201,7 @@ fn what_is_refused_is_counted_apart() {
     expect_report(&folder, b"unplanned\nempty\n", &none);
 }
 
+/// The command takes any name; the program by itself takes those that are UTF-8.
 #[test]
 fn a_name_is_bytes() {
     let odd: [&[u8]; 8] = [
@@ -209,7 +220,35 @@ fn a_name_is_bytes() {
         "logs\t8\t0\nboard\t1\t16\t40\t3\t2\nboard\t2\t24\t80\t6\t1\n{}all\t40\t120\t6\t1\n",
         idle_from(3)
     );
-    expect_report(&folder, &list, &report);
+    expect_report_of_command(&folder, &list, &report);
+    let report = format!(
+        "logs\t7\t0\nboard\t1\t14\t35\t3\t2\nboard\t2\t21\t70\t6\t1\n{}all\t35\t105\t6\t1\n",
+        idle_from(3)
+    );
+    expect_report(&folder, &odd[1..].join(&b'\n'), &report);
+}
+
+/// Byte for byte: what is not UTF-8 would be shown alike.
+fn expect_said(output: &Output, said: &[u8]) {
+    let shown = String::from_utf8_lossy(&output.stderr);
+    assert!(output.stderr == said, "{shown}");
+    assert_eq!(String::from_utf8_lossy(&output.stdout), "");
+}
+
+#[test]
+fn the_program_stops_at_a_name_that_is_not_utf_8() {
+    let name = b"\xff\xfe";
+    let list = b"\xff\xfe\n";
+    let folder = folder_with("year-not-utf-8", &[name]);
+    let said = b"\xff\xfe/plan.txt: Invalid or incomplete multibyte or wide character\n";
+    expect_said(&year_in(&folder, list), said);
+    // The command says the user's own name, not its link's.
+    let plan = folder.join(OsStr::from_bytes(name)).join("plan.txt");
+    fs::remove_file(plan).unwrap();
+    expect_stopped(&folder, list, name);
+    let output = script(&folder, &folder.join("list.txt"));
+    let said = b"year: \xff\xfe/plan.txt: No such file or directory\n";
+    expect_said(&output, said);
 }
 
 /// Of each what is wrong is said, whatever stands before and behind it.
@@ -472,12 +511,65 @@ fn on_a_terminal_it_shows_how_many_logs_are_done() {
     assert_eq!(shown, wanted);
 }
 
+/// What a program does to keep the path of the link that it is handed first.
+const KEEP_LINK: &str = "IFS= read -r link; test -L \"$link\" && echo \"$link\" >link";
+
+/// A project whose list has a name that is not UTF-8.
+fn project_with_link(name: &str, program: &str) -> PathBuf {
+    let root = project(name, &format!("{KEEP_LINK}; {program}"));
+    fs::write(root.join("list"), b"\xff\n").unwrap();
+    root
+}
+
+fn expect_link_gone(root: &Path) {
+    let link = fs::read_to_string(root.join("link")).unwrap();
+    let folder = Path::new(link.trim_end()).parent().unwrap();
+    assert!(folder.is_absolute() && !folder.exists(), "{link}");
+}
+
 #[test]
-fn ctrl_c_leaves_nothing_running() {
+fn no_link_is_left() {
+    let root = project_with_link("year-link", "readlink \"$link\"");
+    let mut command = Command::new(root.join("year"));
+    let output = command.arg("list").current_dir(&root).output().unwrap();
+    let target = root
+        .canonicalize()
+        .unwrap()
+        .join(OsStr::from_bytes(b"\xff"));
+    let wanted = [target.as_os_str().as_bytes(), b"\n"].concat();
+    assert!(output.stdout == wanted);
+    assert_eq!(String::from_utf8_lossy(&output.stderr), "");
+    expect_link_gone(&root);
+
+    let root = project_with_link("year-link-failed", "echo \"$link/log.txt: no\" >&2");
+    let mut command = Command::new(root.join("year"));
+    let output = command.arg("list").current_dir(&root).output().unwrap();
+    expect_said(&output, b"year: \xff/log.txt: no\n");
+    assert_eq!(output.status.code(), Some(2));
+    expect_link_gone(&root);
+}
+
+/// The program may stop before the end of a list, and the list may have none.
+#[test]
+fn a_list_need_not_end() {
+    let root = project("year-endless", "head -n 3");
+    for line in ["yes a | ./year /dev/stdin", "./year <(yes a)"] {
+        let mut shell = Command::new("bash");
+        let shell = shell.args(["-c", line]).current_dir(&root);
+        let output = shell.output().unwrap();
+        assert_eq!(String::from_utf8_lossy(&output.stderr), "");
+        assert_eq!(String::from_utf8_lossy(&output.stdout), "a\na\na\n");
+        assert_eq!(output.status.code(), Some(0));
+    }
+}
+
+#[test]
+fn ctrl_c_leaves_nothing_running_and_no_link() {
     let program = format!("echo $$ >child; {NOTES}; exec sleep 600");
-    let root = project("year-ctrl-c", &program);
+    let root = project_with_link("year-ctrl-c", &program);
     let (shown, status) = year_on_terminal(&root, &["200 logs done", "\x03"]);
     assert_eq!(status, Some(130), "{shown:?}");
     let child = root.join("child");
     assert!(comes_true(|| is_gone(&child)), "the program runs on");
+    expect_link_gone(&root);
 }
