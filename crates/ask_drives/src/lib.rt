@@ -13,7 +13,7 @@ ghost use Rattle.ask_drives.specs.Seen.{seen_by};
 ghost use Rattle.ask_drives.specs.Private.Looked.{looked_at};
 
 use ask_sheet::{Sheet, Standing, fresh_sheet, is_same, renew_sheet, standing_of};
-use book::{Book, BookResult, judged};
+use book::{Book, BookResult, judged, report_in_place};
 use book_holders::holders_of;
 use plan::{Answer, refuse};
 use text::put::put_text;
@@ -140,9 +140,9 @@ pub fn seen_in<'a>(
     SheetCheck { held, before, own }
 }
 
-// The book goes by value: lent parts would keep a second copy beside the report's.
-fn looked(book: Book, sheet: Sheet) -> SheetCheck
-    ensures { (result ≡ looked_at book sheet) × (length book.holds ≡ 2048) }
+#[inline(never)]
+fn looked(book: &Book, sheet: Sheet) -> SheetCheck
+    ensures { (result ≡ looked_at book.now sheet) × (length book.now.holds ≡ 2048) }
 {
     seen_in(
         sheet,
@@ -187,32 +187,38 @@ pub fn kept_sheet<'a>(
     renew_sheet(sheet, held, begin, before, after)
 }
 
-// Task 0 is no task, so where the sheet is not the book's nothing is reported. One call and one way out, so that the stack holds one book more.
-pub fn report_sheet(book: Book, sheet: Sheet, task: u32, tick: u32) -> BookAndSheet
+// Task 0 is no task, so where the sheet is not the book's nothing is reported. The report is made in place, so that the stack holds one book more.
+pub fn report_sheet(mut book: Book, sheet: Sheet, task: u32, tick: u32) -> BookAndSheet
     ensures { result ≡ reported_with book sheet task tick }
 {
-    let seen = looked(book, sheet);
-    let mut kept = BookAndSheet {
-        result: book.report(chosen(seen.own, task, 0), tick),
-        sheet,
-    };
+    let seen = looked(&book, sheet);
+    let answer = report_in_place(&mut book, chosen(seen.own, task, 0), tick);
     let next = kept_sheet(
-        kept.result.answer.code,
+        answer.code,
         sheet,
         &seen.held,
         seen.before,
-        &kept.result.book.begin,
-        &kept.result.book.mark,
-        &kept.result.book.start,
-        &kept.result.book.dropped,
-        kept.result.book.clock,
-        kept.result.book.tasks,
+        &book.begin,
+        &book.mark,
+        &book.start,
+        &book.dropped,
+        book.clock,
+        book.tasks,
     );
-    kept.sheet = next;
-    kept.result.answer.code = chosen(seen.own, kept.result.answer.code, 9);
-    kept.result.answer.first = chosen(seen.own, kept.result.answer.first, 0);
-    kept.result.answer.second = chosen(seen.own, kept.result.answer.second, 0);
-    kept
+    let code = chosen(seen.own, answer.code, 9);
+    let first = chosen(seen.own, answer.first, 0);
+    let second = chosen(seen.own, answer.second, 0);
+    BookAndSheet {
+        result: BookResult {
+            answer: Answer {
+                code,
+                first,
+                second,
+            },
+            book,
+        },
+        sheet: next,
+    }
 }
 
 // The eight places of drive d + 1.
@@ -241,7 +247,7 @@ pub fn on_drive(book: Book, sheet: Sheet, drive: u32) -> OnDrive
     ensures { result ≡ on_drive_of book sheet drive }
 {
     let waits = judged(book);
-    let seen = looked(book, sheet);
+    let seen = looked(&book, sheet);
     if !(waits.known & seen.own) {
         return refused(refuse(9, 0, 0));
     }

@@ -176,52 +176,59 @@ pub fn open_book(plan: Plan, rule: Rule) -> BookResult
     }
 }
 
+// A report where the book stands, so that no second copy of it is on the stack: its answer, and the book after it in place of the one before.
+pub fn report_in_place(book: &mut Book, task: u32, tick: u32) -> Answer
+    ensures { reported_of book.old task tick ≡ record { answer = result; book = book.new } }
+{
+    let tasks = book.tasks as usize;
+    let judged = judge_report(
+        book.rule,
+        book.edition,
+        book.boards,
+        book.tasks,
+        book.clock,
+        &book.board,
+        &book.ready,
+        &book.begin,
+        &book.finish,
+        &book.holds,
+        &book.after,
+        &book.start,
+        &book.end,
+        &book.mark,
+        &book.dropped,
+        task,
+        tick,
+    );
+    if judged.code == 0 {
+        let k = (task - 1) as usize;
+        let ended = ended_at(book.mark, book.start, book.end, k, tick);
+        let next = settle(
+            &book.board,
+            &book.ready,
+            &book.finish,
+            &judged.sets,
+            &book.dropped,
+            ended,
+            tick,
+            tasks,
+        );
+        let mark = next.mark;
+        let start = next.start;
+        let end = next.end;
+        book.clock = tick;
+        book.mark = mark;
+        book.start = start;
+        book.end = end;
+    }
+    answer_of(judged.code, task, tick)
+}
+
 impl Book {
     pub fn report(mut self, task: u32, tick: u32) -> BookResult
         ensures { result ≡ reported_of self task tick }
     {
-        let tasks = self.tasks as usize;
-        let judged = judge_report(
-            self.rule,
-            self.edition,
-            self.boards,
-            self.tasks,
-            self.clock,
-            &self.board,
-            &self.ready,
-            &self.begin,
-            &self.finish,
-            &self.holds,
-            &self.after,
-            &self.start,
-            &self.end,
-            &self.mark,
-            &self.dropped,
-            task,
-            tick,
-        );
-        if judged.code == 0 {
-            let k = (task - 1) as usize;
-            let ended = ended_at(self.mark, self.start, self.end, k, tick);
-            let next = settle(
-                &self.board,
-                &self.ready,
-                &self.finish,
-                &judged.sets,
-                &self.dropped,
-                ended,
-                tick,
-                tasks,
-            );
-            let mark = next.mark;
-            let start = next.start;
-            let end = next.end;
-            self.clock = tick;
-            self.mark = mark;
-            self.start = start;
-            self.end = end;
-        }
-        let answer = answer_of(judged.code, task, tick);
+        let answer = report_in_place(&mut self, task, tick);
         BookResult { answer, book: self }
     }
 

@@ -16,7 +16,7 @@ fn log_short(line: u32, book: Book, entry: Entry, out: &mut [u8; ANSWER_MOST]) -
     ensures { (result ≡ logged_of line book entry) × Answered out.old (entry_log line book entry) out.new result.length }
 {
     let told = tell(line, book, entry);
-    let length = put_told(out, 0, entry, &book.mark, told);
+    let length = put_told(out, 0, entry, &book.mark, &told);
     let answer = told.answer;
     let after = told.book;
     LogResult {
@@ -48,8 +48,8 @@ pub fn log_opening(plan: Plan, rule: Rule, out: &mut [u8; ANSWER_MOST]) -> LogRe
             length: short,
         };
     }
-    let early = early_after(answer.code, book);
-    let length = put_opened(out, book, early);
+    let early = early_after(answer.code, &book);
+    let length = put_opened(out, &book, early);
     LogResult {
         answer,
         book,

@@ -24,7 +24,7 @@ pub(crate) fn put_ends(
     while 0 < rest.len() {
         let entry = next_entry(rest);
         let told = tell(line, book, entry);
-        place = put_told(out, place, entry, &book.mark, told);
+        place = put_told(out, place, entry, &book.mark, &told);
         if entry_code(entry) != 0 {
             return place;
         }

@@ -8,6 +8,7 @@ pub mod told;
 
 ghost use Rattle.std.specs.Prelude.{◌≡◌, ◌≤◌, length};
 ghost use Rattle.std.proofs.lemmas.List.Edits.{sets};
+ghost use Rattle.plan.specs.Read.{reading_of};
 ghost use Rattle.log_run.specs.Log.{log_most, log_in};
 ghost use Rattle.log_run.specs.Private.Writes.{rule_of};
 
@@ -16,7 +17,7 @@ use ends::put_ends;
 use log_read::Choice;
 use log_read::rules::choose;
 use log_write::put_refused;
-use plan::Answer;
+use plan::{Answer, Reading};
 use plan_read::read_plan;
 use text::TEXT_MOST;
 use text::part::{LF, part_after};
@@ -52,14 +53,23 @@ fn rule_of(choice: Choice) -> Rule
     }
 }
 
+// A call of its own: its part of the stack is given back before the ends are read.
+#[inline(never)]
+fn read(plan: &[u8]) -> Reading
+    ensures { result ≡ reading_of plan.now }
+{
+    read_plan(plan)
+}
+
 // Nothing is written where the buffer is shorter than LOG_MOST.
+#[inline(never)]
 pub fn run_log(plan: &[u8], ends: &[u8], out: &mut [u8]) -> usize
     ensures { (result ≡ length (log_in (length out.old) plan.now ends.now)) × (out.new ≡ sets out.old 0 (log_in (length out.old) plan.now ends.now)) × (result ≤ log_most) }
 {
     if out.len() < LOG_MOST {
         return 0;
     }
-    let reading = read_plan(plan);
+    let reading = read(plan);
     let answer = reading.answer;
     if answer.code != 0 {
         return put_refused(out, 0, answer.code, answer.first, answer.second);
@@ -70,8 +80,8 @@ pub fn run_log(plan: &[u8], ends: &[u8], out: &mut [u8]) -> usize
     let choice = choose(ends);
     let opening = open_book(reading.plan, rule_of(choice));
     let said = opening.answer;
-    let early = early_after(said.code, opening.book);
-    let at = put_opened(out, opening.book, early);
+    let early = early_after(said.code, &opening.book);
+    let at = put_opened(out, &opening.book, early);
     match choice {
         Choice::Unsaid => put_ends(out, at, opening.book, 1, ends),
         Choice::Chosen => put_ends(out, at, opening.book, 2, part_after(ends, LF)),

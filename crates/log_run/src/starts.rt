@@ -7,9 +7,9 @@ use book::Book;
 use log_write::put_start;
 
 // Of the tasks that waited by the marks `old` and wait no longer, by rising number.
-pub(crate) fn put_starts(out: &mut [u8], at: usize, old: &[u8; 64], book: Book) -> usize
-    requires { (book.tasks ≤ 64) × (at + 3328 ≤ length out.old) }
-    ensures { Wrote out.old at (starts_in old.now book book.tasks) (52 * started old.now book) out.new result }
+pub(crate) fn put_starts(out: &mut [u8], at: usize, old: &[u8; 64], book: &Book) -> usize
+    requires { (book.now.tasks ≤ 64) × (at + 3328 ≤ length out.old) }
+    ensures { Wrote out.old at (starts_in old.now book.now book.now.tasks) (52 * started old.now book.now) out.new result }
 {
     // A book that a loop reads is kept whole on the stack, so its arrays are taken out first.
     let mark = book.mark;

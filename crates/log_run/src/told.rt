@@ -10,16 +10,16 @@ ghost use Rattle.log_run.specs.Private.Writes.{started, opened_in, ended_in, Sho
 
 use crate::StepOutcome;
 use crate::starts::put_starts;
-use book::Book;
+use book::{Book, report_in_place};
 use book_codes::least_early;
 use log_read::Entry;
 use log_write::{put_drop, put_early, put_end, put_refused, put_run};
 use plan::{Answer, refuse};
 
 // Who is answered by 0 hands on a sound book, so it is not judged again for its figure.
-pub(crate) fn early_after(code: u32, book: Book) -> u32
-    requires { code ≡ 0 → is_sound book ≡ true }
-    ensures { result ≡ cond (eqb code 0) (figure_of book).early 0 }
+pub(crate) fn early_after(code: u32, book: &Book) -> u32
+    requires { code ≡ 0 → is_sound book.now ≡ true }
+    ensures { result ≡ cond (eqb code 0) (figure_of book.now).early 0 }
 {
     if code != 0 {
         return 0;
@@ -35,30 +35,30 @@ pub(crate) fn early_after(code: u32, book: Book) -> u32
     )
 }
 
-fn show(answer: Answer, book: Book) -> StepOutcome
-    requires { answer.code ≡ 0 → is_sound book ≡ true }
-    ensures { result ≡ shown_after answer book }
+fn show(answer: Answer, book: &Book) -> StepOutcome
+    requires { answer.code ≡ 0 → is_sound book.now ≡ true }
+    ensures { result ≡ shown_after answer book.now }
 {
     let early = early_after(answer.code, book);
     StepOutcome {
         answer,
-        book,
+        book: *book,
         early,
     }
 }
 
-pub(crate) fn tell(line: u32, book: Book, entry: Entry) -> StepOutcome
+pub(crate) fn tell(line: u32, mut book: Book, entry: Entry) -> StepOutcome
     requires { Short entry }
     ensures { result ≡ told_of line book entry }
 {
     match entry {
         Entry::End(task, tick) => {
-            let reported = book.report(task, tick);
-            show(reported.answer, reported.book)
+            let answer = report_in_place(&mut book, task, tick);
+            show(answer, &book)
         }
         Entry::Drop(task) => {
             let dropped = book.drop(task);
-            show(dropped.answer, dropped.book)
+            show(dropped.answer, &dropped.book)
         }
         Entry::Refused(code, column) => StepOutcome {
             answer: refuse(code, line, column as u32),
@@ -96,9 +96,9 @@ pub fn tell_entry(line: u32, book: Book, entry: Entry) -> StepOutcome
 }
 
 // Opened: the `run` line, the starts that are known then, and an `early` line.
-pub(crate) fn put_opened(out: &mut [u8], book: Book, early: u32) -> usize
-    requires { (book.tasks ≤ 64) × (3432 ≤ length out.old) }
-    ensures { Wrote out.old 0 (opened_in book early) 3432 out.new result }
+pub(crate) fn put_opened(out: &mut [u8], book: &Book, early: u32) -> usize
+    requires { (book.now.tasks ≤ 64) × (3432 ≤ length out.old) }
+    ensures { Wrote out.old 0 (opened_in book.now early) 3432 out.new result }
 {
     let next = put_run(out, 0, book.rule, book.boards, book.tasks);
     let last = put_starts(out, next, &[0; 64], book);
@@ -106,9 +106,9 @@ pub(crate) fn put_opened(out: &mut [u8], book: Book, early: u32) -> usize
 }
 
 // The `end` line of a task, and the starts that it caused.
-fn put_ended(out: &mut [u8], at: usize, task: u32, old: &[u8; 64], book: Book) -> usize
-    requires { (0 < task) × (task ≤ 64) × (book.tasks ≤ 64) × (at + 3380 ≤ length out.old) }
-    ensures { Wrote out.old at (ended_in task old.now book) (52 + 52 * started old.now book) out.new result }
+fn put_ended(out: &mut [u8], at: usize, task: u32, old: &[u8; 64], book: &Book) -> usize
+    requires { (0 < task) × (task ≤ 64) × (book.now.tasks ≤ 64) × (at + 3380 ≤ length out.old) }
+    ensures { Wrote out.old at (ended_in task old.now book.now) (52 + 52 * started old.now book.now) out.new result }
 {
     let k = (task - 1) as usize;
     let next = put_end(out, at, task, book.board[k], book.finish[k], book.end[k]);
@@ -116,9 +116,9 @@ fn put_ended(out: &mut [u8], at: usize, task: u32, old: &[u8; 64], book: Book) -
 }
 
 // The lines that an accepted entry causes, but for the last.
-fn put_lines(out: &mut [u8], at: usize, entry: Entry, old: &[u8; 64], book: Book) -> usize
-    requires { (at + 3380 ≤ length out.old) × Named entry book.tasks }
-    ensures { Wrote out.old at (lines_in entry old.now book) (lines_most entry (started old.now book)) out.new result }
+fn put_lines(out: &mut [u8], at: usize, entry: Entry, old: &[u8; 64], book: &Book) -> usize
+    requires { (at + 3380 ≤ length out.old) × Named entry book.now.tasks }
+    ensures { Wrote out.old at (lines_in entry old.now book.now) (lines_most entry (started old.now book.now)) out.new result }
 {
     match entry {
         Entry::End(task, _) => put_ended(out, at, task, old, book),
@@ -133,15 +133,15 @@ pub(crate) fn put_told(
     at: usize,
     entry: Entry,
     old: &[u8; 64],
-    told: StepOutcome,
+    told: &StepOutcome,
 ) -> usize
-    requires { (at + 3432 ≤ length out.old) × (told.answer.code ≡ 0 → Named entry told.book.tasks) }
-    ensures { Wrote out.old at (told_in entry old.now told) (told_most entry old.now told) out.new result }
+    requires { (at + 3432 ≤ length out.old) × (told.now.answer.code ≡ 0 → Named entry told.now.book.tasks) }
+    ensures { Wrote out.old at (told_in entry old.now told.now) (told_most entry old.now told.now) out.new result }
 {
     let answer = told.answer;
     if answer.code != 0 {
         return put_refused(out, at, answer.code, answer.first, answer.second);
     }
-    let next = put_lines(out, at, entry, old, told.book);
+    let next = put_lines(out, at, entry, old, &told.book);
     put_early(out, next, told.book.clock, told.early)
 }

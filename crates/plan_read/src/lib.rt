@@ -43,6 +43,7 @@ pub(crate) struct Line {
     pub after: Items,
 }
 
+#[inline(always)]
 fn read_in(text: &[u8], mends: bool) -> Reading
     ensures { result ≡ read_in mends text.now }
 {
@@ -51,14 +52,13 @@ fn read_in(text: &[u8], mends: bool) -> Reading
     if said.code != 0 {
         return lines;
     }
-    let plan = lines.plan;
     let fault = judge_tasks(
-        &plan.board,
-        &plan.begin,
-        &plan.finish,
-        &plan.holds,
-        &plan.after,
-        plan.tasks,
+        &lines.plan.board,
+        &lines.plan.begin,
+        &lines.plan.finish,
+        &lines.plan.holds,
+        &lines.plan.after,
+        lines.plan.tasks,
     );
     if fault.code != 0 {
         return refused(fault);
@@ -66,6 +66,7 @@ fn read_in(text: &[u8], mends: bool) -> Reading
     lines
 }
 
+#[inline(always)]
 pub fn read_plan(text: &[u8]) -> Reading
     ensures { result ≡ reading_of text.now }
 {
@@ -73,6 +74,7 @@ pub fn read_plan(text: &[u8]) -> Reading
 }
 
 // The second call: an edition 2 text in which `s` may still stand, read as if it were `e`.
+#[inline(always)]
 pub fn read_exclusive(text: &[u8]) -> Reading
     ensures { result ≡ mended_of text.now }
 {

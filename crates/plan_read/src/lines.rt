@@ -76,6 +76,7 @@ fn put_items(out: &mut [u8], at: usize, list: Items)
 }
 
 // The task lines, the rest of the text going on to the next line's reader.
+#[inline(always)]
 fn read_tasks(text: &[u8], mends: bool, edition: u32, boards: u32, tasks: u32) -> Reading
     requires { FirstRead mends text.now edition boards tasks }
     ensures { result ≡ lines_of mends text.now }
@@ -126,6 +127,7 @@ fn read_tasks(text: &[u8], mends: bool, edition: u32, boards: u32, tasks: u32) -
 }
 
 // The plan that the lines make, or the first refusal. Its pairs are not examined here. A reading that mends lets shared holds stand.
+#[inline(always)]
 pub fn read_lines(text: &[u8], mends: bool) -> Reading
     ensures { result ≡ lines_of mends text.now }
 {

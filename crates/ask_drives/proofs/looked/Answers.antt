@@ -6,5 +6,5 @@ use Rattle.ask_drives.proofs.looked.Goals as goal
 
 pub returns : goal.returns
 returns c =
-    let l : length c.args.book.holds ≡ 2048 = search rules in
-    (seen-is c.args.book c.args.sheet l c.seen_in.ensures, l)
+    let l : length c.args.book.now.holds ≡ 2048 = search rules in
+    (seen-is c.args.book.now c.args.sheet l c.seen_in.ensures, l)

@@ -10,25 +10,25 @@ returns-then-out-lt-LOG_MOST c = ran-short c.args.plan.now c.args.ends.now c.arg
 
 pub returns-then-answer-ne0 : goal.returns-then-answer-ne0
 returns-then-answer-ne0 c =
-    ran-refused c.args.plan.now c.args.ends.now c.args.out.now c.if-out-lt-LOG_MOST.false c.read_plan-reading.ensures c.if-answer-ne0.true c.put_refused.ensures
+    ran-refused c.args.plan.now c.args.ends.now c.args.out.now c.if-out-lt-LOG_MOST.false c.read-reading.ensures c.if-answer-ne0.true c.put_refused.ensures
 
 pub returns-then-ends-gt-TEXT_MOST : goal.returns-then-ends-gt-TEXT_MOST
 returns-then-ends-gt-TEXT_MOST c =
-    let known : Accepted c.args.plan.now c.args.out.now c.read_plan-reading.result = record { long = c.if-out-lt-LOG_MOST.false; reads = c.read_plan-reading.ensures; zero = c.if-answer-ne0.false } in
+    let known : Accepted c.args.plan.now c.args.out.now c.read-reading.result = record { long = c.if-out-lt-LOG_MOST.false; reads = c.read-reading.ensures; zero = c.if-answer-ne0.false } in
     ran-long known c.args.ends.now c.if-ends-gt-TEXT_MOST.true c.put_refused-then-ends-gt-TEXT_MOST.ensures
 
 pub early_after-early-requires : goal.early_after-early-requires
 early_after-early-requires c =
-    let known : Accepted c.args.plan.now c.args.out.now c.read_plan-reading.result = record { long = c.if-out-lt-LOG_MOST.false; reads = c.read_plan-reading.ensures; zero = c.if-answer-ne0.false } in
+    let known : Accepted c.args.plan.now c.args.out.now c.read-reading.result = record { long = c.if-out-lt-LOG_MOST.false; reads = c.read-reading.ensures; zero = c.if-answer-ne0.false } in
     opening-sound known _ c.open_book-opening.ensures
 
 pub put_opened-at-requires : goal.put_opened-at-requires
 put_opened-at-requires c =
     let o : Opened c.args.plan.now c.args.ends.now c.args.out.now c.choose-choice.result c.open_book-opening.result c.early_after-early.result =
     record {
-      reading = c.read_plan-reading.result;
+      reading = c.read-reading.result;
       rule = c.rule_of.result;
-      accepted = record { long = c.if-out-lt-LOG_MOST.false; reads = c.read_plan-reading.ensures; zero = c.if-answer-ne0.false };
+      accepted = record { long = c.if-out-lt-LOG_MOST.false; reads = c.read-reading.ensures; zero = c.if-answer-ne0.false };
       short = c.if-ends-gt-TEXT_MOST.false;
       chosen = c.choose-choice.ensures;
       ruled = c.rule_of.ensures;
@@ -42,9 +42,9 @@ pub put_ends-requires : goal.put_ends-requires
 put_ends-requires c =
     let o : Opened c.args.plan.now c.args.ends.now c.args.out.now c.choose-choice.result c.open_book-opening.result c.early_after-early.result =
     record {
-      reading = c.read_plan-reading.result;
+      reading = c.read-reading.result;
       rule = c.rule_of.result;
-      accepted = record { long = c.if-out-lt-LOG_MOST.false; reads = c.read_plan-reading.ensures; zero = c.if-answer-ne0.false };
+      accepted = record { long = c.if-out-lt-LOG_MOST.false; reads = c.read-reading.ensures; zero = c.if-answer-ne0.false };
       short = c.if-ends-gt-TEXT_MOST.false;
       chosen = c.choose-choice.ensures;
       ruled = c.rule_of.ensures;
@@ -58,9 +58,9 @@ pub put_ends-requires-in-Chosen : goal.put_ends-requires-in-Chosen
 put_ends-requires-in-Chosen c =
     let o : Opened c.args.plan.now c.args.ends.now c.args.out.now c.choose-choice.result c.open_book-opening.result c.early_after-early.result =
     record {
-      reading = c.read_plan-reading.result;
+      reading = c.read-reading.result;
       rule = c.rule_of.result;
-      accepted = record { long = c.if-out-lt-LOG_MOST.false; reads = c.read_plan-reading.ensures; zero = c.if-answer-ne0.false };
+      accepted = record { long = c.if-out-lt-LOG_MOST.false; reads = c.read-reading.ensures; zero = c.if-answer-ne0.false };
       short = c.if-ends-gt-TEXT_MOST.false;
       chosen = c.choose-choice.ensures;
       ruled = c.rule_of.ensures;
@@ -74,9 +74,9 @@ pub overflow_cast-column : goal.overflow_cast-column
 overflow_cast-column c =
     let o : Opened c.args.plan.now c.args.ends.now c.args.out.now c.choose-choice.result c.open_book-opening.result c.early_after-early.result =
     record {
-      reading = c.read_plan-reading.result;
+      reading = c.read-reading.result;
       rule = c.rule_of.result;
-      accepted = record { long = c.if-out-lt-LOG_MOST.false; reads = c.read_plan-reading.ensures; zero = c.if-answer-ne0.false };
+      accepted = record { long = c.if-out-lt-LOG_MOST.false; reads = c.read-reading.ensures; zero = c.if-answer-ne0.false };
       short = c.if-ends-gt-TEXT_MOST.false;
       chosen = c.choose-choice.ensures;
       ruled = c.rule_of.ensures;
@@ -90,9 +90,9 @@ pub returns-in-Unsaid : goal.returns-in-Unsaid
 returns-in-Unsaid c =
     let o : Opened c.args.plan.now c.args.ends.now c.args.out.now c.choose-choice.result c.open_book-opening.result c.early_after-early.result =
     record {
-      reading = c.read_plan-reading.result;
+      reading = c.read-reading.result;
       rule = c.rule_of.result;
-      accepted = record { long = c.if-out-lt-LOG_MOST.false; reads = c.read_plan-reading.ensures; zero = c.if-answer-ne0.false };
+      accepted = record { long = c.if-out-lt-LOG_MOST.false; reads = c.read-reading.ensures; zero = c.if-answer-ne0.false };
       short = c.if-ends-gt-TEXT_MOST.false;
       chosen = c.choose-choice.ensures;
       ruled = c.rule_of.ensures;
@@ -106,9 +106,9 @@ pub returns-in-Chosen : goal.returns-in-Chosen
 returns-in-Chosen c =
     let o : Opened c.args.plan.now c.args.ends.now c.args.out.now c.choose-choice.result c.open_book-opening.result c.early_after-early.result =
     record {
-      reading = c.read_plan-reading.result;
+      reading = c.read-reading.result;
       rule = c.rule_of.result;
-      accepted = record { long = c.if-out-lt-LOG_MOST.false; reads = c.read_plan-reading.ensures; zero = c.if-answer-ne0.false };
+      accepted = record { long = c.if-out-lt-LOG_MOST.false; reads = c.read-reading.ensures; zero = c.if-answer-ne0.false };
       short = c.if-ends-gt-TEXT_MOST.false;
       chosen = c.choose-choice.ensures;
       ruled = c.rule_of.ensures;
@@ -122,9 +122,9 @@ pub returns-in-Malformed : goal.returns-in-Malformed
 returns-in-Malformed c =
     let o : Opened c.args.plan.now c.args.ends.now c.args.out.now c.choose-choice.result c.open_book-opening.result c.early_after-early.result =
     record {
-      reading = c.read_plan-reading.result;
+      reading = c.read-reading.result;
       rule = c.rule_of.result;
-      accepted = record { long = c.if-out-lt-LOG_MOST.false; reads = c.read_plan-reading.ensures; zero = c.if-answer-ne0.false };
+      accepted = record { long = c.if-out-lt-LOG_MOST.false; reads = c.read-reading.ensures; zero = c.if-answer-ne0.false };
       short = c.if-ends-gt-TEXT_MOST.false;
       chosen = c.choose-choice.ensures;
       ruled = c.rule_of.ensures;

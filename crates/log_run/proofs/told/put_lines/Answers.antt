@@ -29,4 +29,4 @@ pub shape_of-out-in-Drop : goal.shape_of-out-in-Drop
 shape_of-out-in-Drop c = wrote-length (returns-in-Drop c)
 
 pub returns-in-Refused : goal.returns-in-Refused
-returns-in-Refused c = lines_none c.args.old.now c.args.book c.args.entry c.in-Refused.in-Refused-own.keys3
+returns-in-Refused c = lines_none c.args.old.now c.args.book.now c.args.entry c.in-Refused.in-Refused-own.keys3

@@ -18,7 +18,7 @@ put_early-requires c = tt
 
 pub returns : goal.returns
 returns c =
-    opened-wrote c.args.book c.args.early c.requires.0 c.requires.1 c.put_run-next.ensures c.put_starts-last.ensures c.put_early.ensures
+    opened-wrote c.args.book.now c.args.early c.requires.0 c.requires.1 c.put_run-next.ensures c.put_starts-last.ensures c.put_early.ensures
 
 pub shape_of-out : goal.shape_of-out
 shape_of-out c = wrote-length (returns c)

@@ -9,7 +9,7 @@ put_refused-requires c = tt
 
 pub returns-then-answer-ne0 : goal.returns-then-answer-ne0
 returns-then-answer-ne0 c =
-    told-no c.requires.0 c.args.entry c.args.old.now c.args.told c.if-answer-ne0.true c.put_refused.ensures
+    told-no c.requires.0 c.args.entry c.args.old.now c.args.told.now c.if-answer-ne0.true c.put_refused.ensures
 
 pub shape_of-out-then-answer-ne0 : goal.shape_of-out-then-answer-ne0
 shape_of-out-then-answer-ne0 c = wrote-length (returns-then-answer-ne0 c)
@@ -23,7 +23,7 @@ put_early-requires c = tt
 pub returns : goal.returns
 returns c =
     let zero = c.if-answer-ne0.false in
-    told-yes c.requires.0 c.args.entry c.args.old.now c.args.told zero (c.requires.1 zero) c.put_lines-next.ensures c.put_early.ensures
+    told-yes c.requires.0 c.args.entry c.args.old.now c.args.told.now zero (c.requires.1 zero) c.put_lines-next.ensures c.put_early.ensures
 
 pub shape_of-out : goal.shape_of-out
 shape_of-out c = wrote-length (returns c)

@@ -1,13 +1,11 @@
+use mathlib.Core.Path.{sym}
 use Prim.{tt}
 use Rattle.log_run.proofs.ToldLaws.{tell-end, tell-drop, tell-refused, short-column}
 use Rattle.log_run.proofs.BookLaws.{report-stays, drop-stays}
 use Rattle.log_run.proofs.told.tell.Goals as goal
 
-pub report-reported-requires : goal.report-reported-requires
-report-reported-requires c = tt
-
 pub show-requires : goal.show-requires
-show-requires c = report-stays _ _ _ c.report-reported.ensures
+show-requires c = report-stays _ _ _ (sym c.report_in_place-answer.ensures)
 
 pub drop-dropped-requires : goal.drop-dropped-requires
 drop-dropped-requires c = tt
@@ -22,7 +20,7 @@ pub refuse-requires : goal.refuse-requires
 refuse-requires c = tt
 
 pub returns-in-End : goal.returns-in-End
-returns-in-End c = tell-end _ _ c.in-End.is c.report-reported.ensures c.show.ensures
+returns-in-End c = tell-end _ _ c.in-End.is (sym c.report_in_place-answer.ensures) c.show.ensures
 
 pub returns-in-Drop : goal.returns-in-Drop
 returns-in-Drop c = tell-drop _ _ c.in-Drop.is c.drop-dropped.ensures c.show-in-Drop.ensures
