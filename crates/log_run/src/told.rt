@@ -1,5 +1,6 @@
 // What a line of ends.txt is answered, and what it prints; likewise of opening.
 ghost use Rattle.std.specs.Prelude.{◌≡◌, cond, eqb, true, ◌+◌, ◌*◌, ◌<◌, ◌≤◌, min, length};
+ghost use Rattle.book.specs.Drop.{dropped_of};
 ghost use Rattle.book.specs.Early.{figure_of};
 ghost use Rattle.plan.specs.Answer.{refuse};
 ghost use Rattle.book.specs.Sound.{is_sound};
@@ -35,37 +36,57 @@ pub(crate) fn early_after(code: u32, book: &Book) -> u32
     )
 }
 
-fn show(answer: Answer, book: &Book) -> StepOutcome
-    requires { answer.code ≡ 0 → is_sound book.now ≡ true }
-    ensures { result ≡ shown_after answer book.now }
+// The answer to a step that is made, beside the book after it.
+fn show(told: &mut StepOutcome, answer: Answer)
+    requires { answer.code ≡ 0 → is_sound told.old.book ≡ true }
+    ensures { told.new ≡ shown_after answer told.old.book }
 {
-    let early = early_after(answer.code, book);
-    StepOutcome {
-        answer,
-        book: *book,
-        early,
-    }
+    let early = early_after(answer.code, &told.book);
+    told.answer = answer;
+    told.early = early;
 }
 
-pub(crate) fn tell(line: u32, mut book: Book, entry: Entry) -> StepOutcome
+fn drop_in_place(book: &mut Book, task: u32) -> Answer
+    ensures { dropped_of book.old task ≡ record { answer = result; book = book.new } }
+{
+    let before = *book;
+    let dropped = before.drop(task);
+    *book = dropped.book;
+    dropped.answer
+}
+
+// The step is made where the book stands, so that the stack holds one.
+pub(crate) fn tell_in_place(line: u32, told: &mut StepOutcome, entry: Entry)
     requires { Short entry }
-    ensures { result ≡ told_of line book entry }
+    ensures { told.new ≡ told_of line told.old.book entry }
 {
     match entry {
         Entry::End(task, tick) => {
-            let answer = report_in_place(&mut book, task, tick);
-            show(answer, &book)
+            let answer = report_in_place(&mut told.book, task, tick);
+            show(told, answer);
         }
         Entry::Drop(task) => {
-            let dropped = book.drop(task);
-            show(dropped.answer, &dropped.book)
+            let answer = drop_in_place(&mut told.book, task);
+            show(told, answer);
         }
-        Entry::Refused(code, column) => StepOutcome {
-            answer: refuse(code, line, column as u32),
-            book,
-            early: 0,
-        },
+        Entry::Refused(code, column) => {
+            told.answer = refuse(code, line, column as u32);
+            told.early = 0;
+        }
     }
+}
+
+pub(crate) fn tell(line: u32, book: Book, entry: Entry) -> StepOutcome
+    requires { Short entry }
+    ensures { result ≡ told_of line book entry }
+{
+    let mut told = StepOutcome {
+        answer: refuse(0, 0, 0),
+        book,
+        early: 0,
+    };
+    tell_in_place(line, &mut told, entry);
+    told
 }
 
 fn low(column: usize) -> usize

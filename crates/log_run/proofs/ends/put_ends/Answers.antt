@@ -11,20 +11,20 @@ loop-rest-init c = walk_start c.requires.begun c.requires.sized
 pub next_entry-entry-requires : goal.next_entry-entry-requires
 next_entry-entry-requires c = tt
 
-pub tell-told-requires : goal.tell-told-requires
-tell-told-requires c = walk-short c.loop-rest.invariant c.requires.short c.next_entry-entry.ensures
+pub tell_in_place-requires : goal.tell_in_place-requires
+tell_in_place-requires c = walk-short c.loop-rest.invariant c.requires.short c.next_entry-entry.ensures
 
 pub put_told-place-requires : goal.put_told-place-requires
 put_told-place-requires c =
     let walk = c.loop-rest.invariant in
-    (omega (arith, walk.kept, walk.room, c.requires.room), told_names _ _ _ c.tell-told.ensures)
+    (omega (arith, walk.kept, walk.room, c.requires.room), told_names _ _ _ c.tell_in_place.ensures)
 
 pub entry_code-requires : goal.entry_code-requires
 entry_code-requires c = tt
 
 pub returns-then-entry_code-ne0 : goal.returns-then-entry_code-ne0
 returns-then-entry_code-ne0 c =
-    walk-stops c.loop-rest.invariant c.next_entry-entry.ensures c.loop-rest-test.true c.tell-told.ensures
+    walk-stops c.loop-rest.invariant c.next_entry-entry.ensures c.loop-rest-test.true c.tell_in_place.ensures
     c.put_told-place.ensures c.entry_code.ensures c.if-entry_code-ne0.true
 
 pub shape_of-out-then-entry_code-ne0 : goal.shape_of-out-then-entry_code-ne0
@@ -43,7 +43,7 @@ loop-rest-smaller c =
 
 pub loop-rest-preserved : goal.loop-rest-preserved
 loop-rest-preserved c =
-    walk-goes c.loop-rest.invariant c.next_entry-entry.ensures c.loop-rest-test.true c.tell-told.ensures
+    walk-goes c.loop-rest.invariant c.next_entry-entry.ensures c.loop-rest-test.true c.tell_in_place.ensures
     c.put_told-place.ensures c.entry_code.ensures c.if-entry_code-ne0.false c.part_after-next.ensures
 
 pub returns : goal.returns
