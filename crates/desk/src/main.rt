@@ -31,7 +31,8 @@ pub(crate) struct Session {
     pub goes: bool,
 }
 
-// The first bytes of the buffer are the whole log, whatever the two texts are. What the buffer holds is never less.
+// The first bytes of the buffer are the whole log, whatever the two texts are. What the buffer holds is never less. A call of its own: its part of the stack is given back before the first line.
+#[inline(never)]
 fn put_start(plan: &[u8], ends: &[u8], out: &mut [u8; LOG_MOST]) -> DeskOpening
     ensures prefix_len { IsPrefixLen result.length out.new }
     ensures value { (result ≡ begun_of plan.now ends.now) × (take result.length out.new ≡ start_log plan.now ends.now) }
