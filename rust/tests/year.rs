@@ -442,6 +442,7 @@ fn project(name: &str, program: &str) -> PathBuf {
     let root = new_folder(name);
     fs::create_dir_all(root.join("crates")).unwrap();
     copy_files("tools/common", &root);
+    copy_files("tools/links", &root);
     fs::write(root.join("crates.txt"), "year:\n").unwrap();
     for file in ["year", "tools/year", "tools/run.bash", "tools/use.bash"] {
         copy_command(file, &root);
