@@ -9,8 +9,7 @@ use dispatcher::sample::tally::say;
 use std::fs::{self, File};
 use std::path::PathBuf;
 
-/// It was 336: the compiler of today lays the same code out in larger frames (docs/PORT.md).
-const MOST_KIB_RUNLOG: u32 = 360;
+const MOST_KIB_RUNLOG: u32 = 336;
 const MOST_KIB_JUDGELOG: u32 = 192;
 const MOST_KIB_DESK: u32 = 448;
 
@@ -90,7 +89,7 @@ fn full_morning(name: &str) -> PathBuf {
 }
 
 #[test]
-fn runlog_takes_no_more_than_360_kib() {
+fn runlog_takes_no_more_than_336_kib() {
     let run = Run {
         program: "runlog",
         folder: full_morning(""),

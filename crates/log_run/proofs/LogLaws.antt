@@ -2,7 +2,7 @@
 use Prim.Native.Nat.{ℕ, ◌≤◌, ◌<◌}
 use mathlib.Core.Path.{◌≡◌, refl, sym, ap, ◌∙◌}
 use mathlib.Core.Logic.{◌≢◌}
-use mathlib.Core.Bool.{true, false}
+use mathlib.Core.Bool.{false}
 use mathlib.Core.List.{List, ◌++◌}
 use native.Mathlib.Omega.{arith}
 use lib.ListN.{length}
@@ -11,21 +11,18 @@ use borrow.Author.Tests.{eq-eqb, ne_eqb, lt-ltb, le-ltb, lt-leb, le-leb}
 use Rattle.laws.specs.Split.{after}
 use Rattle.text.specs.Line.{LF}
 use Rattle.plan.specs.Answer.{refuse, granted}
-use Rattle.plan.specs.Read.{reading_of}
-use Rattle.plan.specs.Value.{is_accepted}
+use Rattle.plan.specs.Read.{reading_of, text_answer}
 use Rattle.plan.specs.declared.Answer.{Answer}
 use Rattle.plan.specs.declared.Plan.{Plan}
 use Rattle.plan.specs.declared.Reading.{Reading}
 use Rattle.plan.proofs.ReadOk.{read_answer, read-accepted, read-sized}
-use Rattle.book.specs.Sound.{is_sound}
-use Rattle.book.proofs.Soundness.{opened-is-sound}
 use Rattle.book.specs.Open.{opened_on, opening_of}
 use Rattle.book.specs.declared.Book.{Book}
 use Rattle.book.specs.declared.BookResult.{BookResult}
 use Rattle.book.specs.declared.Rule.{Rule}
 use Rattle.book.specs.declared.Rule.TheVariants.{Clash}
 use Rattle.book_view.proofs.Accepted.{plan-facts}
-use Rattle.book.proofs.Sizes.{SizedPlan, sized-opened}
+use Rattle.book.proofs.Sizes.{sized-opened}
 use Rattle.log_read.specs.Rules.{choice_of}
 use Rattle.log_read.specs.declared.Choice.{Choice}
 use Rattle.log_read.specs.declared.Choice.TheVariants.{Unsaid, Chosen, Malformed}
@@ -33,8 +30,8 @@ use Rattle.log_run.specs.Log.{shown_after, open_log, rest_log, chosen_log, log_o
 use Rattle.log_write.specs.Lines.{Lined, refused_line}
 use Rattle.log_write.specs.Private.Wrote.{Wrote}
 use Rattle.log_run.specs.Private.Writes.{opened_in, rule_of}
-use Rattle.log_run.specs.Private.Room.{EndsFit, ends_most}
-use Rattle.log_write.proofs.WriteLaws.{also, wrote-length, wrote-line}
+use Rattle.log_run.specs.Private.Room.{EndsFit, LogFits, ends_most}
+use Rattle.log_write.proofs.WriteLaws.{also, looser, wrote-length, wrote-line}
 use Rattle.log_run.proofs.ComeLaws.{come-most}
 use Rattle.log_run.proofs.BookLaws.{opened-tasks, opening-answer, opening-book}
 use Rattle.log_run.proofs.OpenLaws.{opened-same, rest-less}
@@ -83,111 +80,121 @@ module _ {plan out : List ℕ} {reading : Reading} (k : Accepted plan out readin
       (omega arith)
       (wrote-line (omega (arith, k.long)) w)
 
-  its-accepted : is_accepted (reading_of plan).plan ≡ true
-  its-accepted = read-accepted false plan (ap (λ (a : Answer). a.code) (sym (read_answer false plan)) ∙ its-zero)
+  read-code : (text_answer false plan).code ≡ 0
+  read-code = ap (λ (a : Answer). a.code) (sym (read_answer false plan)) ∙ its-zero
 
-  its-sized : SizedPlan (reading_of plan).plan
-  its-sized = read-sized false plan (ap (λ (a : Answer). a.code) (sym (read_answer false plan)) ∙ its-zero)
+  module _ (ends : List ℕ) (short : length ends ≤ 32768) where
+    pub log-fits : LogFits reading.plan ends out
+    log-fits = record {
+      accepted = rw k.reads (read-accepted false plan read-code);
+      sized = rw k.reads (read-sized false plan read-code);
+      short = short;
+      long = k.long;
+    }
 
-  pub opening-sound : (rule : Rule) {o : BookResult} → o ≡ opening_of reading.plan rule → o.answer.code ≡ 0 → is_sound o.book ≡ true
-  opening-sound rule q y =
-      rw (q, k.reads, opening-book (reading_of plan).plan rule its-accepted) (opened-is-sound (reading_of plan).plan rule its-accepted)
+    pub ran-chosen-log : {m : List ℕ} {p : ℕ} → Wrote out 0 (chosen_log (choice_of ends) reading.plan ends) 212992 m p → Ran plan ends out m p
+    unfolding log_of
+    ran-chosen-log w =
+        ran-whole plan ends out k.long
+        (rw (k.reads, eq-eqb (reading_of plan).answer.code 0 its-zero, le-ltb 32768 (length ends) short))
+        (omega arith)
+        w
 
 -- ---- its book is opened
 
 -- what is known then: it is opened by the rule that the first line chooses
-pub record Opened (plan ends out : List ℕ) (choice : Choice) (handed : BookResult) (early : ℕ) : Type 0 where
-  pub reading : Reading
+pub record Opened (plan : Plan) (ends out : List ℕ) (choice : Choice) (handed : BookResult) (early : ℕ) : Type 0 where
   pub rule : Rule
-  pub accepted : Accepted plan out reading
-  pub short : length ends ≤ 32768
+  pub fits : LogFits plan ends out
   pub chosen : choice ≡ choice_of ends
   pub ruled : rule ≡ rule_of choice
-  pub opens : handed ≡ opening_of reading.plan rule
+  pub opens : handed ≡ opening_of plan rule
   pub shows : early ≡ (shown_after handed.answer handed.book).early
 
-module _ {plan ends out : List ℕ} {choice : Choice} {handed : BookResult} {early : ℕ} (o : Opened plan ends out choice handed early) where
-  abbrev its-plan : Plan
-  its-plan = (reading_of plan).plan
+pub opened-by :
+    {plan : Plan} {ends out : List ℕ} {choice : Choice} {rule : Rule} {handed : BookResult} {early : ℕ}
+    → LogFits plan ends out → choice ≡ choice_of ends → rule ≡ rule_of choice → handed ≡ opening_of plan rule
+    → early ≡ (shown_after handed.answer handed.book).early → Opened plan ends out choice handed early
+opened-by {rule = rule} f c r h e = record { rule = rule; fits = f; chosen = c; ruled = r; opens = h; shows = e }
 
-  its-book : handed.book ≡ opened_on its-plan o.rule
-  its-book =
-      ap (λ (x : BookResult). x.book) o.opens
-      ∙ ap (λ (x : Reading). (opening_of x.plan o.rule).book) o.accepted.reads
-      ∙ opening-book its-plan o.rule (its-accepted o.accepted)
+module _ {plan : Plan} {ends out : List ℕ} {choice : Choice} {handed : BookResult} {early : ℕ} (o : Opened plan ends out choice handed early) where
+  its-book : handed.book ≡ opened_on plan o.rule
+  its-book = ap (λ (x : BookResult). x.book) o.opens ∙ opening-book plan o.rule o.fits.accepted
 
   its-answer : handed.answer ≡ granted
-  its-answer =
-      ap (λ (x : BookResult). x.answer) o.opens
-      ∙ ap (λ (x : Reading). (opening_of x.plan o.rule).answer) o.accepted.reads
-      ∙ opening-answer its-plan o.rule (its-accepted o.accepted)
+  its-answer = ap (λ (x : BookResult). x.answer) o.opens ∙ opening-answer plan o.rule o.fits.accepted
 
-  its-text : opened_in handed.book early ≡ open_log its-plan o.rule
+  its-text : opened_in handed.book early ≡ open_log plan o.rule
   its-text =
       ap (λ (e : ℕ). opened_in handed.book e) o.shows
       ∙ ap (λ (b : Book). opened_in b (shown_after handed.answer b).early) its-book
-      ∙ ap (λ (a : Answer). opened_in (opened_on its-plan o.rule) (shown_after a (opened_on its-plan o.rule)).early) its-answer
-      ∙ opened-same its-plan o.rule
+      ∙ ap (λ (a : Answer). opened_in (opened_on plan o.rule) (shown_after a (opened_on plan o.rule)).early) its-answer
+      ∙ opened-same plan o.rule
 
   pub opened-few : handed.book.tasks ≤ 64
   opened-few =
-      let n = ap (λ (b : Book). b.tasks) its-book ∙ opened-tasks its-plan o.rule in
-      omega (arith, n, (plan-facts its-plan (its-accepted o.accepted)).tasks-to)
+      let n = ap (λ (b : Book). b.tasks) its-book ∙ opened-tasks plan o.rule in
+      omega (arith, n, (plan-facts plan o.fits.accepted).tasks-to)
 
   its-rule : {this : Choice} → choice ≡ this → o.rule ≡ rule_of this
   its-rule c = o.ruled ∙ ap rule_of c
 
-  log_is : {this : Choice} → choice ≡ this → chosen_log this its-plan ends ≡ log_of plan ends
-  unfolding log_of
-  log_is c =
-      rw (eq-eqb (reading_of plan).answer.code 0 (its-zero o.accepted), le-ltb 32768 (length ends) o.short)
-      (ap (λ (x : Choice). chosen_log x its-plan ends) (sym c ∙ o.chosen))
+  log_is : {this : Choice} → choice ≡ this → chosen_log this plan ends ≡ chosen_log (choice_of ends) plan ends
+  log_is c = ap (λ (x : Choice). chosen_log x plan ends) (sym c ∙ o.chosen)
 
   ends-most : (rest : List ℕ) → length rest ≤ length ends → ends_most handed.book rest ≤ 206128
-  ends-most rest l = omega (arith, o.short, opened-few, come-most handed.book.mark handed.book.dropped handed.book.tasks)
+  ends-most rest l = omega (arith, o.fits.short, opened-few, come-most handed.book.mark handed.book.dropped handed.book.tasks)
 
   module _ {m : List ℕ} {p : ℕ} (v : Wrote out 0 (opened_in handed.book early) 3432 m p) where
     -- the room for the rest of ends.txt from line 1 or 2 on
     pub ends-fit : {line : ℕ} {rest : List ℕ} → line ≤ 2 → length rest ≤ length ends → EndsFit m p handed.book line rest
     ends-fit {rest = rest} i l = record {
       begun = i;
-      short = omega (arith, o.short);
-      sized = rw its-book (sized-opened its-plan o.rule (its-sized o.accepted));
-      room = omega (arith, o.accepted.long, ends-most rest l, v.place, v.small, wrote-length v);
+      short = omega (arith, o.fits.short);
+      sized = rw its-book (sized-opened plan o.rule o.fits.sized);
+      room = omega (arith, o.fits.long, ends-most rest l, v.place, v.small, wrote-length v);
     }
 
     module _ {m' : List ℕ} {p' : ℕ} where
       ran-tail :
-          {tail : List ℕ} {a : ℕ} → a ≤ 206128 → open_log its-plan o.rule ++ tail ≡ log_of plan ends → Wrote m p tail a m' p'
-          → Ran plan ends out m' p'
-      ran-tail {tail} l f w = ran-whole plan ends out o.accepted.long (ap (λ (x : List ℕ). x ++ tail) its-text ∙ f) (omega arith) (also v w)
+          {tail : List ℕ} {a : ℕ} → a ≤ 206128 → open_log plan o.rule ++ tail ≡ chosen_log (choice_of ends) plan ends → Wrote m p tail a m' p'
+          → Wrote out 0 (chosen_log (choice_of ends) plan ends) 212992 m' p'
+      ran-tail {tail} l f w =
+          let e : opened_in handed.book early ++ tail ≡ chosen_log (choice_of ends) plan ends = ap (λ (x : List ℕ). x ++ tail) its-text ∙ f in
+          let w' : Wrote out 0 (opened_in handed.book early ++ tail) 212992 m' p' = looser (omega arith) (also v w) in
+          rw e at w'
 
       -- the rest from line n on, by the rule that was chosen
       ran-rest :
           (n : ℕ) (rest : List ℕ) {this : Choice} → choice ≡ this → length rest ≤ length ends
-          → open_log its-plan (rule_of this) ++ rest_log (opened_on its-plan (rule_of this)) n rest ≡ chosen_log this its-plan ends
-          → Wrote m p (rest_log handed.book n rest) (ends_most handed.book rest) m' p' → Ran plan ends out m' p'
+          → open_log plan (rule_of this) ++ rest_log (opened_on plan (rule_of this)) n rest ≡ chosen_log this plan ends
+          → Wrote m p (rest_log handed.book n rest) (ends_most handed.book rest) m' p'
+          → Wrote out 0 (chosen_log (choice_of ends) plan ends) 212992 m' p'
       ran-rest n rest c l f =
           ran-tail (ends-most rest l)
-          (ap (λ (b : Book). open_log its-plan o.rule ++ rest_log b n rest) its-book
-          ∙ ap (λ (x : Rule). open_log its-plan x ++ rest_log (opened_on its-plan x) n rest) (its-rule c)
+          (ap (λ (b : Book). open_log plan o.rule ++ rest_log b n rest) its-book
+          ∙ ap (λ (x : Rule). open_log plan x ++ rest_log (opened_on plan x) n rest) (its-rule c)
           ∙ f
           ∙ log_is c)
 
       pub ran-unsaid :
-          choice ≡ Unsaid → Wrote m p (rest_log handed.book 1 ends) (ends_most handed.book ends) m' p' → Ran plan ends out m' p'
+          choice ≡ Unsaid → Wrote m p (rest_log handed.book 1 ends) (ends_most handed.book ends) m' p'
+          → Wrote out 0 (chosen_log (choice_of ends) plan ends) 212992 m' p'
       unfolding chosen_log
       ran-unsaid c = ran-rest 1 ends c (omega arith) refl
 
       pub ran-chosen :
           choice ≡ Chosen → {rest : List ℕ} → rest ≡ after LF ends
-          → Wrote m p (rest_log handed.book 2 rest) (ends_most handed.book rest) m' p' → Ran plan ends out m' p'
+          → Wrote m p (rest_log handed.book 2 rest) (ends_most handed.book rest) m' p'
+          → Wrote out 0 (chosen_log (choice_of ends) plan ends) 212992 m' p'
       unfolding chosen_log
-      ran-chosen c {rest} u = ran-rest 2 rest c (rest-less ends u) (ap (λ (s : List ℕ). open_log its-plan Clash ++ rest_log (opened_on its-plan Clash) 2 s) u)
+      ran-chosen c {rest} u = ran-rest 2 rest c (rest-less ends u) (ap (λ (s : List ℕ). open_log plan Clash ++ rest_log (opened_on plan Clash) 2 s) u)
 
-      pub ran-malformed : {column : ℕ} → choice ≡ Malformed column → Lined m p (refused_line (refuse 3 1 column)) 41 m' p' → Ran plan ends out m' p'
+      pub ran-malformed :
+          {column : ℕ} → choice ≡ Malformed column → Lined m p (refused_line (refuse 3 1 column)) 41 m' p'
+          → Wrote out 0 (chosen_log (choice_of ends) plan ends) 212992 m' p'
       unfolding chosen_log
       ran-malformed {column} c w =
           ran-tail (omega arith)
-          (ap (λ (x : Rule). open_log its-plan x ++ refused_line (refuse 3 1 column)) (its-rule c) ∙ log_is c)
-          (wrote-line (omega (arith, o.accepted.long, v.place, v.small, wrote-length v)) w)
+          (ap (λ (x : Rule). open_log plan x ++ refused_line (refuse 3 1 column)) (its-rule c) ∙ log_is c)
+          (wrote-line (omega (arith, o.fits.long, v.place, v.small, wrote-length v)) w)

@@ -11,13 +11,13 @@ use plan::refuse;
 use text::part::{LF, part_after};
 
 // The rest of the text, from its line's number on, and the book go on to the next line. A line that is refused by itself is the last.
-pub(crate) fn put_ends(out: &mut [u8], at: usize, book: Book, mut line: u32, ends: &[u8]) -> usize
-    requires { EndsFit out.old at book line ends.now }
-    ensures { Wrote out.old at (rest_log book line ends.now) (ends_most book ends.now) out.new result }
+pub(crate) fn put_ends(out: &mut [u8], at: usize, book: &Book, mut line: u32, ends: &[u8]) -> usize
+    requires { EndsFit out.old at book.now line ends.now }
+    ensures { Wrote out.old at (rest_log book.now line ends.now) (ends_most book.now ends.now) out.new result }
 {
     let mut told = StepOutcome {
         answer: refuse(0, 0, 0),
-        book,
+        book: *book,
         early: 0,
     };
     let mut place = at;

@@ -9,15 +9,19 @@ pub mod told;
 ghost use Rattle.std.specs.Prelude.{◌≡◌, ◌≤◌, length};
 ghost use Rattle.std.proofs.lemmas.List.Edits.{sets};
 ghost use Rattle.plan.specs.Read.{reading_of};
-ghost use Rattle.log_run.specs.Log.{log_most, log_in};
+ghost use Rattle.book.specs.Open.{opening_of};
+ghost use Rattle.log_read.specs.Rules.{choice_of};
+ghost use Rattle.log_write.specs.Private.Wrote.{Wrote};
+ghost use Rattle.log_run.specs.Log.{chosen_log, log_most, log_in};
+ghost use Rattle.log_run.specs.Private.Room.{LogFits};
 ghost use Rattle.log_run.specs.Private.Writes.{rule_of};
 
-use book::{Book, Rule, open_book};
+use book::{Book, BookResult, Rule, open_book};
 use ends::put_ends;
 use log_read::Choice;
 use log_read::rules::choose;
 use log_write::put_refused;
-use plan::{Answer, Reading};
+use plan::{Answer, Plan, Reading};
 use plan_read::read_plan;
 use text::TEXT_MOST;
 use text::part::{LF, part_after};
@@ -53,12 +57,37 @@ fn rule_of(choice: Choice) -> Rule
     }
 }
 
-// A call of its own: its part of the stack is given back before the ends are read.
+// Calls of their own: their parts of the stack are given back before the ends are read.
 #[inline(never)]
 fn read(plan: &[u8]) -> Reading
     ensures { result ≡ reading_of plan.now }
 {
     read_plan(plan)
+}
+
+#[inline(never)]
+fn open(plan: &Plan, rule: Rule) -> BookResult
+    ensures { result ≡ opening_of plan.now rule }
+{
+    open_book(*plan, rule)
+}
+
+// A call of its own, so that `run_log` holds nothing but what was read while it reads the plan.
+#[inline(never)]
+fn run_chosen(plan: &Plan, ends: &[u8], out: &mut [u8]) -> usize
+    requires { LogFits plan.now ends.now out.old }
+    ensures { Wrote out.old 0 (chosen_log (choice_of ends.now) plan.now ends.now) log_most out.new result }
+{
+    let choice = choose(ends);
+    let opening = open(plan, rule_of(choice));
+    let said = opening.answer;
+    let early = early_after(said.code, &opening.book);
+    let at = put_opened(out, &opening.book, early);
+    match choice {
+        Choice::Unsaid => put_ends(out, at, &opening.book, 1, ends),
+        Choice::Chosen => put_ends(out, at, &opening.book, 2, part_after(ends, LF)),
+        Choice::Malformed(column) => put_refused(out, at, 3, 1, column as u32),
+    }
 }
 
 // Nothing is written where the buffer is shorter than LOG_MOST.
@@ -77,14 +106,5 @@ pub fn run_log(plan: &[u8], ends: &[u8], out: &mut [u8]) -> usize
     if TEXT_MOST < ends.len() {
         return put_refused(out, 0, 1, 0, 0);
     }
-    let choice = choose(ends);
-    let opening = open_book(reading.plan, rule_of(choice));
-    let said = opening.answer;
-    let early = early_after(said.code, &opening.book);
-    let at = put_opened(out, &opening.book, early);
-    match choice {
-        Choice::Unsaid => put_ends(out, at, opening.book, 1, ends),
-        Choice::Chosen => put_ends(out, at, opening.book, 2, part_after(ends, LF)),
-        Choice::Malformed(column) => put_refused(out, at, 3, 1, column as u32),
-    }
+    run_chosen(&reading.plan, ends, out)
 }

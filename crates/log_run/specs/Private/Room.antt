@@ -1,8 +1,10 @@
 -- How many bytes are still to come.
-use Rattle.std.specs.Prelude.{ℕ, zero, suc, ◌+◌, ◌-◌, ◌*◌, ◌≤◌, cond, List, eqb, length}
-use Rattle.plan.specs.Value.{at}
+use Rattle.std.specs.Prelude.{ℕ, zero, suc, ◌+◌, ◌-◌, ◌*◌, ◌≤◌, ◌≡◌, true, cond, List, eqb, length}
+use Rattle.plan.specs.Value.{at, is_accepted}
+use Rattle.plan.specs.declared.Plan.{Plan}
 use Rattle.book.specs.declared.Book.{Book}
-use Rattle.book.proofs.Sizes.{Sized}
+use Rattle.book.proofs.Sizes.{SizedPlan, Sized}
+use Rattle.log_run.specs.Log.{log_most}
 
 -- how many lines are still to come of a task: a start and an end, or the one of its skip
 unfoldable pub lines_left : ℕ → ℕ → ℕ
@@ -26,3 +28,10 @@ pub record EndsFit (out : List ℕ) (from : ℕ) (book : Book) (line : ℕ) (end
   pub short : length ends ≤ 32768
   pub sized : Sized book
   pub room : from + ends_most book ends + 3432 ≤ length out
+
+-- an accepted plan, an ends.txt that is not too long, and room for any log
+pub record LogFits (plan : Plan) (ends out : List ℕ) : Type 0 where
+  pub accepted : is_accepted plan ≡ true
+  pub sized : SizedPlan plan
+  pub short : length ends ≤ 32768
+  pub long : log_most ≤ length out
