@@ -564,13 +564,25 @@ fn a_list_need_not_end() {
     }
 }
 
-#[test]
-fn ctrl_c_leaves_nothing_running_and_no_link() {
-    let program = format!("echo $$ >child; {NOTES}; exec sleep 600");
-    let root = project_with_link("year-ctrl-c", &program);
-    let (shown, status) = year_on_terminal(&root, &["200 logs done", "\x03"]);
+fn program_to_interrupt() -> String {
+    format!("echo $$ >child; {NOTES}; exec sleep 600")
+}
+
+fn expect_ended_by_ctrl_c(root: &Path) {
+    let (shown, status) = year_on_terminal(root, &["200 logs done", "\x03"]);
     assert_eq!(status, Some(130), "{shown:?}");
     let child = root.join("child");
     assert!(comes_true(|| is_gone(&child)), "the program runs on");
+}
+
+#[test]
+fn ctrl_c_leaves_nothing_running() {
+    expect_ended_by_ctrl_c(&project("year-ctrl-c", &program_to_interrupt()));
+}
+
+#[test]
+fn ctrl_c_leaves_no_link() {
+    let root = project_with_link("year-ctrl-c-link", &program_to_interrupt());
+    expect_ended_by_ctrl_c(&root);
     expect_link_gone(&root);
 }
