@@ -2,7 +2,7 @@
 ghost use Rattle.std.specs.Prelude.{◌≤◌};
 ghost use Rattle.io.specs.Counts.{IsPrefixLen};
 
-use files::say::{Say, fail};
+use files::say::{Say, is_done};
 use std::fs::{File, OpenFile};
 use std::io;
 use std::io::{Error, ErrorKind, Write};
@@ -11,17 +11,6 @@ use text::part::LF;
 use text::put::{put_byte, put_text};
 
 const ENDS: &str = "ends.txt";
-
-// One sentence on standard error where it could not be done.
-fn is_done(rt: &impl Say, done: io::Result<()>) -> bool {
-    match done {
-        Ok(()) => true,
-        Err(error) => {
-            fail(rt, ENDS.as_bytes(), error);
-            false
-        }
-    }
-}
 
 // One write, so that a line is there whole or has no LF, and is cut off at the next start.
 fn append<F: Write + OpenFile>(file: &mut F, text: &[u8]) -> io::Result<()> {
@@ -68,7 +57,7 @@ fn put_line(line: &[u8], text: &mut [u8; 66]) -> usize
 pub(crate) fn keep(rt: &(impl Files + Say), line: &[u8]) -> bool {
     let mut text = [0u8; 66];
     let length = put_line(line, &mut text);
-    is_done(rt, keep_text(rt, &text[..length]))
+    is_done(rt, ENDS.as_bytes(), keep_text(rt, &text[..length]))
 }
 
 fn cut_to(rt: &impl Files, length: usize) -> io::Result<()> {
@@ -81,7 +70,7 @@ fn cut_to(rt: &impl Files, length: usize) -> io::Result<()> {
 pub(crate) fn cut(rt: &(impl Files + Say), length: usize) -> bool
     requires { length ≤ 32769 }
 {
-    let is_cut = is_done(rt, cut_to(rt, length));
+    let is_cut = is_done(rt, ENDS.as_bytes(), cut_to(rt, length));
     if is_cut {
         rt.say(b"note: what followed the last LF of ends.txt was never answered, and is cut off\n");
     }

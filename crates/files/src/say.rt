@@ -1,7 +1,9 @@
 // What is said on standard error. It is bytes, since the name of a file need not be text.
+ghost use Rattle.std.specs.Prelude.{◌≡◌, is_ok};
 ghost use Rattle.std.specs.Io.{StartsWith};
 
 use std::fmt::InlineText;
+use std::io;
 use std::io::Error;
 
 // The longest text of the system's for an error has fewer bytes.
@@ -30,10 +32,23 @@ fn before_number(words: &str) -> &str
 }
 
 // A line: what failed, a colon and what the error says.
-pub fn fail(rt: &impl Say, what: &[u8], error: Error) {
+pub(crate) fn fail(rt: &impl Say, what: &[u8], error: Error) {
     let words: InlineText<WORDS_MOST> = InlineText::of(error);
     rt.say(what);
     rt.say(b": ");
     rt.say(before_number(words.as_str()).as_bytes());
     rt.say(b"\n");
+}
+
+// Whether it was done; where it was not, a line says what failed.
+pub fn is_done(rt: &impl Say, what: &[u8], done: io::Result<()>) -> bool
+    ensures { result ≡ is_ok done }
+{
+    match done {
+        Ok(()) => true,
+        Err(error) => {
+            fail(rt, what, error);
+            false
+        }
+    }
 }
