@@ -57,19 +57,30 @@ module _ (plan : Plan) (rule : Rule) {handed : BookResult} (o : handed ≡ openi
       let z' : (opening_of plan rule).answer.code ≡ 0 = rw o at z in
       by_bool (is_accepted plan) (λ e. e) (λ e. let n : ◌≡◌ {A = ℕ} 9 0 = rw e at z' in absurd (omega arith))
 
-  its-book : handed.answer.code ≡ 0 → handed.book ≡ opened_on plan rule
-  its-book z = ap (λ (x : BookResult). x.book) o ∙ opening-book plan rule (opening-accepts z)
+  module _ (h : is_accepted plan ≡ true) where
+    pub its-book : handed.book ≡ opened_on plan rule
+    its-book = ap (λ (x : BookResult). x.book) o ∙ opening-book plan rule h
 
-  its-answer : handed.answer.code ≡ 0 → handed.answer ≡ granted
-  its-answer z = ap (λ (x : BookResult). x.answer) o ∙ opening-answer plan rule (opening-accepts z)
+    its-answer : handed.answer ≡ granted
+    its-answer = ap (λ (x : BookResult). x.answer) o ∙ opening-answer plan rule h
+
+    pub its-few : handed.book.tasks ≤ 64
+    its-few =
+        let n = ap (λ (b : Book). b.tasks) its-book ∙ opened-tasks plan rule in
+        omega (arith, n, (plan-facts plan h).tasks-to)
+
+    pub its-text : {early : ℕ} → early ≡ (shown_after handed.answer handed.book).early → opened_in handed.book early ≡ open_log plan rule
+    its-text e =
+        ap (λ (x : ℕ). opened_in handed.book x) e
+        ∙ ap (λ (b : Book). opened_in b (shown_after handed.answer b).early) its-book
+        ∙ ap (λ (a : Answer). opened_in (opened_on plan rule) (shown_after a (opened_on plan rule)).early) its-answer
+        ∙ opened-same plan rule
 
   pub opening-sound : handed.answer.code ≡ 0 → is_sound handed.book ≡ true
-  opening-sound z = rw (its-book z) (opened-is-sound plan rule (opening-accepts z))
+  opening-sound z = let h = opening-accepts z in rw (its-book h) (opened-is-sound plan rule h)
 
   pub opening-few : handed.answer.code ≡ 0 → handed.book.tasks ≤ 64
-  opening-few z =
-      let n = ap (λ (b : Book). b.tasks) (its-book z) ∙ opened-tasks plan rule in
-      omega (arith, n, (plan-facts plan (opening-accepts z)).tasks-to)
+  opening-few z = its-few (opening-accepts z)
 
   module _ {out m : List ℕ} {p : ℕ} where
     logged-as :
@@ -91,11 +102,6 @@ module _ (plan : Plan) (rule : Rule) {handed : BookResult} (o : handed ≡ openi
         → Wrote out 0 (opened_in handed.book early) 3432 m p
         → (logged_by handed.answer handed.book p ≡ opening_logged plan rule) × Answered out (opening_log plan rule) m p
     opening-granted z {early} e w =
-        let text =
-        ap (λ (x : ℕ). opened_in handed.book x) e
-        ∙ ap (λ (b : Book). opened_in b (shown_after handed.answer b).early) (its-book z)
-        ∙ ap (λ (a : Answer). opened_in (opened_on plan rule) (shown_after a (opened_on plan rule)).early) (its-answer z)
-        ∙ opened-same plan rule in
         let z' : (opening_of plan rule).answer.code ≡ 0 = rw o at z in
-        let w' : Wrote out 0 (open_log plan rule) 3432 m p = rw text at w in
+        let w' : Wrote out 0 (open_log plan rule) 3432 m p = rw (its-text (opening-accepts z) e) at w in
         logged-as (rw (eq-eqb (opening_of plan rule).answer.code 0 z') (answered (omega arith) w'))

@@ -10,7 +10,7 @@ use lib.Seq.{sets}
 use borrow.Author.Tests.{eq-eqb, ne_eqb, lt-ltb, le-ltb, lt-leb, le-leb}
 use Rattle.laws.specs.Split.{after}
 use Rattle.text.specs.Line.{LF}
-use Rattle.plan.specs.Answer.{refuse, granted}
+use Rattle.plan.specs.Answer.{refuse}
 use Rattle.plan.specs.Read.{reading_of, text_answer}
 use Rattle.plan.specs.declared.Answer.{Answer}
 use Rattle.plan.specs.declared.Plan.{Plan}
@@ -21,7 +21,6 @@ use Rattle.book.specs.declared.Book.{Book}
 use Rattle.book.specs.declared.BookResult.{BookResult}
 use Rattle.book.specs.declared.Rule.{Rule}
 use Rattle.book.specs.declared.Rule.TheVariants.{Clash}
-use Rattle.book_view.proofs.Accepted.{plan-facts}
 use Rattle.book.proofs.Sizes.{sized-opened}
 use Rattle.log_read.specs.Rules.{choice_of}
 use Rattle.log_read.specs.declared.Choice.{Choice}
@@ -33,8 +32,8 @@ use Rattle.log_run.specs.Private.Writes.{opened_in, rule_of}
 use Rattle.log_run.specs.Private.Room.{EndsFit, LogFits, ends_most}
 use Rattle.log_write.proofs.WriteLaws.{also, looser, wrote-length, wrote-line}
 use Rattle.log_run.proofs.ComeLaws.{come-most}
-use Rattle.log_run.proofs.BookLaws.{opened-tasks, opening-answer, opening-book}
-use Rattle.log_run.proofs.OpenLaws.{opened-same, rest-less}
+use Rattle.log_run.proofs.OpenLaws.{rest-less}
+use Rattle.log_run.proofs.AnswerLaws.{its-book, its-few, its-text}
 
 -- the contract of run_log
 abbrev pub Ran : List ℕ → List ℕ → List ℕ → List ℕ → ℕ → Type 0
@@ -118,24 +117,6 @@ pub opened-by :
 opened-by {rule = rule} f c r h e = record { rule = rule; fits = f; chosen = c; ruled = r; opens = h; shows = e }
 
 module _ {plan : Plan} {ends out : List ℕ} {choice : Choice} {handed : BookResult} {early : ℕ} (o : Opened plan ends out choice handed early) where
-  its-book : handed.book ≡ opened_on plan o.rule
-  its-book = ap (λ (x : BookResult). x.book) o.opens ∙ opening-book plan o.rule o.fits.accepted
-
-  its-answer : handed.answer ≡ granted
-  its-answer = ap (λ (x : BookResult). x.answer) o.opens ∙ opening-answer plan o.rule o.fits.accepted
-
-  its-text : opened_in handed.book early ≡ open_log plan o.rule
-  its-text =
-      ap (λ (e : ℕ). opened_in handed.book e) o.shows
-      ∙ ap (λ (b : Book). opened_in b (shown_after handed.answer b).early) its-book
-      ∙ ap (λ (a : Answer). opened_in (opened_on plan o.rule) (shown_after a (opened_on plan o.rule)).early) its-answer
-      ∙ opened-same plan o.rule
-
-  pub opened-few : handed.book.tasks ≤ 64
-  opened-few =
-      let n = ap (λ (b : Book). b.tasks) its-book ∙ opened-tasks plan o.rule in
-      omega (arith, n, (plan-facts plan o.fits.accepted).tasks-to)
-
   its-rule : {this : Choice} → choice ≡ this → o.rule ≡ rule_of this
   its-rule c = o.ruled ∙ ap rule_of c
 
@@ -143,7 +124,7 @@ module _ {plan : Plan} {ends out : List ℕ} {choice : Choice} {handed : BookRes
   log_is c = ap (λ (x : Choice). chosen_log x plan ends) (sym c ∙ o.chosen)
 
   ends-most : (rest : List ℕ) → length rest ≤ length ends → ends_most handed.book rest ≤ 206128
-  ends-most rest l = omega (arith, o.fits.short, opened-few, come-most handed.book.mark handed.book.dropped handed.book.tasks)
+  ends-most rest l = omega (arith, o.fits.short, its-few plan o.rule o.opens o.fits.accepted, come-most handed.book.mark handed.book.dropped handed.book.tasks)
 
   module _ {m : List ℕ} {p : ℕ} (v : Wrote out 0 (opened_in handed.book early) 3432 m p) where
     -- the room for the rest of ends.txt from line 1 or 2 on
@@ -151,7 +132,7 @@ module _ {plan : Plan} {ends out : List ℕ} {choice : Choice} {handed : BookRes
     ends-fit {rest = rest} i l = record {
       begun = i;
       short = omega (arith, o.fits.short);
-      sized = rw its-book (sized-opened plan o.rule o.fits.sized);
+      sized = rw (its-book plan o.rule o.opens o.fits.accepted) (sized-opened plan o.rule o.fits.sized);
       room = omega (arith, o.fits.long, ends-most rest l, v.place, v.small, wrote-length v);
     }
 
@@ -160,7 +141,7 @@ module _ {plan : Plan} {ends out : List ℕ} {choice : Choice} {handed : BookRes
           {tail : List ℕ} {a : ℕ} → a ≤ 206128 → open_log plan o.rule ++ tail ≡ chosen_log (choice_of ends) plan ends → Wrote m p tail a m' p'
           → Wrote out 0 (chosen_log (choice_of ends) plan ends) 212992 m' p'
       ran-tail {tail} l f w =
-          let e : opened_in handed.book early ++ tail ≡ chosen_log (choice_of ends) plan ends = ap (λ (x : List ℕ). x ++ tail) its-text ∙ f in
+          let e : opened_in handed.book early ++ tail ≡ chosen_log (choice_of ends) plan ends = ap (λ (x : List ℕ). x ++ tail) (its-text plan o.rule o.opens o.fits.accepted o.shows) ∙ f in
           let w' : Wrote out 0 (opened_in handed.book early ++ tail) 212992 m' p' = looser (omega arith) (also v w) in
           rw e at w'
 
@@ -172,7 +153,7 @@ module _ {plan : Plan} {ends out : List ℕ} {choice : Choice} {handed : BookRes
           → Wrote out 0 (chosen_log (choice_of ends) plan ends) 212992 m' p'
       ran-rest n rest c l f =
           ran-tail (ends-most rest l)
-          (ap (λ (b : Book). open_log plan o.rule ++ rest_log b n rest) its-book
+          (ap (λ (b : Book). open_log plan o.rule ++ rest_log b n rest) (its-book plan o.rule o.opens o.fits.accepted)
           ∙ ap (λ (x : Rule). open_log plan x ++ rest_log (opened_on plan x) n rest) (its-rule c)
           ∙ f
           ∙ log_is c)

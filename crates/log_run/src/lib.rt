@@ -72,7 +72,7 @@ fn open(plan: &Plan, rule: Rule) -> BookResult
     open_book(*plan, rule)
 }
 
-// A call of its own, so that `run_log` holds nothing but what was read while it reads the plan.
+// In a call of its own, so that `run_log` holds nothing but what was read of the plan.
 #[inline(never)]
 fn run_chosen(plan: &Plan, ends: &[u8], out: &mut [u8]) -> usize
     requires { LogFits plan.now ends.now out.old }

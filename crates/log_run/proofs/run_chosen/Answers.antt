@@ -2,17 +2,15 @@
 use native.Mathlib.Omega.{arith}
 use Rattle.log_run.proofs.ShortLaws.{malformed-short}
 use Rattle.log_run.proofs.OpenLaws.{is-unsaid, is-chosen, rest-less}
-use Rattle.log_run.proofs.AnswerLaws.{opening-sound}
-use Rattle.log_run.proofs.LogLaws.{opened-by, opened-few, ends-fit, ran-unsaid, ran-chosen, ran-malformed}
+use Rattle.log_run.proofs.AnswerLaws.{its-few, opening-sound}
+use Rattle.log_run.proofs.LogLaws.{opened-by, ends-fit, ran-unsaid, ran-chosen, ran-malformed}
 use Rattle.log_run.proofs.run_chosen.Goals as goal
 
 pub early_after-early-requires : goal.early_after-early-requires
 early_after-early-requires c = λ z. opening-sound _ _ c.open-opening.ensures z
 
 pub put_opened-at-requires : goal.put_opened-at-requires
-put_opened-at-requires c =
-    let o = opened-by c.requires c.choose-choice.ensures c.rule_of.ensures c.open-opening.ensures c.early_after-early.ensures in
-    (opened-few o, omega (arith, c.requires.long))
+put_opened-at-requires c = (its-few _ _ c.open-opening.ensures c.requires.accepted, omega (arith, c.requires.long))
 
 pub put_ends-requires : goal.put_ends-requires
 put_ends-requires c =
