@@ -52,6 +52,11 @@ class House:
         if place is None:
             return []
         if not os.path.exists(self.path(place)):
+            # the constructors of a `data` type stand in a module of its name
+            parent, _, owner = path.rpartition(".")
+            held = self.file(parent) if PLACE.match(parent) else None
+            if held and os.path.exists(self.path(held)) and owner in self.source(held).definitions:
+                return [self.source(held).definitions[owner]]
             self.lost.append("%s names %s, and there is no %s" % (by, path, place))
             return []
         source = self.source(place)

@@ -1,12 +1,12 @@
 -- A sheet kept through a step of its book is the sheet of the book after it.
 use Prim.Native.Nat.{ℕ}
+use Rattle.std.specs.Prelude.{Some, None, is_some}
+use Rattle.std.proofs.lemmas.Option.{none-some}
 use mathlib.Core.Path.{◌≡◌, sym, ap, ◌∙◌}
-use mathlib.Core.Bool.{true, false, cond}
+use mathlib.Core.Bool.{Bool, true, false, cond}
 use mathlib.Core.List.{List}
-use mathlib.Core.Logic.{◌≢◌}
 use lib.Dec.{eqb}
 use lib.ListN.{length}
-use borrow.Author.Tests.{ne_eqb}
 use Rattle.laws.proofs.Cases.{by_bool, and_l, and_r, and_no}
 use Rattle.laws.specs.Lists.{same}
 use Rattle.laws.proofs.Lists.{same-eq}
@@ -26,8 +26,7 @@ use Rattle.book.specs.Sound.{is_sound}
 use Rattle.book.specs.declared.Book.{Book}
 use Rattle.book.specs.declared.BookResult.{BookResult}
 use Rattle.ask_drives.specs.Sheets.{sheet_in, is_own, kept_with, standing_in}
-use Rattle.ask_drives.specs.Seen.{seen_by}
-use Rattle.ask_drives.specs.Private.Looked.{looked_at}
+use Rattle.ask_drives.specs.Seen.{seen_of}
 use Rattle.ask_drives.specs.declared.SheetCheck.{SheetCheck}
 
 -- two sheets that say the same are one
@@ -55,12 +54,10 @@ renewed-by holds tasks begin book sheet before {all} e {now} f q =
     q ∙ ap (λ (h : Holders). renewed_by h.held begin before now sheet) e
     ∙ ap (λ (s : Standing). renewed_by (holders_of holds).held begin before s sheet) f
 
--- what a report or a drop does to a book, by the number of its task
-pub record Step (book : Book) (f : ℕ → BookResult) : Type 0 where
-  pub unsound : is_sound book ≡ false → (task : ℕ) → f task ≡ record { answer = refuse 9 0 0; book = book }
-  pub nobody : (f 0).answer.code ≢ 0
-  pub unmoved : (f 0).book ≡ book
-  pub plan : (task : ℕ) → plan_in (f task).book ≡ plan_in book
+-- what a report or a drop does to a book
+pub record Step (book : Book) (handed : BookResult) : Type 0 where
+  pub unsound : is_sound book ≡ false → handed ≡ record { answer = refuse 9 0 0; book = book }
+  pub plan : plan_in handed.book ≡ plan_in book
 
 -- the update of a book's own sheet is the sheet of a book on the same plan
 module _ (book after : Book) (plan : plan_in after ≡ plan_in book) (size : length book.holds ≡ 2048) (sheet : Sheet) where
@@ -77,68 +74,67 @@ module _ (book after : Book) (plan : plan_in after ≡ plan_in book) (size : len
       ∙ sheet-seen book.holds size after.tasks book.begin (book_view after)
       ∙ (λ i. sheet_of after.tasks (sym holds i) (sym begins i) (book_view after))
 
-module _ (book : Book) (sheet : Sheet) (size : length book.holds ≡ 2048) (f : ℕ → BookResult) (step : Step book f) (task : ℕ) where
-  abbrev renewed : BookResult → Sheet
-  renewed handed =
-      cond (eqb handed.answer.code 0)
-      (renewed_by (holders_of book.holds).held handed.book.begin (standing_in book) (standing_in handed.book) sheet) sheet
+-- what is looked at of a sheet that is the book's
+module _ (book : Book) (sheet : Sheet) where
+  abbrev of : SheetCheck
+  of = record { held = (holders_of book.holds).held; before = standing_in book }
 
-  -- the sheet is the book's
-  pub own-kept : same_sheet sheet (sheet_in book) ≡ true → record { result = f task; sheet = renewed (f task) } ≡ kept_with book sheet (f task)
+  pub some-own : is_some (seen_of book sheet) ≡ same_sheet sheet (sheet_in book)
+  some-own = by_bool (same_sheet sheet (sheet_in book)) (λ o. rw o) (λ o. rw o)
+
+  own-seen : {seen : SheetCheck} → Some seen ≡ seen_of book sheet → (same_sheet sheet (sheet_in book) ≡ true) × (seen ≡ of)
+  own-seen {seen} q =
+      by_bool (same_sheet sheet (sheet_in book))
+      (λ o. let z : Some seen ≡ Some of = q ∙ rw o in (o, cc))
+      (λ o. let z : None ≡ Some seen = sym (q ∙ rw o) in absurd (none-some _ z))
+
+  not-own : None ≡ seen_of book sheet → is_own book sheet ≡ false
+  not-own q =
+      by_bool (same_sheet sheet (sheet_in book))
+      (λ o. let z : None ≡ Some of = q ∙ rw o in absurd (none-some _ z))
+      (λ o. rw o (and_no (is_sound book)))
+
+  -- one that is not is handed back with the book
+  pub other-kept :
+      None ≡ seen_of book sheet → (handed : BookResult)
+      → record { result = record { answer = refuse 9 0 0; book = book }; sheet = sheet } ≡ kept_with book sheet handed
   unfolding kept_with
-  own-kept own =
-      by_bool (is_sound book)
-      (λ s.
-      let mine : is_own book sheet ≡ true = rw (s, own) in
-      by_bool (eqb (f task).answer.code 0)
-      (λ z.
-      rw (mine, z) (λ i. record { result = f task; sheet = update-is book (f task).book (step.plan task) size sheet (same-sheet sheet (sheet_in book) own) i }))
-      (λ z. rw (mine, z)))
-      (λ s.
-      let mine : is_own book sheet ≡ false = rw s in
-      rw (mine, step.unsound s task))
+  other-kept q handed = rw (not-own q)
 
-  -- it is not
-  other-kept :
-      same_sheet sheet (sheet_in book) ≡ false
-      → record { result = record { answer = refuse 9 0 0; book = (f 0).book }; sheet = renewed (f 0) } ≡ kept_with book sheet (f task)
-  unfolding kept_with
-  other-kept own =
-      let mine : is_own book sheet ≡ false = rw own (and_no (is_sound book)) in
-      let refused = ne_eqb (f 0).answer.code 0 step.nobody in
-      rw (mine, refused) (λ i. record { result = record { answer = refuse 9 0 0; book = step.unmoved i }; sheet = sheet })
+  module _ (size : length book.holds ≡ 2048) (step : BookResult) (made : Step book step) where
+    abbrev renewed : BookResult → Sheet
+    renewed handed =
+        cond (eqb handed.answer.code 0)
+        (renewed_by (holders_of book.holds).held handed.book.begin (standing_in book) (standing_in handed.book) sheet) sheet
 
-  pub kept-is :
-      {seen : SheetCheck} → seen ≡ looked_at book sheet → {number : ℕ} → number ≡ cond seen.own task 0 → {handed : BookResult} → handed ≡ f number
-      → {next : Sheet}
-      → next ≡ cond (eqb handed.answer.code 0) (renewed_by seen.held handed.book.begin seen.before (standing_in handed.book) sheet) sheet
-      → {code first second : ℕ} → code ≡ cond seen.own handed.answer.code 9 → first ≡ cond seen.own handed.answer.first 0
-      → second ≡ cond seen.own handed.answer.second 0
-      → record { result = record { answer = refuse code first second; book = handed.book }; sheet = next } ≡ kept_with book sheet (f task)
-  kept-is {seen} look {number} n {handed} h {next} k {code} {first} {second} c₁ c₂ c₃ =
-      let own = same_sheet sheet (sheet_in book) in
-      by_bool own
-      (λ o.
-      let mine : seen.own ≡ true = ap (λ (s : SheetCheck). s.own) look ∙ o in
-      let which : handed ≡ f task = h ∙ ap f (n ∙ rw mine) in
-      let said : refuse code first second ≡ (f task).answer = (λ i. refuse (c₁ i) (c₂ i) (c₃ i)) ∙ (rw mine) ∙ ap (λ (x : BookResult). x.answer) which in
-      (λ i. record { result = record { answer = said i; book = (which i).book }; sheet = (k ∙ (λ j. cond (eqb (which j).answer.code 0) (renewed_by (look j).held (which j).book.begin (look j).before (standing_in (which j).book) sheet) sheet)) i })
-      ∙ own-kept o)
-      (λ o.
-      let mine : seen.own ≡ false = ap (λ (s : SheetCheck). s.own) look ∙ o in
-      let which : handed ≡ f 0 = h ∙ ap f (n ∙ rw mine) in
-      let said : refuse code first second ≡ refuse 9 0 0 = (λ i. refuse (c₁ i) (c₂ i) (c₃ i)) ∙ (rw mine) in
-      (λ i. record { result = record { answer = said i; book = (which i).book }; sheet = (k ∙ (λ j. cond (eqb (which j).answer.code 0) (renewed_by (look j).held (which j).book.begin (look j).before (standing_in (which j).book) sheet) sheet)) i })
-      ∙ other-kept o)
+    own-kept : same_sheet sheet (sheet_in book) ≡ true → record { result = step; sheet = renewed step } ≡ kept_with book sheet step
+    unfolding kept_with
+    own-kept o =
+        by_bool (is_sound book)
+        (λ s.
+        let mine : is_own book sheet ≡ true = rw (s, o) in
+        by_bool (eqb step.answer.code 0)
+        (λ z.
+        rw (mine, z) (λ i. record { result = step; sheet = update-is book step.book made.plan size sheet (same-sheet sheet (sheet_in book) o) i }))
+        (λ z. rw (mine, z)))
+        (λ s.
+        let mine : is_own book sheet ≡ false = rw s in
+        rw (mine, made.unsound s))
 
--- what is looked at by the parts of a book
+    pub step-kept :
+        {seen : SheetCheck} → Some seen ≡ seen_of book sheet → {handed : BookResult} → handed ≡ step → {next : Sheet}
+        → next ≡ cond (eqb handed.answer.code 0) (renewed_by seen.held handed.book.begin seen.before (standing_in handed.book) sheet) sheet
+        → record { result = handed; sheet = next } ≡ kept_with book sheet step
+    step-kept {seen} q {handed} h {next} k =
+        let mine = own-seen q in
+        let to : next ≡ renewed step = k ∙ (λ j. cond (eqb (h j).answer.code 0) (renewed_by (mine.1 j).held (h j).book.begin (mine.1 j).before (standing_in (h j).book) sheet) sheet) in
+        (λ i. record { result = h i; sheet = to i }) ∙ own-kept mine.0
+
+-- what is looked at, as it is worked out
 pub seen-is :
-    (book : Book) (sheet : Sheet) → length book.holds ≡ 2048 → {seen : SheetCheck} → seen ≡ seen_by book.holds book.begin (standing_in book) sheet
-    → seen ≡ looked_at book sheet
-seen-is book sheet size e =
-    e
-    ∙ (λ i. record {
-      held = (holders_of book.holds).held;
-      before = standing_in book;
-      own = same_sheet sheet (sheet-seen book.holds size book.tasks book.begin (book_view book) i);
-    })
+    (book : Book) (sheet : Sheet) → length book.holds ≡ 2048 → {all : Holders} → all ≡ holders_of book.holds → {now : Standing} → now ≡ standing_in book
+    → {again : Sheet} → again ≡ sheet_by all.held book.begin now → {b : Bool} → b ≡ same_sheet sheet again
+    → cond b (Some (record { held = all.held; before = now })) None ≡ seen_of book sheet
+seen-is book sheet size {all} e {now} f {again} q {b} s =
+    let fresh = fresh-is book.holds size book.tasks book.begin (book_view book) e f q in
+    λ i. cond ((s ∙ ap (same_sheet sheet) fresh) i) (Some (record { held = (e i).held; before = f i })) None

@@ -1,4 +1,3 @@
 pub mod Keep
 pub mod Steps
 pub mod Asked
-pub mod Drops

@@ -1,12 +1,13 @@
 -- What is looked at before a report or a drop.
-use Rattle.std.specs.Prelude.{ℕ, List}
+use Rattle.std.specs.Prelude.{cond, Option, Some, None}
 use Rattle.book_holders.specs.Holders.{holders_of}
-use Rattle.ask_sheet.specs.Sets.{sheet_by, same_sheet}
-use Rattle.ask_sheet.specs.declared.Standing.{Standing}
+use Rattle.ask_sheet.specs.Sets.{same_sheet}
 use Rattle.ask_sheet.specs.declared.Sheet.{Sheet}
+use Rattle.book.specs.declared.Book.{Book}
+use Rattle.ask_drives.specs.Sheets.{sheet_in, standing_in}
 use Rattle.ask_drives.specs.declared.SheetCheck.{SheetCheck}
 
--- who holds each drive, who runs and who waits, and whether the sheet is theirs, by the holds and the planned starts
-abbrev pub seen_by : List ℕ → List ℕ → Standing → Sheet → SheetCheck
-seen_by holds begin now sheet =
-    record { held = (holders_of holds).held; before = now; own = same_sheet sheet (sheet_by (holders_of holds).held begin now) }
+-- who holds each drive, and who runs and who waits, if the sheet is the book's
+abbrev pub seen_of : Book → Sheet → Option SheetCheck
+seen_of book sheet =
+    cond (same_sheet sheet (sheet_in book)) (Some (record { held = (holders_of book.holds).held; before = standing_in book })) None

@@ -1,67 +1,44 @@
 // A drop with book and sheet.
-ghost use Rattle.std.specs.Prelude.{◌≡◌};
+ghost use Rattle.std.specs.Prelude.{◌≡◌, length};
 ghost use Rattle.ask_drives.specs.Sheets.{dropped_with};
 
-use crate::{BookAndSheet, kept_sheet, seen_in};
+use crate::{BookAndSheet, SheetResult, kept_sheet, seen_in};
 use ask_sheet::Sheet;
-use book::judge::judge_drop;
-use book::{Book, BookResult, answer_of};
+use book::{Book, BookResult, drop_in_place};
+use plan::refuse;
 
-// `Book::drop` is so short that it would be made part of this, and its copy of the book would stand beside what is looked at: here all go by one copy.
-pub fn drop_sheet(mut book: Book, sheet: Sheet, task: u32) -> BookAndSheet
-    ensures { result ≡ dropped_with book sheet task }
+// As `report_kept`.
+#[inline(never)]
+fn drop_kept(book: &mut Book, sheet: Sheet, task: u32) -> SheetResult
+    requires { length book.old.holds ≡ 2048 }
+    ensures { dropped_with book.old sheet task ≡ record { result = record { answer = result.answer; book = book.new }; sheet = result.sheet } }
 {
-    let seen = seen_in(
-        sheet,
-        &book.holds,
-        &book.begin,
-        &book.mark,
-        &book.start,
-        &book.dropped,
-        book.clock,
-        book.tasks,
-    );
-    let code = judge_drop(
-        seen.own,
-        task,
-        book.rule,
-        book.edition,
-        book.boards,
-        book.tasks,
-        book.clock,
-        &book.board,
-        &book.ready,
-        &book.begin,
-        &book.finish,
-        &book.holds,
-        &book.after,
-        &book.start,
-        &book.end,
-        &book.mark,
-        &book.dropped,
-    );
-    if code == 0 {
-        let k = (task - 1) as usize;
-        book.dropped[k] = 1;
-    }
-    let next = kept_sheet(
-        code,
-        sheet,
-        &seen.held,
-        seen.before,
-        &book.begin,
-        &book.mark,
-        &book.start,
-        &book.dropped,
-        book.clock,
-        book.tasks,
-    );
-    let handed = BookResult {
-        answer: answer_of(code, task, 0),
-        book,
+    let Some(seen) = seen_in(book, sheet) else {
+        return SheetResult {
+            answer: refuse(9, 0, 0),
+            sheet,
+        };
     };
-    BookAndSheet {
-        result: handed,
+    let answer = drop_in_place(book, task);
+    let next = kept_sheet(answer, sheet, &seen, book);
+    SheetResult {
+        answer,
         sheet: next,
     }
+}
+
+pub fn drop_sheet(book: Book, sheet: Sheet, task: u32) -> BookAndSheet
+    ensures { result ≡ dropped_with book sheet task }
+{
+    let mut both = BookAndSheet {
+        result: BookResult {
+            answer: refuse(0, 0, 0),
+            book,
+        },
+        sheet,
+    };
+    let kept = drop_kept(&mut both.result.book, sheet, task);
+    both.result.answer = kept.answer;
+    both.sheet = kept.sheet;
+    both
 }

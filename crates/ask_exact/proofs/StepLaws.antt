@@ -2,137 +2,92 @@
 use Prim.Native.Nat.{ℕ, ◌+◌, ◌-◌, ◌≤◌, ◌<◌, min, max}
 use native.Mathlib.Numerals.{add-one}
 use native.Mathlib.Omega.{arith}
-use mathlib.Core.Bool.{Bool, true, false, cond, ◌&&◌, ◌||◌}
+use mathlib.Core.Bool.{Bool, true, false, cond}
 use mathlib.Core.List.{List, []}
-use mathlib.Core.Option.{Option, none, some}
+use mathlib.Core.Option.{none, some}
+use mathlib.Core.Option as math
 use mathlib.Core.Path.{◌≡◌, refl, sym, ap, ◌∙◌}
-use lib.Dec.{eqb, ltb}
 use lib.ListN.{length}
-use borrow.Author.Tests.{ltb-true, ltb-false}
-use Rattle.laws.proofs.Cases.{by_bool, true-false, or_no}
+use lib.Dec.{eqb}
+use Rattle.std.specs.Prelude.{Option, Some, None, unwrap_or}
 use Rattle.laws.specs.Bits.{has}
 use Rattle.laws.specs.Picked.{latest, least}
-use Rattle.laws.proofs.Latest.{latest-same}
+use Rattle.laws.proofs.Latest.{latest-same, latest-turn}
 use Rattle.laws.proofs.Least.{least_under, least-same}
 use Rattle.plan.specs.Value.{at}
-use Rattle.book_view.specs.View.{plan_seen, book_seen, laid}
+use Rattle.book_view.specs.View.{laid}
 use Rattle.book_view.proofs.Laid.{laid-at}
 use Rattle.book_view.proofs.Short.{at-past}
 use Rattle.theory.specs.Exact.{not_started, latest_end, step_start, step_early}
-use Rattle.ask_exact.specs.Shown.{shown}
-use Rattle.ask_exact.specs.declared.Early.{Early}
+use Rattle.book.specs.View.{book_view}
+use Rattle.book.specs.declared.Book.{Book}
+use Rattle.ask_exact.specs.Step.{handed, plan_by}
+use Rattle.ask_exact.specs.Private.Step.{early_step}
 
--- planned start less the later of ready tick and what is due
-module _ (begin ready dropped due : ℕ) where
-  abbrev from : ℕ
-  from = max (cond (eqb dropped 1) 0 ready) due
+-- the latest so far
+module _ (n : ℕ) (w : ℕ → Bool) (e : ℕ → ℕ) {last : ℕ} (h : last ≡ latest n w e) where
+  pub latest-taken : w n ≡ true → max last (e n) ≡ latest (n + 1) w e
+  latest-taken t = rw (latest-turn n w e, t, h)
 
-  pub by-due : (eqb dropped 1 || ltb ready due) ≡ true → due ≤ begin → begin - due ≡ begin - from
-  by-due h l =
-      by_bool (eqb dropped 1)
-      (λ d. let z : cond (eqb dropped 1) 0 ready ≡ 0 = rw d in omega arith)
-      (λ d.
-      let r = ltb-true ready due (rw d at h) in let z : cond (eqb dropped 1) 0 ready ≡ ready = rw d in omega arith)
+  pub latest-passed : w n ≡ false → last ≡ latest (n + 1) w e
+  latest-passed f = h ∙ (let z : latest (n + 1) w e ≡ max (latest n w e) 0 = latest-turn n w e ∙ rw f in omega (arith, z))
 
-  module _ (h : (eqb dropped 1 || ltb ready due) ≡ false) where
-    by-ready : (due ≤ ready) × (cond (eqb dropped 1) 0 ready ≡ ready)
-    by-ready =
-        let n = or_no (eqb dropped 1) (ltb ready due) h in
-        let d : eqb dropped 1 ≡ false = n.0 in
-        (ltb-false ready due n.1, rw d)
-
-    pub unready : begin < ready → 0 ≡ begin - from
-    unready l = let r = by-ready in omega (arith, r.0, r.1)
-
-    pub since-ready : begin - ready ≡ begin - from
-    since-ready = let r = by-ready in let e : from ≡ ready = omega (arith, r.0, r.1) in ap (λ (x : ℕ). begin - x) (sym e)
-
--- the lesser of two figures, where there is one already
-abbrev pub lesser_of : Early → ℕ → Early
-lesser_of found this = record { known = true; early = cond found.known (min found.early this) this }
-
-module _ (known : Bool) (early this : ℕ) where
-  pub lesser-kept : (known && ltb early this) ≡ true → ◌≡◌ {A = Early} (record { known = known; early = early }) (lesser_of (record { known = known; early = early }) this)
-  lesser-kept h =
-      by_bool known
-      (λ k.
-      let l = ltb-true early this (rw k at h) in
-      let e : early ≡ min early this = omega arith in
-      rw k (ap (λ (x : ℕ). record { known = true; early = x }) e))
-      (λ k. true-false (rw k at h) refl)
-
-  pub lesser-new : (known && ltb early this) ≡ false → ◌≡◌ {A = Early} (record { known = true; early = this }) (lesser_of (record { known = known; early = early }) this)
-  lesser-new h =
-      by_bool known
-      (λ k.
-      let l = ltb-false early this (rw k at h) in
-      let e : this ≡ min early this = omega arith in
-      rw k (ap (λ (x : ℕ). record { known = true; early = x }) e))
-      (λ k. rw k)
-
--- the least so far, shown
+-- the least so far
 module _ (w : ℕ → Bool) (f : ℕ → ℕ) where
-  pub shown-first : ◌≡◌ {A = Early} (record { known = false; early = 0 }) (shown (least 0 w f))
+  pub least-first : None ≡ handed (least 0 w f)
   unfolding least
-  shown-first = refl
+  least-first = refl
 
-  shown-lesser : (o : Option ℕ) (x : ℕ) → lesser_of (shown o) x ≡ shown (some (elim o [ none ↦ x | some v ↦ min v x ]))
-  shown-lesser none x = refl
-  shown-lesser (some v) x = refl
+  lesser : (o : math.Option ℕ) (x : ℕ) → Some (min (unwrap_or (handed o) x) x) ≡ handed (some (elim o [ none ↦ x | some v ↦ min v x ]))
+  lesser none x = let z : min x x ≡ x = omega arith in ap (λ (m : ℕ). Some m) z
+  lesser (some v) x = refl
 
-  module _ (n : ℕ) {found : Early} (e : found ≡ shown (least n w f)) where
-    pub shown-taken : w n ≡ true → {this : ℕ} → this ≡ f n → {next : Early} → next ≡ lesser_of found this → next ≡ shown (least (n + 1) w f)
+  module _ (n : ℕ) {found : Option ℕ} (e : found ≡ handed (least n w f)) where
+    more : w n ≡ true → some (elim (least n w f) [ none ↦ f n | some v ↦ min v (f n) ]) ≡ least (n + 1) w f
     unfolding least
-    shown-taken h {this} t {next} d =
-        d ∙ rw (e, t) (shown-lesser (least n w f) (f n)) ∙ ap shown (more h)
-      where
-        more : w n ≡ true → some (elim (least n w f) [ none ↦ f n | some v ↦ min v (f n) ]) ≡ least (n + 1) w f
-        more h = rw (add-one, h, least)
+    more h = rw (add-one, h)
 
-    pub shown-passed : w n ≡ false → {next : Early} → next ≡ found → next ≡ shown (least (n + 1) w f)
+    less : w n ≡ false → least n w f ≡ least (n + 1) w f
     unfolding least
-    shown-passed h d = d ∙ e ∙ ap shown (less h)
-      where
-        less : w n ≡ false → least n w f ≡ least (n + 1) w f
-        less h = rw (add-one, h)
+    less h = rw (add-one, h)
 
--- planned start less when task i may start at the latest, by the ends in an array
-abbrev pub early_step : List ℕ → List ℕ → List ℕ → List ℕ → List ℕ → ℕ → ℕ → ℕ
-early_step ready begin waits dropped ends n i =
-    at begin i - max (cond (eqb (at dropped i) 1) 0 (at ready i)) (latest n (has (at waits i)) (at ends))
+    pub least-taken : w n ≡ true → Some (min (unwrap_or found (f n)) (f n)) ≡ handed (least (n + 1) w f)
+    least-taken h = rw e (lesser (least n w f) (f n)) ∙ ap handed (more h)
+
+    pub least-passed : w n ≡ false → found ≡ handed (least (n + 1) w f)
+    least-passed h = e ∙ ap handed (less h)
 
 -- the figure of tasks that may lack a place
-module _ (tasks : ℕ) (ready begin finish waits start end mark dropped : List ℕ) (clock : ℕ) {n : ℕ} (e : n ≡ min tasks (length mark)) where
-  abbrev figure : Early
-  figure = shown (step_early (plan_seen tasks ready begin finish waits) (book_seen mark start end dropped clock))
+module _ (book : Book) (waits : List ℕ) {n : ℕ} (e : n ≡ min book.tasks (length book.mark)) where
+  abbrev figure : Option ℕ
+  figure = handed (step_early (plan_by book waits) (book_view book))
 
   -- one that lacks it waits, and is planned at 0
-  pub figure-short : length begin ≡ length mark → n < tasks → ◌≡◌ {A = Early} (record { known = true; early = 0 }) figure
+  pub figure-short : length book.begin ≡ length book.mark → n < book.tasks → Some 0 ≡ figure
   unfolding step_early
   figure-short same h =
-      let plan = plan_seen tasks ready begin finish waits in
-      let book = book_seen mark start end dropped clock in
-      let j = length mark in
-      let m = at-past mark j (omega arith) in
-      let b = at-past begin j (omega arith) in
-      let u = least_under tasks (not_started book) (λ i. plan.begin i - step_start plan book i) j (omega arith) (rw m) in
+      let plan = plan_by book waits in
+      let seen = book_view book in
+      let j = length book.mark in
+      let m = at-past book.mark j (omega arith) in
+      let b = at-past book.begin j (omega arith) in
+      let u = least_under book.tasks (not_started seen) (λ i. plan.begin i - step_start plan seen i) j (omega arith) (rw m) in
       let z : u.0 ≡ 0 = omega (arith, u.2) in
-      sym (ap shown (u.1 ∙ ap some z))
+      sym (ap handed (u.1 ∙ ap some z))
 
-  module _ (few : length mark ≡ 64) {ends : List ℕ} (d : ends ≡ laid n (latest_end (plan_seen n [] begin finish []) (book_seen mark start end [] clock))) where
-    due-same : (i : ℕ) → latest n (has (at waits i)) (at ends) ≡ latest n (has (at waits i)) (latest_end (plan_seen n [] begin finish []) (book_seen mark start end [] clock))
+  module _ (few : length book.mark ≡ 64) {ends : List ℕ} (d : ends ≡ laid n (latest_end (plan_by book []) (book_view book))) where
+    due-same : (i : ℕ) → latest n (has (at waits i)) (at ends) ≡ latest n (has (at waits i)) (latest_end (plan_by book waits) (book_view book))
     due-same i =
         latest-same n _ _ _ _ (λ j l. refl)
-        (λ j l h. ap (λ (a : List ℕ). at a j) d ∙ laid-at n (latest_end (plan_seen n [] begin finish []) (book_seen mark start end [] clock)) (omega arith) j l)
+        (λ j l h. ap (λ (a : List ℕ). at a j) d ∙ laid-at n (latest_end (plan_by book []) (book_view book)) (omega arith) j l)
 
-    figure-all : tasks ≤ n → tasks ≡ n
+    figure-all : book.tasks ≤ n → book.tasks ≡ n
     figure-all h = omega arith
 
     pub figure-of :
-        {r : Early} → tasks ≤ n
-        → r ≡ shown (least n (not_started (book_seen mark start [] [] clock)) (early_step ready begin waits dropped ends n))
-        → r ≡ figure
+        {r : Option ℕ} → book.tasks ≤ n → r ≡ handed (least n (not_started (book_view book)) (early_step book waits ends n)) → r ≡ figure
     unfolding step_early
     figure-of h q =
-        rw (figure-all h)
-        (q ∙ ap shown (least-same n _ _ _ (λ i l. ap (λ (x : ℕ). at begin i - max (cond (eqb (at dropped i) 1) 0 (at ready i)) x) (due-same i))))
+        q
+        ∙ ap handed (least-same n _ _ _ (λ i l. ap (λ (x : ℕ). at book.begin i - max (cond (eqb (at book.dropped i) 1) 0 (at book.ready i)) x) (due-same i)))
+        ∙ ap (λ (k : ℕ). handed (least k (not_started (book_view book)) (λ i. at book.begin i - max (cond (eqb (at book.dropped i) 1) 0 (at book.ready i)) (latest k (has (at waits i)) (latest_end (plan_by book waits) (book_view book)))))) (sym (figure-all h))

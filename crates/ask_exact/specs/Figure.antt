@@ -7,8 +7,7 @@ use Rattle.plan.specs.declared.Answer.{Answer}
 use Rattle.book.specs.View.{plan_view, book_view}
 use Rattle.book.specs.Sound.{is_sound}
 use Rattle.book.specs.declared.Book.{Book}
-use Rattle.ask_exact.specs.Shown.{shown}
-use Rattle.ask_exact.specs.declared.Early.{Early}
+use Rattle.ask_exact.specs.Shown.{Early, shown}
 use Rattle.ask_exact.specs.declared.Exact.{Exact}
 
 abbrev pub answered : Answer → Early → Exact

@@ -1,2 +1,4 @@
 pub mod Shown
 pub mod Figure
+pub mod Step
+pub mod Private

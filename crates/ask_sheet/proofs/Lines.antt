@@ -1,15 +1,20 @@
 -- A drive's places, filled task by task; and who is next.
-use Prim.Native.Nat.{ℕ, ◌+◌, ◌-◌, ◌%◌, ◌≤◌, ◌<◌, min}
+use Prim.Native.Nat.{ℕ, zero, suc, ◌+◌, ◌-◌, ◌%◌, ◌≤◌, ◌<◌, min}
 use native.Mathlib.Omega.{arith}
 use mathlib.Core.Path.{◌≡◌, refl, sym, ap, ◌∙◌}
 use mathlib.Core.Bool.{Bool, true, false, ◌&&◌}
 use mathlib.Core.List.{List, [], ◌∷◌, ◌++◌}
 use mathlib.Core.Logic.{◌≢◌}
-use lib.Dec.{ltb}
+use lib.Dec.{eqb, ltb}
 use lib.ListN.{length, set, replicate, length-append, length-set, length-replicate, get_or-append}
 use lib.Seq.{ext_get_or, get_or-set_same, get_or-set_other, get_or-append_seam}
 use borrow.Author.Tests.{lt-ltb, le-ltb, eq-eqb, ne_eqb}
+use Rattle.std.specs.Prelude.{Some, unwrap_or}
+use Rattle.std.proofs.lemmas.Option.{none-some}
+use lib.Pointwise.{pointwise}
+use Rattle.laws.specs.Lists.{same}
 use Rattle.laws.specs.Bits.{has}
+use Rattle.laws.specs.Private.Nonzero.{nonzero}
 use Rattle.laws.specs.Each.{each}
 use Rattle.laws.proofs.Cases.{by_bool, by-eq, by_le, true-false, and_l, and_r}
 use Rattle.laws.proofs.Each.{length-each, each_below}
@@ -134,3 +139,36 @@ module _ (f : ℕ → ℕ) (a k : ℕ) where
 
   pub sooner-kept : a ≢ 0 → f (a - 1) ≤ f k → a ≡ sooner f a (k + 1)
   sooner-kept z h = rw (ne_eqb a 0 z, back, le-ltb (f k) (f (a - 1)) h)
+
+-- of two one is
+pub sooner-some : (f : ℕ → ℕ) (a k : ℕ) {r : ℕ} → r ≡ sooner f a (k + 1) → Some r ≡ nonzero r
+sooner-some f a k {r} e = above r positive
+  where
+    positive : 0 < r
+    positive =
+        by-eq a 0
+        (λ z. let s = sooner-first f a k z in omega (arith, e, s))
+        (λ ne.
+        by_le (f (a - 1)) (f k)
+        (λ le. let s = sooner-kept f a k ne le in omega (arith, e, s, ne))
+        (λ lt. let s = sooner-less f a k ne lt in omega (arith, e, s)))
+
+    above : (n : ℕ) → 0 < n → Some n ≡ nonzero n
+    above zero h = absurd (omega arith)
+    above (suc n) h = refl
+
+pub some-above : (n : ℕ) → Some n ≡ nonzero n → n ≢ 0
+some-above zero h z = none-some _ (sym h)
+some-above (suc n) h z = absurd (omega arith)
+
+pub nonzero-number : (n : ℕ) → unwrap_or (nonzero n) 0 ≡ n
+nonzero-number zero = refl
+nonzero-number (suc n) = refl
+
+-- two texts have the same bytes where they are equal byte by byte
+pub same-bytes : (s t : List ℕ) → pointwise eqb s t ≡ same s t
+unfolding same
+same-bytes [] [] = refl
+same-bytes [] (b ∷ t) = refl
+same-bytes (a ∷ s) [] = refl
+same-bytes (a ∷ s) (b ∷ t) = ap (λ (x : Bool). eqb a b && x) (same-bytes s t)

@@ -10,8 +10,11 @@ use lib.Dec.{eqb}
 use lib.ListN.{length, set, length-take}
 use lib.Seq.{sets}
 use borrow.Author.Tests.{eq-eqb, ne_eqb, le-leb}
+use Rattle.std.specs.Prelude.{Some, None}
+use Rattle.std.proofs.lemmas.Option.{none-some}
+use Rattle.ask_sheet.specs.Private.Moved.{moved_to}
 use Rattle.laws.specs.Each.{each, rows}
-use Rattle.laws.proofs.Cases.{by_bool}
+use Rattle.laws.proofs.Cases.{by_bool, by-eq}
 use Rattle.laws.proofs.Each.{each_turn, each-skip, rows-turn, length-rows}
 use Rattle.plan.specs.Value.{at, row}
 use Rattle.text.specs.Put.{Put}
@@ -99,3 +102,16 @@ module _ (held : List ℕ) (was is : ℕ) where
     pub run_end : {list : List ℕ} {n : ℕ} → n ≡ 32 → RunTo n list → list ≡ running_again held was is old
     unfolding running_again
     run_end e inv = inv.to ∙ ap (λ (n : ℕ). rows 8 n line old) e
+
+-- the holders that have moved
+module _ (held was is : ℕ) where
+  pub moved-some : {now : ℕ} → Some now ≡ moved_to held was is → (bit_and held was ≢ bit_and held is) × (now ≡ bit_and held is)
+  moved-some {now} q =
+      by-eq (bit_and held was) (bit_and held is)
+      (λ e. let z : None ≡ Some now = sym (q ∙ rw (eq-eqb (bit_and held was) (bit_and held is) e)) in absurd (none-some _ z))
+      (λ ne. let z : Some now ≡ Some (bit_and held is) = q ∙ rw (ne_eqb (bit_and held was) (bit_and held is) ne) in (ne, cc))
+
+  pub moved-none : None ≡ moved_to held was is → bit_and held was ≡ bit_and held is
+  moved-none q =
+      by-eq (bit_and held was) (bit_and held is) (λ e. e)
+      (λ ne. let z : None ≡ Some (bit_and held is) = q ∙ rw (ne_eqb (bit_and held was) (bit_and held is) ne) in absurd (none-some _ z))

@@ -3,23 +3,24 @@ use Prim.Native.Nat.{ℕ, ◌+◌, ◌-◌, ◌<◌, ◌≤◌, min}
 use native.Mathlib.Omega.{arith}
 use mathlib.Core.Bool.{Bool, true, false, ◌||◌}
 use mathlib.Core.List.{List, [], map}
-use mathlib.Core.Path.{◌≡◌, refl, ap, ◌∙◌}
+use mathlib.Core.Path.{◌≡◌, ap, ◌∙◌}
 use mathlib.Core.Logic.{◌≢◌}
 use lib.Dec.{eqb, ltb, leb}
 use lib.ListN.{length, replicate}
 use lib.Seq.{sets}
 use borrow.Author.Tests.{eq-eqb, ne_eqb, eqb-false, ltb-true, ltb-false, le-leb, lt-leb}
-use Rattle.laws.proofs.Cases.{by-eq, or_no}
+use Rattle.std.specs.Prelude.{Result, Ok, Err}
+use Rattle.laws.proofs.Cases.{by_bool, by-eq, or_no}
 use Rattle.theory.specs.Plan.{Plan}
-use Rattle.theory.specs.Book.{Book}
+use Rattle.theory.specs.Book as theory-book
 use Rattle.theory.specs.Chain.{chain_of}
 use Rattle.theory.proofs.Chain.{chain_length}
-use Rattle.theory.proofs.ChainsAlike.{chain-alike}
 use Rattle.plan.specs.Answer.{refuse, granted}
 use Rattle.plan.specs.Value.{at}
 use Rattle.plan.specs.declared.Answer.{Answer}
-use Rattle.book_view.specs.View.{book_seen}
-use Rattle.ask_why.specs.Lent.{plan_before}
+use Rattle.book.specs.declared.Book.{Book}
+use Rattle.ask_why.specs.Asked.{plan_by, seen_in}
+use Rattle.ask_why.specs.Private.Asked.{asked_of}
 use Rattle.ask_why.specs.Chained.{why_code, chained, chain_for}
 use Rattle.ask_why.specs.declared.Chain.{Chain}
 
@@ -34,7 +35,7 @@ asked-task n task h =
     let l = ltb-false n task a.1 in
     (omega arith, omega arith)
 
-module _ (plan : Plan) (book : Book) (task : ℕ) where
+module _ (plan : Plan) (book : theory-book.Book) (task : ℕ) where
   pub asked-missing : missing plan.tasks task ≡ true → chained (refuse 10 task 0) [] ≡ chain_for plan book task
   unfolding chain_for why_code
   asked-missing h =
@@ -59,41 +60,63 @@ module _ (plan : Plan) (book : Book) (task : ℕ) where
     unfolding chain_for why_code
     asked-started m = rw (known.0, known.1, ne_eqb (book.mark (task - 1)) 0 m)
 
--- by lent arrays, of which there are 64 places
-module _ (tasks : ℕ) (ready begin waits mark start end dropped : List ℕ) (task : ℕ) {n : ℕ} (e : n ≡ min tasks 64) where
+-- by a book and wait sets, of which there are 64 places
+module _ (book : Book) (waits : List ℕ) (task : ℕ) {n : ℕ} (e : n ≡ min book.tasks 64) where
   abbrev plan : Plan
-  plan = plan_before n ready begin waits
+  plan = plan_by n book waits
 
-  abbrev book : Book
-  book = book_seen mark start end dropped 0
+  abbrev seen : theory-book.Book
+  seen = seen_in book
 
   abbrev answered : Chain → Type 0
-  answered r = r ≡ chain_for (plan_before (min tasks 64) ready begin waits) book task
+  answered r = r ≡ chain_for (plan_by (min book.tasks 64) book waits) seen task
 
-  pub lent-missing : {r : Chain} → r ≡ chained (refuse 10 task 0) [] → missing n task ≡ true → answered r
-  lent-missing q h = q ∙ rw (← e) (asked-missing plan book task h)
+  pub lent-refused : {code : ℕ} → Err code ≡ asked_of n book.mark task → {r : Chain} → r ≡ chained (refuse code task 0) [] → answered r
+  lent-refused {code} q {r} a =
+      by_bool (missing n task)
+      (λ t.
+      let z : Err code ≡ Err 10 = q ∙ rw t in
+      let c : code ≡ 10 = cc in
+      a ∙ rw c (rw (← e) (asked-missing plan seen task t)))
+      (λ f.
+      by-eq (at book.mark (task - 1)) 0
+      (λ m.
+      let z : Err code ≡ Err 11 = q ∙ rw (f, eq-eqb _ 0 m) in
+      let c : code ≡ 11 = cc in
+      a ∙ rw c (rw (← e) (asked-waiting plan seen task f m)))
+      (λ m. let z : Err code ≡ Ok (task - 1) = q ∙ rw (f, ne_eqb _ 0 m) in absurd (err-ok z)))
+    where
+      err-ok : {a b : ℕ} → ◌≡◌ {A = Result ℕ ℕ} (Err a) (Ok b) → ⊥
+      err-ok h = let x : ◌≡◌ {A = ℕ} 0 1 = cc in absurd (omega arith)
 
-  module _ (h : missing n task ≡ false) where
-    pub lent-waiting : {r : Chain} → r ≡ chained (refuse 11 task 0) [] → at mark (task - 1) ≡ 0 → answered r
-    lent-waiting q m = q ∙ rw (← e) (asked-waiting plan book task h m)
+  module _ {i : ℕ} (q : Ok i ≡ asked_of n book.mark task) where
+    -- what is said of a started task
+    facts : (missing n task ≡ false) × (at book.mark (task - 1) ≢ 0) × (i ≡ task - 1)
+    facts =
+        by_bool (missing n task)
+        (λ t. let z : Ok i ≡ Err 10 = q ∙ rw t in absurd (ok-err z))
+        (λ f.
+        by-eq (at book.mark (task - 1)) 0
+        (λ m. let z : Ok i ≡ Err 11 = q ∙ rw (f, eq-eqb _ 0 m) in absurd (ok-err z))
+        (λ m. let z : Ok i ≡ Ok (task - 1) = q ∙ rw (f, ne_eqb _ 0 m) in (f, m, cc)))
+      where
+        ok-err : {a b : ℕ} → ◌≡◌ {A = Result ℕ ℕ} (Ok a) (Err b) → ⊥
+        ok-err h = let x : ◌≡◌ {A = ℕ} 0 1 = cc in absurd (omega arith)
+
+    pub started-low : i < n
+    started-low = let f = facts in let t = asked-task n task f.0 in omega (arith, f.2, t.1)
 
     abbrev links : List ℕ
-    links = chain_of plan (book_seen [] start end dropped 0) (task - 1)
+    links = chain_of plan seen i
 
     pub lent_fits : 0 + length links ≤ 64
-    lent_fits = let l = chain_length n plan (book_seen [] start end dropped 0) (task - 1) in omega arith
-
-    -- marks are not looked at
-    unmarked : links ≡ chain_of plan book (task - 1)
-    unmarked =
-        let wait : ℕ → ℕ → Bool = plan.waits in
-        chain-alike n (at ready) (at begin) plan.finish (at begin) plan.finish wait wait (λ i j a b. refl) (at []) (at mark) (at start) (at end) (at dropped) 0 0
-        n (task - 1) (asked-task n task h).1
+    lent_fits = let l = chain_length n plan seen i in omega arith
 
     pub lent-started :
-        {answer : Answer} {count : ℕ} {places : List ℕ} → answer ≡ granted → at mark (task - 1) ≢ 0
+        {answer : Answer} {count : ℕ} {places : List ℕ} → answer ≡ granted
         → (count ≡ 0 + length links) × (places ≡ sets (replicate 64 0) 0 (map (λ k. k + 1) links))
         → answered (record { answer = answer; count = count; links = places })
-    lent-started {count = count} a m w =
+    lent-started {count = count} a w =
+        let f = facts in
         let c : count ≡ length links = omega (arith, w.0) in
-        rw (a, c, w.1) (ap (chained granted) unmarked ∙ rw (← e) (asked-started plan book task h m))
+        rw (a, c, w.1) (ap (λ (k : ℕ). chained granted (chain_of plan seen k)) f.2 ∙ rw (← e) (asked-started plan seen task f.0 f.1))

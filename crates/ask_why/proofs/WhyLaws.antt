@@ -16,14 +16,13 @@ use Rattle.plan.specs.Answer.{refuse, granted}
 use Rattle.plan.specs.Value.{at, is_accepted}
 use Rattle.book_view.specs.View.{is_rule, book_seen}
 use Rattle.book_view.proofs.Accepted.{plan-lawful}
-use Rattle.book_waits.specs.Waits.{waits_of}
-use Rattle.book_waits.specs.declared.Waits.{Waits}
-use Rattle.book_sound.specs.Sound.{sound_waits}
+use Rattle.std.specs.Prelude.{Some, None}
+use Rattle.book.proofs.WaitLaws.{unsound-none, sound-some}
 use Rattle.book_sound.proofs.WaitLaws.{few, agree}
 use Rattle.book.specs.View.{plan_in, plan_view}
 use Rattle.book.specs.Sound.{is_sound, judged_in}
 use Rattle.book.specs.declared.Book.{Book}
-use Rattle.ask_why.specs.Lent.{plan_before}
+use Rattle.ask_why.specs.Asked.{plan_by, seen_in}
 use Rattle.ask_why.specs.Chained.{chained, chain_for}
 use Rattle.ask_why.specs.declared.Chain.{Chain}
 use Rattle.ask_why.specs.Why.{why_of}
@@ -51,18 +50,14 @@ module _ (tasks : ℕ) (ready begin finish from to : ℕ → ℕ) (these those :
       tasks (task - 1) (asked-task tasks task f).1)
       ∙ asked-started _ _ task f m))
 
-module _ (book : Book) (task : ℕ) {waits : Waits} (w : waits ≡ judged_in book) where
-  known_is : waits.known ≡ is_sound book
-  unfolding sound_waits
-  known_is = ap (λ (x : Waits). x.known) w
-
-  pub why-unsound : {r : Chain} → r ≡ chained (refuse 9 0 0) [] → not waits.known ≡ true → r ≡ why_of book task
+module _ (book : Book) (task : ℕ) where
+  pub why-unsound : {r : Chain} → r ≡ chained (refuse 9 0 0) [] → None ≡ judged_in book → r ≡ why_of book task
   unfolding why_of
-  why-unsound q h = q ∙ rw (sym known_is ∙ not-true waits.known h)
+  why-unsound q w = q ∙ rw (unsound-none book w)
 
-  module _ (h : not waits.known ≡ false) where
+  module _ {sets : List ℕ} (w : Some sets ≡ judged_in book) where
     sound : is_sound book ≡ true
-    sound = sym known_is ∙ not-false waits.known h
+    sound = (sound-some book w).0
 
     good : (is_accepted (plan_in book) && is_rule book.rule) ≡ true
     good = and_l (is_accepted (plan_in book) && is_rule book.rule) _ sound
@@ -73,23 +68,19 @@ module _ (book : Book) (task : ℕ) {waits : Waits} (w : waits ≡ judged_in boo
     lawful : Lawful (plan_view book)
     lawful = plan-lawful (plan_in book) (and_l _ _ good) book.rule
 
-    sets-are : waits.sets ≡ (waits_of book.rule (plan_in book)).sets
-    unfolding sound_waits
-    sets-are = ap (λ (x : Waits). x.sets) w
-
     -- whoever is waited for is planned to start sooner
     says :
         (i j : ℕ) → i < book.tasks → j < book.tasks
-        → (has (at waits.sets i) j && ltb (at book.begin j) (at book.begin i)) ≡ (plan_view book).waits i j
+        → (has (at sets i) j && ltb (at book.begin j) (at book.begin i)) ≡ (plan_view book).waits i j
     says i j li lj =
-        let same = agree book.rule (plan_in book) good sets-are i j li lj in
+        let same = agree book.rule (plan_in book) good (sound-some book w).1 i j li lj in
         by_bool ((plan_view book).waits i j)
         (λ t. and-of (same ∙ t) (lt-ltb _ _ ((lawful-falls (plan_view book) lawful).sooner i j li lj t)) ∙ sym t)
         (λ f. rw (same ∙ f) (sym f))
 
     pub why-sound :
         {r : Chain}
-        → r ≡ chain_for (plan_before (min book.tasks 64) book.ready book.begin waits.sets) (book_seen book.mark book.start book.end book.dropped 0) task
+        → r ≡ chain_for (plan_by (min book.tasks 64) book sets) (seen_in book) task
         → r ≡ why_of book task
     unfolding why_of
     why-sound q =
@@ -99,5 +90,5 @@ module _ (book : Book) (task : ℕ) {waits : Waits} (w : waits ≡ judged_in boo
         q'
         ∙ rw sound
         (for-alike book.tasks (at book.ready) (at book.begin) (λ i. 0) (at book.begin) (at book.finish)
-        (λ i j. has (at waits.sets i) j && ltb (at book.begin j) (at book.begin i)) (plan_view book).waits says
+        (λ i j. has (at sets i) j && ltb (at book.begin j) (at book.begin i)) (plan_view book).waits says
         book.mark book.start book.end book.dropped book.clock task)

@@ -1,14 +1,14 @@
-// Why a task started when it did: the chain of its causes, by lent arrays, whatever they hold.
+// Why a task started when it did: the chain of its causes, by wait sets, whatever they and the book hold.
 // Why did mine start then? The chain of a task of a book that is judged first.
 #![tactic(auto)]
 
 mod walk;
 
-ghost use Rattle.std.specs.Prelude.{◌≡◌, [], min};
+ghost use Rattle.std.specs.Prelude.{◌≡◌, ◌≤◌, [], min};
 ghost use Rattle.plan.specs.Answer.{refuse};
-ghost use Rattle.book_view.specs.View.{book_seen};
 ghost use Rattle.ask_why.specs.Chained.{chained, chain_for};
-ghost use Rattle.ask_why.specs.Lent.{plan_before};
+ghost use Rattle.ask_why.specs.Asked.{plan_by, seen_in};
+ghost use Rattle.ask_why.specs.Private.Asked.{asked_of};
 ghost use Rattle.ask_why.specs.Why.{why_of};
 
 use book::{Book, judged};
@@ -36,32 +36,32 @@ pub fn no_chain(code: u32, task: u32) -> Chain
     }
 }
 
-// The chain of a task of a book that was judged before, with the wait sets that judging handed back.
-pub fn chain_by<'a>(
-    tasks: u8,
-    ready: &'a [u32; 64],
-    begin: &'a [u32; 64],
-    waits: &'a [u64; 64],
-    start: &'a [u32; 64],
-    end: &'a [u32; 64],
-    mark: &'a [u8; 64],
-    dropped: &'a [u8; 64],
-    task: u32,
-) -> Chain
-    ensures { result ≡ chain_for (plan_before (min tasks 64) ready.now begin.now waits.now) (book_seen mark.now start.now end.now dropped.now 0) task }
+// The place of a started task, or the refusal's number: 10 for a task that is none of them, 11 for one that waits.
+fn started(mark: &[u8; 64], tasks: usize, task: u32) -> Result<usize, u32>
+    requires { tasks ≤ 64 }
+    ensures { result ≡ asked_of tasks mark.now task }
 {
-    let n = places(tasks, mark);
-    if (task == 0) | (n < task as usize) {
-        return no_chain(10, task);
+    if (task == 0) | (tasks < task as usize) {
+        return Err(10);
     }
     let i = (task - 1) as usize;
     if mark[i] == 0 {
-        return no_chain(11, task);
+        return Err(11);
     }
+    Ok(i)
+}
+
+// The chain of a task of a book that was judged before, with the wait sets that judging handed back.
+pub fn chain_by<'a>(book: &'a Book, waits: &'a [u64; 64], task: u32) -> Chain
+    ensures { result ≡ chain_for (plan_by (min book.now.tasks 64) book.now waits.now) (seen_in book.now) task }
+{
+    let n = places(book.tasks, &book.mark);
+    let i = match started(&book.mark, n, task) {
+        Ok(i) => i,
+        Err(code) => return no_chain(code, task),
+    };
     let mut links = [0u8; 64];
-    let count = follow(
-        &mut links, ready, begin, waits, start, end, dropped, n, i, 0,
-    );
+    let count = follow(&mut links, book, waits, n, i, 0);
     Chain {
         answer: refuse(0, 0, 0),
         count: count as u32,
@@ -72,19 +72,8 @@ pub fn chain_by<'a>(
 pub fn why(book: Book, task: u32) -> Chain
     ensures { result ≡ why_of book task }
 {
-    let waits = judged(book);
-    if !waits.known {
+    let Some(waits) = judged(&book) else {
         return no_chain(9, 0);
-    }
-    chain_by(
-        book.tasks,
-        &book.ready,
-        &book.begin,
-        &waits.sets,
-        &book.start,
-        &book.end,
-        &book.mark,
-        &book.dropped,
-        task,
-    )
+    };
+    chain_by(&book, &waits, task)
 }

@@ -2,7 +2,6 @@
 use Prim.Native.Nat.{ℕ, ◌-◌, ◌<◌}
 use native.Mathlib.Omega.{arith}
 use mathlib.Core.Bool.{Bool, true, false, not, cond, ◌&&◌, ◌||◌, and-true}
-use mathlib.Core.List.{[]}
 use mathlib.Core.Path.{◌≡◌, refl, sym, ap, ◌∙◌}
 use mathlib.Core.Logic.{◌≢◌}
 use lib.Dec.{leb, ltb, eqb}
@@ -17,8 +16,11 @@ use Rattle.plan.specs.Answer.{refuse, granted}
 use Rattle.plan.specs.Value.{is_accepted, zero_plan}
 use Rattle.plan.specs.declared.Answer.{Answer}
 use Rattle.plan.specs.declared.Plan.{Plan}
-use Rattle.book_view.specs.View.{is_rule, plan_seen, book_seen}
+use Rattle.book_view.specs.View.{is_rule}
 use Rattle.book_view.proofs.Accepted.{PlanFacts, plan-facts}
+use Rattle.book_codes.specs.Refused.{number_of}
+use Rattle.book_codes.specs.declared.Refusal.{Refusal}
+use Rattle.book_codes.specs.declared.Refusal.TheVariants.{Unsound, NoTask, NotRunning, BeforeClock, NotPastStart, PastLimit, OtherPastLimit, KnownOrDropped}
 use Rattle.book.specs.View.{plan_in, plan_view, book_view}
 use Rattle.book.specs.Sound.{is_sound}
 use Rattle.book.specs.Open.{rule_number, blank_book, opened_on, opening_of}
@@ -136,6 +138,17 @@ not-granted true inner code first second c z =
     let m : inner ≢ 0 = λ q. z (c ∙ q) in rw (ne_eqb inner 0 m) (ne_eqb inner 0 m)
 not-granted false inner code first second c z = refl
 
+-- a refusal has a number
+pub is_refused : (refusal : Refusal) {code : ℕ} → code ≡ number_of refusal → code ≢ 0
+is_refused Unsound e z = omega arith
+is_refused NoTask e z = omega arith
+is_refused NotRunning e z = omega arith
+is_refused BeforeClock e z = omega arith
+is_refused NotPastStart e z = omega arith
+is_refused PastLimit e z = omega arith
+is_refused OtherPastLimit e z = omega arith
+is_refused KnownOrDropped e z = omega arith
+
 -- a report
 module _ (book : Book) (task tick : ℕ) {code : ℕ} (c : code ≡ cond (not (is_sound book)) 9 (code_of book task tick))
     {answer : Answer} (a : answer ≡ cond (eqb code 0 || eqb code 9) (refuse code 0 0) (refuse code task tick)) where
@@ -240,7 +253,7 @@ module _ (book : Book) {sound : Bool} (s : sound ≡ is_sound book) {answer : An
 
   pub figure-granted :
       not sound ≡ false → answer ≡ granted → {early : ℕ}
-      → early ≡ minimum_early (plan_seen book.tasks book.ready book.begin [] []) (book_seen book.mark book.start [] book.dropped book.clock)
+      → early ≡ minimum_early (plan_view book) (book_view book)
       → ◌≡◌ {A = Figure} (record { answer = answer; early = early }) (figure_of book)
-  unfolding figure_of minimum_early
+  unfolding figure_of
   figure-granted h a e = rw (a, e, sym s ∙ not-false sound h)

@@ -1,16 +1,17 @@
 -- One round of skipping by the table, and rounds until nobody was skipped.
 use Prim.Native.Nat.{ℕ, zero, suc, ◌+◌, ◌-◌, ◌<◌, ◌≤◌}
 use native.Mathlib.Omega.{arith}
-use mathlib.Core.Bool.{Bool, true, false, not}
+use mathlib.Core.Bool.{Bool, true, false}
 use mathlib.Core.List.{List}
 use mathlib.Core.Path.{◌≡◌, refl, sym, ap, ◌∙◌}
 use lib.ListN.{set}
-use borrow.Author.Tests.{not-true}
+use Rattle.std.specs.Prelude.{Option, Some, None}
+use Rattle.laws.proofs.Cases.{by_bool}
 use Rattle.laws.specs.Each.{each}
 use Rattle.laws.specs.Every.{any}
 use Rattle.laws.proofs.Every.{any-turn, any-not}
 use Rattle.plan.specs.Value.{at}
-use Rattle.book.specs.Private.Table.{SmallTable, skips_by_row, round_by, rounds_by}
+use Rattle.book.specs.Private.Table.{SmallTable, skips_by_row, round_by, skipped_by, rounds_by}
 use Rattle.book.specs.declared.StepArrays.{StepArrays}
 use Rattle.book.proofs.StartLaws.{put-turn, put-stay, put-idle, put_back}
 
@@ -62,6 +63,27 @@ module _ (dropped : List ℕ) (table : List (List ℕ)) (clock : ℕ) where
     idle-rounds zero old h = refl
     idle-rounds (suc k) old h = rw (idle old h) (idle-rounds k old h)
 
+    -- what a round hands out
+    module _ (old : StepArrays) where
+      module _ {some : Bool} (e : some ≡ any n (skips_by_row old.mark dropped table)) where
+        pub some-skipped : some ≡ true → {next : StepArrays} → next ≡ round_by dropped table clock n old → Some next ≡ skipped_by dropped table clock n old
+        some-skipped h q = rw (sym e ∙ h, q)
+
+        pub none-skipped : some ≡ false → None ≡ skipped_by dropped table clock n old
+        none-skipped h = rw (sym e ∙ h)
+
+      is-idle : None ≡ skipped_by dropped table clock n old → any n (skips_by_row old.mark dropped table) ≡ false
+      is-idle e =
+          by_bool (any n (skips_by_row old.mark dropped table))
+          (λ t. let no : ◌≡◌ {A = Option StepArrays} None (Some (round_by dropped table clock n old)) = rw t at e in cc)
+          (λ f. f)
+
+      moves : {after : StepArrays} → Some after ≡ skipped_by dropped table clock n old → after ≡ round_by dropped table clock n old
+      moves {after} e =
+          by_bool (any n (skips_by_row old.mark dropped table))
+          (λ t. let yes : ◌≡◌ {A = Option StepArrays} (Some after) (Some (round_by dropped table clock n old)) = rw t at e in cc)
+          (λ f. let no : ◌≡◌ {A = Option StepArrays} (Some after) None = rw f at e in cc)
+
     -- whoever waits after a round waited before it
     pub waits_back : (old : StepArrays) (i : ℕ) → at (round_by dropped table clock n old).mark i ≡ 0 → at old.mark i ≡ 0
     unfolding round_by
@@ -81,16 +103,16 @@ module _ (dropped : List ℕ) (table : List (List ℕ)) (clock : ℕ) where
       unfolding rounds_by
       skip-end l = let z : n - k ≡ 0 = omega arith in let r = so_far.rest in rw z at r
 
-      pub skip-idle : {some : Bool} → some ≡ any n (skips_by_row next.mark dropped table) → not some ≡ true → next ≡ rounds_by n dropped table clock n old
-      skip-idle {some} e h = sym (idle-rounds (n - k) next (sym e ∙ not-true some h)) ∙ so_far.rest
+      pub skip-idle : None ≡ skipped_by dropped table clock n next → next ≡ rounds_by n dropped table clock n old
+      skip-idle e = sym (idle-rounds (n - k) next (is-idle next e)) ∙ so_far.rest
 
       more : (m j : ℕ) (from : StepArrays) → m ≡ suc j → rounds_by m dropped table clock n from ≡ rounds_by j dropped table clock n (round_by dropped table clock n from)
       unfolding rounds_by
       more m j from e = rw e
 
-      pub skip-more : {after : StepArrays} → after ≡ round_by dropped table clock n next → k < n → SkipTo old (k + 1) after
+      pub skip-more : {after : StepArrays} → Some after ≡ skipped_by dropped table clock n next → k < n → SkipTo old (k + 1) after
       skip-more e l =
-          rw e
+          rw (moves next e)
           (record {
             small = omega arith;
             table-small = λ i h z. so_far.table-small i h (waits_back next i z);

@@ -1,72 +1,92 @@
 -- The wait sets that the functions lend say what the book's rule says, and so do the functions that go by them.
-use Prim.Native.Nat.{ℕ, ◌-◌, ◌<◌}
-use mathlib.Core.Bool.{Bool, true, not, cond, ◌&&◌, and-true}
+use Prim.Native.Nat.{ℕ, ◌<◌}
+use mathlib.Core.Bool.{Bool, true, false, not, cond, ◌&&◌}
 use mathlib.Core.List.{List, []}
-use mathlib.Core.Path.{◌≡◌, refl, sym, ap, ◌∙◌}
+use mathlib.Core.Path.{◌≡◌, sym, ap, ◌∙◌}
 use mathlib.Core.Logic.{⊎_elim, inl, inr}
-use lib.Dec.{eqb}
-use Rattle.laws.proofs.Cases.{and_l}
+use Rattle.std.specs.Prelude.{Option, Some, None}
+use Rattle.std.specs.Option.{is_some}
+use Rattle.laws.proofs.Cases.{by_bool, and_l}
 use Rattle.theory.specs.Plan as theory-plan
 use Rattle.theory.specs.Book as theory-book
-use Rattle.theory.specs.Report.{skip_times, let_go, none_past, report_code, drop_code}
+use Rattle.theory.specs.Figure.{minimum_early}
+use Rattle.theory.specs.Report.{skip_times, let_go, report_code, drop_code, from_one}
 use Rattle.theory.proofs.Alike.{skips-alike, let-go-alike}
 use Rattle.plan.specs.Value.{at, is_accepted}
-use Rattle.book_view.specs.View.{is_rule, plan_seen, book_seen}
-use Rattle.book_waits.specs.Waits.{waits_of}
-use Rattle.book_waits.specs.declared.Waits.{Waits}
+use Rattle.plan.specs.View.{viewed}
+use Rattle.book_view.specs.View.{is_rule}
+use Rattle.book_view.specs.Shown.{plan_shown, book_shown}
+use Rattle.book_view.specs.declared.BookView.{BookView}
+use Rattle.book_waits.specs.Waits.{sets_by}
 use Rattle.book_sound.specs.Sound.{sound_waits}
-use Rattle.book_sound.proofs.WaitLaws.{agree}
-use Rattle.book.specs.View.{plan_in, plan_view}
+use Rattle.book_sound.proofs.WaitLaws.{agree, none-sound, some-sound}
+use Rattle.book.specs.View.{plan_in, plan_view, book_view, shown}
 use Rattle.book.specs.Sound.{is_sound, judged_in}
 use Rattle.book.specs.Report.{code_of}
 use Rattle.book.specs.Drop.{drop_code_of}
-use Rattle.book.specs.Coded.{coded_drop}
-use Rattle.book.specs.Private.Coded.{coded_report}
-use Rattle.book.specs.Private.Table.{moved_to, Fit}
+use Rattle.book.specs.Private.Table.{plan_by, moved_to, Fit}
 use Rattle.book.specs.declared.Book.{Book}
-use Rattle.book.specs.declared.StepCheck.{StepCheck}
 use Rattle.book.specs.declared.StepArrays.{StepArrays}
 
 -- a book that is judged
-module _ (book : Book) {judged : Waits} (w : judged ≡ sound_waits book.rule (plan_in book) book.mark book.start book.end book.dropped book.clock) where
-  pub its-soundness : judged.known ≡ is_sound book
+module _ (book : Book) where
+  pub its-soundness : is_some (judged_in book) ≡ is_sound book
   unfolding sound_waits
-  its-soundness = ap (λ (x : Waits). x.known) w
+  its-soundness = by_bool (is_sound book) (λ t. rw t) (λ f. rw f)
 
-  -- the codes look at no wait set
-  pub drop-seen :
-      (task : ℕ) {code : ℕ}
-      → code ≡ cond (not judged.known) 9 (cond (eqb task 0) 10 (drop_code (plan_seen book.tasks [] [] [] []) (book_seen book.mark [] [] book.dropped 0) (task - 1)))
+  pub unsound-none : None ≡ judged_in book → is_sound book ≡ false
+  unsound-none w = none-sound book.rule (plan_in book) book.mark book.start book.end book.dropped book.clock (sym w)
+
+  pub sound-some : {sets : List ℕ} → Some sets ≡ judged_in book → (is_sound book ≡ true) × (sets ≡ sets_by book.rule (plan_in book))
+  sound-some w =
+      let known = some-sound book.rule (plan_in book) book.mark book.start book.end book.dropped book.clock (sym w) in (known.0, sym known.1)
+
+-- what is judged where the book stands
+module _ (v : BookView) {book : Book} (s : shown v ≡ book) where
+  pub its-code :
+      (task tick : ℕ) {judged code : ℕ} → judged ≡ cond (not (is_sound (shown v))) 9 (code_of (shown v) task tick) → judged ≡ code
+      → code ≡ cond (not (is_sound book)) 9 (code_of book task tick)
+  its-code task tick c e = sym e ∙ c ∙ ap (λ (b : Book). cond (not (is_sound b)) 9 (code_of b task tick)) s
+
+  pub drop-judged :
+      (task : ℕ) {judged code : ℕ} → judged ≡ cond (not (is_sound (shown v))) 9 (drop_code_of (shown v) task) → judged ≡ code
       → code ≡ cond (not (is_sound book)) 9 (drop_code_of book task)
-  unfolding drop_code_of drop_code
-  drop-seen task c = c ∙ ap (λ (b : Bool). cond (not b) 9 (drop_code_of book task)) its-soundness
+  drop-judged task c e = sym e ∙ c ∙ ap (λ (b : Book). cond (not (is_sound b)) 9 (drop_code_of b task)) s
 
--- a drop that is judged
-pub drop-judged :
-    (book : Book) (task : ℕ) {code : ℕ}
-    → code ≡ coded_drop true book.rule (plan_in book) book.mark book.start book.end book.dropped book.clock task
-    → code ≡ cond (not (is_sound book)) 9 (drop_code_of book task)
-drop-judged book task c = drop-seen book {judged = judged_in book} refl task (c ∙ rw and-true)
+  pub its-sets : {sets : List ℕ} → sets ≡ sets_by v.rule (viewed v.plan) → sets ≡ sets_by book.rule (plan_in book)
+  its-sets e = e ∙ ap (λ (b : Book). sets_by b.rule (plan_in b)) s
 
--- a report that is judged
-module _ (book : Book) (task tick : ℕ) {coded : StepCheck}
-    (w : coded ≡ coded_report book.rule (plan_in book) book.mark book.start book.end book.dropped book.clock task tick) where
-  pub its-code : coded.code ≡ cond (not (is_sound book)) 9 (code_of book task tick)
-  unfolding coded_report sound_waits code_of report_code none_past
-  its-code = ap (λ (x : StepCheck). x.code) w
+  pub its-figure :
+      {early : ℕ} → early ≡ minimum_early (plan_shown v) (book_shown v) → early ≡ minimum_early (plan_view book) (book_view book)
+  its-figure e = e ∙ ap (λ (b : Book). minimum_early (plan_view b) (book_view b)) s
 
-  pub its-sets : coded.sets ≡ (waits_of book.rule (plan_in book)).sets
-  unfolding coded_report sound_waits
-  its-sets = ap (λ (x : StepCheck). x.sets) w
+  pub its-judged : {judged : Option (List ℕ)} → judged ≡ judged_in (shown v) → judged ≡ judged_in book
+  its-judged e = e ∙ ap judged_in s
+
+-- a code once it is known whether the book is sound
+module _ (v : BookView) (task : ℕ) {code : ℕ} (t : is_sound (shown v) ≡ true) where
+  pub report-code :
+      (tick : ℕ) → code ≡ from_one (λ k. report_code (plan_shown v) (book_shown v) k tick) task
+      → code ≡ cond (not (is_sound (shown v))) 9 (code_of (shown v) task tick)
+  unfolding code_of
+  report-code tick c = c ∙ ap (λ (b : Bool). cond (not b) 9 (code_of (shown v) task tick)) (sym t)
+
+  pub drop-code :
+      code ≡ from_one (drop_code (plan_shown v) (book_shown v)) task → code ≡ cond (not (is_sound (shown v))) 9 (drop_code_of (shown v) task)
+  unfolding drop_code_of
+  drop-code c = c ∙ ap (λ (b : Bool). cond (not b) 9 (drop_code_of (shown v) task)) (sym t)
+
+pub unsound-code : (book : Book) (other : ℕ) → is_sound book ≡ false → 9 ≡ cond (not (is_sound book)) 9 other
+unsound-code book other f = ap (λ (b : Bool). cond (not b) 9 other) (sym f)
 
 -- a sound book's plan is accepted and its rule is one of the two
 pub good_of : (book : Book) → is_sound book ≡ true → (is_accepted (plan_in book) && is_rule book.rule) ≡ true
 good_of book sound = and_l _ _ sound
 
 module _ (book : Book) (good : (is_accepted (plan_in book) && is_rule book.rule) ≡ true) {sets : List ℕ}
-    (s : sets ≡ (waits_of book.rule (plan_in book)).sets) where
+    (s : sets ≡ sets_by book.rule (plan_in book)) where
   abbrev by-sets : theory-plan.Plan
-  by-sets = plan_seen book.tasks book.ready [] book.finish sets
+  by-sets = plan_by book sets
 
   same : (i j : ℕ) → i < book.tasks → j < book.tasks → by-sets.waits i j ≡ (plan_view book).waits i j
   same = agree book.rule (plan_in book) good s

@@ -5,5 +5,4 @@ pub mod Report
 pub mod Drop
 pub mod Early
 pub mod Words
-pub mod Coded
 pub mod Private

@@ -1,78 +1,35 @@
-// A report and a drop judged by the book's parts: by value they would be copied once more.
-ghost use Rattle.std.specs.Prelude.{◌≡◌};
-ghost use Rattle.plan.specs.Value.{plan_with};
-ghost use Rattle.book.specs.Coded.{coded_drop};
-ghost use Rattle.book.specs.Private.Coded.{coded_report};
+// A report and a drop judged where the book stands.
+ghost use Rattle.std.specs.Prelude.{◌≡◌, not, cond, IfOk};
+ghost use Rattle.plan.specs.View.{viewed};
+ghost use Rattle.book_waits.specs.Waits.{sets_by};
+ghost use Rattle.book_codes.specs.Refused.{number_in};
+ghost use Rattle.book.specs.Drop.{drop_code_of};
+ghost use Rattle.book.specs.Report.{code_of};
+ghost use Rattle.book.specs.Sound.{is_sound};
+ghost use Rattle.book.specs.View.{shown};
 
-use crate::StepCheck;
-use book_codes::{drop_code, report_code};
+use book_codes::{Refusal, check_drop, check_report};
 use book_sound::sound_waits;
+use book_view::BookView;
 
-pub(crate) fn judge_report<'a>(
-    rule: u8,
-    edition: u8,
-    boards: u8,
-    tasks: u8,
-    clock: u32,
-    board: &'a [u8; 64],
-    ready: &'a [u32; 64],
-    begin: &'a [u32; 64],
-    finish: &'a [u32; 64],
-    holds: &'a [u8; 2048],
-    after: &'a [u8; 4096],
-    start: &'a [u32; 64],
-    end: &'a [u32; 64],
-    mark: &'a [u8; 64],
-    dropped: &'a [u8; 64],
-    task: u32,
-    tick: u32,
-) -> StepCheck
-    ensures { result ≡ coded_report rule (plan_with edition boards tasks board.now ready.now begin.now finish.now holds.now after.now) mark.now start.now end.now dropped.now clock task tick }
+// The wait sets of the book's tasks, or the first of 9 to 15 that applies.
+pub(crate) fn judge_report(book: &BookView<'_>, task: u32, tick: u32) -> Result<[u64; 64], Refusal>
+    ensures code { number_in result ≡ cond (not (is_sound (shown book.now))) 9 (code_of (shown book.now) task tick) }
+    ensures sets { IfOk result (λ sets. sets ≡ sets_by book.now.rule (viewed book.now.plan)) }
 {
-    let waits = sound_waits(
-        rule, edition, boards, tasks, clock, board, ready, begin, finish, holds, after, start, end,
-        mark, dropped,
-    );
-    let sets = waits.sets;
-    let code = report_code(
-        waits.known,
-        begin,
-        finish,
-        start,
-        mark,
-        clock,
-        tasks,
-        task,
-        tick,
-    );
-    StepCheck { code, sets }
+    let Some(waits) = sound_waits(book) else {
+        return Err(Refusal::Unsound);
+    };
+    check_report(book, task, tick)?;
+    Ok(waits)
 }
 
-// 9 where the book is not sound or what comes with it is not its own, then 10 and 19.
-pub fn judge_drop<'a>(
-    own: bool,
-    task: u32,
-    rule: u8,
-    edition: u8,
-    boards: u8,
-    tasks: u8,
-    clock: u32,
-    board: &'a [u8; 64],
-    ready: &'a [u32; 64],
-    begin: &'a [u32; 64],
-    finish: &'a [u32; 64],
-    holds: &'a [u8; 2048],
-    after: &'a [u8; 4096],
-    start: &'a [u32; 64],
-    end: &'a [u32; 64],
-    mark: &'a [u8; 64],
-    dropped: &'a [u8; 64],
-) -> u32
-    ensures { result ≡ coded_drop own rule (plan_with edition boards tasks board.now ready.now begin.now finish.now holds.now after.now) mark.now start.now end.now dropped.now clock task }
+// The first of 9, 10 and 19 that applies.
+pub(crate) fn judge_drop(book: &BookView<'_>, task: u32) -> Result<(), Refusal>
+    ensures { number_in result ≡ cond (not (is_sound (shown book.now))) 9 (drop_code_of (shown book.now) task) }
 {
-    let waits = sound_waits(
-        rule, edition, boards, tasks, clock, board, ready, begin, finish, holds, after, start, end,
-        mark, dropped,
-    );
-    drop_code(waits.known & own, mark, dropped, tasks, task)
+    if sound_waits(book).is_none() {
+        return Err(Refusal::Unsound);
+    }
+    check_drop(book, task)
 }

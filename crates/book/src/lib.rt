@@ -1,7 +1,7 @@
 // A book on a plan: planned times, starts, ends and marks beside the clock, and the rest of its plan.
 #![tactic(auto)]
 
-pub mod judge;
+mod judge;
 mod open;
 mod settle;
 mod skip;
@@ -15,12 +15,15 @@ ghost use Rattle.book.specs.Open.{rule_number, opening_of};
 ghost use Rattle.book.specs.Report.{reported_of};
 ghost use Rattle.book.specs.Drop.{dropped_of};
 ghost use Rattle.book.specs.Early.{figure_of};
+ghost use Rattle.book.specs.View.{shown};
 
+use book_codes::least_early;
 use book_sound::sound_waits;
-use book_waits::{Waits, wait_sets};
+use book_view::BookView;
+use book_waits::wait_sets;
 use judge::{judge_drop, judge_report};
 use open::{blank_book, zero_book};
-use plan::{Answer, Plan, refuse};
+use plan::{Answer, Plan, PlanView, refuse};
 use settle::{ended_at, settle, unmoved};
 
 // Whom a task waits for: all that are planned to finish by its planned start, or those of them that clash with it.
@@ -84,13 +87,6 @@ pub(crate) struct StepArrays {
     pub end: [u32; 64],
 }
 
-// The code of a report, and the wait sets of the book's tasks.
-#[derive(Drop)]
-pub(crate) struct StepCheck {
-    pub code: u32,
-    pub sets: [u64; 64],
-}
-
 // 0 and 9 say 0 and 0 besides.
 pub fn answer_of(code: u32, first: u32, second: u32) -> Answer
     ensures { result ≡ cond (eqb code 0 || eqb code 9) (refuse code 0 0) (refuse code first second) }
@@ -101,34 +97,17 @@ pub fn answer_of(code: u32, first: u32, second: u32) -> Answer
     refuse(code, first, second)
 }
 
-// The wait sets of a book's tasks, known where it is sound: the test of code 9.
-pub fn judged(book: Book) -> Waits
-    ensures { result ≡ judged_in book }
+// The wait sets of a book's tasks; none where it is not sound: the test of code 9.
+pub fn judged(book: &Book) -> Option<[u64; 64]>
+    ensures { result ≡ judged_in book.now }
 {
-    sound_waits(
-        book.rule,
-        book.edition,
-        book.boards,
-        book.tasks,
-        book.clock,
-        &book.board,
-        &book.ready,
-        &book.begin,
-        &book.finish,
-        &book.holds,
-        &book.after,
-        &book.start,
-        &book.end,
-        &book.mark,
-        &book.dropped,
-    )
+    sound_waits(&book.view())
 }
 
-pub fn is_sound(book: Book) -> bool
-    ensures { result ≡ is_sound book }
+pub fn is_sound(book: &Book) -> bool
+    ensures { result ≡ is_sound book.now }
 {
-    let waits = judged(book);
-    waits.known
+    judged(book).is_some()
 }
 
 // The book's own arrays are lent, and there is one way out, so that the stack holds one copy of it.
@@ -136,39 +115,18 @@ pub fn open_book(plan: Plan, rule: Rule) -> BookResult
     ensures { result ≡ opening_of plan rule }
 {
     let mut book = blank_book(number_of(rule), plan);
-    let waits = wait_sets(
-        book.rule,
-        book.edition,
-        book.boards,
-        book.tasks,
-        &book.board,
-        &book.ready,
-        &book.begin,
-        &book.finish,
-        &book.holds,
-        &book.after,
-    );
+    let planned = book.view().plan;
     let mut code = 9;
-    if waits.known {
-        let moved = settle(
-            &book.board,
-            &book.ready,
-            &book.finish,
-            &waits.sets,
-            &book.dropped,
-            unmoved(),
-            0,
-            book.tasks as usize,
-        );
-        let mark = moved.mark;
-        let start = moved.start;
-        let end = moved.end;
-        book.mark = mark;
-        book.start = start;
-        book.end = end;
-        code = 0;
-    } else {
-        book = zero_book();
+    match wait_sets(book.rule, &planned) {
+        Some(sets) => {
+            let moved = settle(&book, &sets, unmoved(), 0);
+            let StepArrays { mark, start, end } = moved;
+            book.mark = mark;
+            book.start = start;
+            book.end = end;
+            code = 0;
+        }
+        None => book = zero_book(),
     }
     BookResult {
         answer: answer_of(code, 0, 0),
@@ -180,51 +138,62 @@ pub fn open_book(plan: Plan, rule: Rule) -> BookResult
 pub fn report_in_place(book: &mut Book, task: u32, tick: u32) -> Answer
     ensures { reported_of book.old task tick ≡ record { answer = result; book = book.new } }
 {
-    let tasks = book.tasks as usize;
-    let judged = judge_report(
-        book.rule,
-        book.edition,
-        book.boards,
-        book.tasks,
-        book.clock,
-        &book.board,
-        &book.ready,
-        &book.begin,
-        &book.finish,
-        &book.holds,
-        &book.after,
-        &book.start,
-        &book.end,
-        &book.mark,
-        &book.dropped,
-        task,
-        tick,
-    );
-    if judged.code == 0 {
-        let k = (task - 1) as usize;
-        let ended = ended_at(book.mark, book.start, book.end, k, tick);
-        let next = settle(
-            &book.board,
-            &book.ready,
-            &book.finish,
-            &judged.sets,
-            &book.dropped,
-            ended,
-            tick,
-            tasks,
-        );
-        let mark = next.mark;
-        let start = next.start;
-        let end = next.end;
-        book.clock = tick;
-        book.mark = mark;
-        book.start = start;
-        book.end = end;
+    match judge_report(&book.view(), task, tick) {
+        Err(refusal) => answer_of(refusal.number(), task, tick),
+        Ok(sets) => {
+            let k = (task - 1) as usize;
+            let ended = ended_at(book, k, tick);
+            let next = settle(book, &sets, ended, tick);
+            let StepArrays { mark, start, end } = next;
+            book.clock = tick;
+            book.mark = mark;
+            book.start = start;
+            book.end = end;
+            answer_of(0, task, tick)
+        }
     }
-    answer_of(judged.code, task, tick)
+}
+
+// A drop where the book stands. A dropped task takes no time, but only once all it waits for have ended.
+pub fn drop_in_place(book: &mut Book, task: u32) -> Answer
+    ensures { dropped_of book.old task ≡ record { answer = result; book = book.new } }
+{
+    match judge_drop(&book.view(), task) {
+        Err(refusal) => answer_of(refusal.number(), task, 0),
+        Ok(()) => {
+            let k = (task - 1) as usize;
+            book.dropped[k] = 1;
+            answer_of(0, task, 0)
+        }
+    }
 }
 
 impl Book {
+    pub fn view(&self) -> BookView<'_>
+        ensures { shown result ≡ self.now }
+    {
+        let plan = PlanView {
+            edition: self.edition,
+            boards: self.boards,
+            tasks: self.tasks,
+            board: &self.board,
+            ready: &self.ready,
+            begin: &self.begin,
+            finish: &self.finish,
+            holds: &self.holds,
+            after: &self.after,
+        };
+        BookView {
+            plan,
+            rule: self.rule,
+            clock: self.clock,
+            start: &self.start,
+            end: &self.end,
+            mark: &self.mark,
+            dropped: &self.dropped,
+        }
+    }
+
     pub fn report(mut self, task: u32, tick: u32) -> BookResult
         ensures { result ≡ reported_of self task tick }
     {
@@ -232,42 +201,18 @@ impl Book {
         BookResult { answer, book: self }
     }
 
-    // A dropped task takes no time, but only once all it waits for have ended.
     pub fn drop(mut self, task: u32) -> BookResult
         ensures { result ≡ dropped_of self task }
     {
-        let code = judge_drop(
-            true,
-            task,
-            self.rule,
-            self.edition,
-            self.boards,
-            self.tasks,
-            self.clock,
-            &self.board,
-            &self.ready,
-            &self.begin,
-            &self.finish,
-            &self.holds,
-            &self.after,
-            &self.start,
-            &self.end,
-            &self.mark,
-            &self.dropped,
-        );
-        if code == 0 {
-            let k = (task - 1) as usize;
-            self.dropped[k] = 1;
-        }
-        let answer = answer_of(code, task, 0);
+        let answer = drop_in_place(&mut self, task);
         BookResult { answer, book: self }
     }
 
     pub fn minimum_early(self) -> Figure
         ensures { result ≡ figure_of self }
     {
-        let waits = judged(self);
-        if !waits.known {
+        let view = self.view();
+        if sound_waits(&view).is_none() {
             return Figure {
                 answer: answer_of(9, 0, 0),
                 early: 0,
@@ -275,15 +220,7 @@ impl Book {
         }
         Figure {
             answer: answer_of(0, 0, 0),
-            early: book_codes::least_early(
-                &self.ready,
-                &self.begin,
-                &self.start,
-                &self.mark,
-                &self.dropped,
-                self.clock,
-                self.tasks,
-            ),
+            early: least_early(&view),
         }
     }
 }

@@ -10,16 +10,21 @@ use plan::Plan;
 pub(crate) fn blank_book(rule: u8, plan: Plan) -> Book
     ensures { result ≡ blank_book rule plan }
 {
-    let board = plan.board;
-    let ready = plan.ready;
-    let begin = plan.begin;
-    let finish = plan.finish;
-    let holds = plan.holds;
-    let after = plan.after;
+    let Plan {
+        edition,
+        boards,
+        tasks,
+        board,
+        ready,
+        begin,
+        finish,
+        holds,
+        after,
+    } = plan;
     Book {
-        edition: plan.edition,
-        boards: plan.boards,
-        tasks: plan.tasks,
+        edition,
+        boards,
+        tasks,
         rule,
         clock: 0,
         board,

@@ -1,19 +1,11 @@
 // Dropped tasks take no time: once all they wait for have ended they start and end at the clock, and others may follow.
 ghost use Rattle.std.specs.Prelude.{◌≡◌, ◌&&◌, ◌<◌, ◌≤◌, eqb};
-ghost use Rattle.laws.specs.Every.{any};
 ghost use Rattle.theory.specs.Book.{waiting};
 ghost use Rattle.plan.specs.Value.{at};
-ghost use Rattle.book.specs.Private.Table.{row_ended, SmallRow, SmallTable, skips_by_row, round_by, rounds_by};
+ghost use Rattle.book.specs.Private.Table.{row_ended, SmallRow, SmallTable, skipped_by, rounds_by};
 
-use crate::StepArrays;
 use crate::start::may_go;
-
-// The arrays after one round of skipping, and whether it skipped somebody.
-#[derive(Drop)]
-pub(crate) struct Round {
-    pub moved: StepArrays,
-    pub some: bool,
-}
+use crate::{Book, StepArrays};
 
 fn may_skip(mark: &[u8; 64], gone: u8, row: [u8; 8], i: usize) -> bool
     requires i_bound { i < 64 }
@@ -26,50 +18,46 @@ fn may_skip(mark: &[u8; 64], gone: u8, row: [u8; 8], i: usize) -> bool
     may_go(mark, row, i)
 }
 
-// Whoever may be skipped by the marks as they were.
-fn skip_round(
+// Whoever may be skipped by the marks as they were; none where nobody may.
+fn skip_round<'a>(
     old: StepArrays,
-    dropped: &[u8; 64],
-    last: [[u8; 8]; 64],
+    book: &'a Book,
+    last: &'a [[u8; 8]; 64],
     clock: u32,
-    tasks: usize,
-) -> Round
-    requires { (tasks ≤ 64) × SmallTable (at old.mark) tasks last }
-    ensures { (result.moved ≡ round_by dropped.now last clock tasks old) × (result.some ≡ any tasks (skips_by_row old.mark dropped.now last)) }
+) -> Option<StepArrays>
+    requires { (book.now.tasks ≤ 64) × SmallTable (at old.mark) book.now.tasks last.now }
+    ensures { result ≡ skipped_by book.now.dropped last.now clock book.now.tasks old }
 {
     let mark = old.mark;
     let mut next = old;
     let mut some = false;
-    for i in 0..tasks {
-        if may_skip(&mark, dropped[i], last[i], i) {
+    for i in 0..usize::from(book.tasks) {
+        if may_skip(&mark, book.dropped[i], last[i], i) {
             next.mark[i] = 2;
             next.start[i] = clock;
             next.end[i] = clock;
             some = true;
         }
     }
-    Round { moved: next, some }
+    if some { Some(next) } else { None }
 }
 
 // Round after round, until nobody was skipped.
-pub(crate) fn skip_free(
+pub(crate) fn skip_free<'a>(
     old: StepArrays,
-    dropped: &[u8; 64],
-    last: [[u8; 8]; 64],
+    book: &'a Book,
+    last: &'a [[u8; 8]; 64],
     clock: u32,
-    tasks: usize,
 ) -> StepArrays
-    requires { (tasks ≤ 64) × SmallTable (at old.mark) tasks last }
-    ensures { result ≡ rounds_by tasks dropped.now last clock tasks old }
+    requires { (book.now.tasks ≤ 64) × SmallTable (at old.mark) book.now.tasks last.now }
+    ensures { result ≡ rounds_by book.now.tasks book.now.dropped last.now clock book.now.tasks old }
 {
     let mut next = old;
-    for _n in 0..tasks {
-        let round = skip_round(next, dropped, last, clock, tasks);
-        if !round.some {
-            return next;
+    for _n in 0..usize::from(book.tasks) {
+        match skip_round(next, book, last, clock) {
+            None => return next,
+            Some(moved) => next = moved,
         }
-        let moved = round.moved;
-        next = moved;
     }
     next
 }

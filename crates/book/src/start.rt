@@ -4,7 +4,7 @@ ghost use Rattle.theory.specs.Book.{waiting};
 ghost use Rattle.plan.specs.Value.{at};
 ghost use Rattle.book.specs.Private.Table.{has_ended, row_ended, SmallRow, SmallTable, starts_by};
 
-use crate::StepArrays;
+use crate::{Book, StepArrays};
 use book_view::start_of;
 
 fn has_ended(mark: &[u8; 64], held: u8) -> bool
@@ -14,7 +14,7 @@ fn has_ended(mark: &[u8; 64], held: u8) -> bool
     if held == 0 {
         return true;
     }
-    let p = (held - 1) as usize;
+    let p = usize::from(held - 1);
     mark[p] == 2
 }
 
@@ -43,21 +43,20 @@ pub(crate) fn may_go(mark: &[u8; 64], row: [u8; 8], i: usize) -> bool
 }
 
 // Whoever may go by the marks as they were: its start is fixed, even if it lies past the clock.
-pub(crate) fn start_free(
+pub(crate) fn start_free<'a>(
     old: StepArrays,
-    ready: &[u32; 64],
-    last: [[u8; 8]; 64],
+    book: &'a Book,
+    last: &'a [[u8; 8]; 64],
     clock: u32,
-    tasks: usize,
 ) -> StepArrays
-    requires { (tasks ≤ 64) × SmallTable (at old.mark) tasks last }
-    ensures { result ≡ starts_by (at ready.now) last clock tasks old }
+    requires { (book.now.tasks ≤ 64) × SmallTable (at old.mark) book.now.tasks last.now }
+    ensures { result ≡ starts_by (at book.now.ready) last.now clock book.now.tasks old }
 {
     let mark = old.mark;
     let mut next = old;
-    for i in 0..tasks {
+    for i in 0..usize::from(book.tasks) {
         if may_go(&mark, last[i], i) {
-            next.start[i] = start_of(ready[i], clock);
+            next.start[i] = start_of(book.ready[i], clock);
             next.mark[i] = 1;
         }
     }

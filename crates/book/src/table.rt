@@ -1,10 +1,10 @@
-// For every task and every board, the last task waited for, counted from 1; 0 for none.
-ghost use Rattle.std.specs.Prelude.{◌≡◌, [], ◌<◌, ◌≤◌};
+// For every task and every board, the last task waited for, counted from 1; 0 for none: a byte a cell, where an `Option` would take two.
+ghost use Rattle.std.specs.Prelude.{◌≡◌, ◌<◌, ◌≤◌};
 ghost use Rattle.laws.specs.Private.Last.{later_of};
 ghost use Rattle.plan.specs.Value.{at};
-ghost use Rattle.book_view.specs.View.{plan_seen};
-ghost use Rattle.book.specs.Private.Table.{OnEight, RowTo, TableTo};
+ghost use Rattle.book.specs.Private.Table.{plan_by, OnEight, RowTo, TableTo};
 
+use crate::Book;
 use book_view::is_in;
 
 // k + 1 where the place holds nobody or one whose key is less, else what the place holds.
@@ -16,7 +16,7 @@ pub(crate) fn later_of(key: &[u32; 64], held: u8, k: usize) -> u8
     if held == 0 {
         return this;
     }
-    let p = (held - 1) as usize;
+    let p = usize::from(held - 1);
     if key[p] < key[k] {
         return this;
     }
@@ -24,23 +24,17 @@ pub(crate) fn later_of(key: &[u32; 64], held: u8, k: usize) -> u8
 }
 
 // For every board, the last task that the task waits for.
-fn row_of<'a>(
-    board: &'a [u8; 64],
-    finish: &'a [u32; 64],
-    waits: &'a [u64; 64],
-    tasks: usize,
-    i: usize,
-) -> [u8; 8]
-    requires tasks_bound { (tasks ≤ 64) × (i < 64) }
-    requires on_eight { OnEight (plan_seen tasks [] [] finish.now waits.now) (at board.now) }
-    ensures { RowTo (plan_seen tasks [] [] finish.now waits.now) (at board.now) i tasks result }
+fn row_of<'a>(book: &'a Book, waits: &'a [u64; 64], i: usize) -> [u8; 8]
+    requires tasks_bound { (book.now.tasks ≤ 64) × (i < 64) }
+    requires on_eight { OnEight (plan_by book.now waits.now) (at book.now.board) }
+    ensures { RowTo (plan_by book.now waits.now) (at book.now.board) i book.now.tasks result }
 {
     let awaited = waits[i];
     let mut row = [0u8; 8];
-    for k in 0..tasks {
+    for k in 0..usize::from(book.tasks) {
         if is_in(awaited, k) {
-            let j = (board[k] - 1) as usize;
-            row[j] = later_of(finish, row[j], k);
+            let j = usize::from(book.board[k] - 1);
+            row[j] = later_of(&book.finish, row[j], k);
         }
     }
     row
@@ -48,20 +42,18 @@ fn row_of<'a>(
 
 // The rows of those who wait; nobody asks for the others.
 pub(crate) fn last_tasks<'a>(
-    board: &'a [u8; 64],
-    finish: &'a [u32; 64],
+    book: &'a Book,
     waits: &'a [u64; 64],
     mark: &'a [u8; 64],
-    tasks: usize,
 ) -> [[u8; 8]; 64]
-    requires tasks_bound { tasks ≤ 64 }
-    requires on_eight { OnEight (plan_seen tasks [] [] finish.now waits.now) (at board.now) }
-    ensures { TableTo (plan_seen tasks [] [] finish.now waits.now) (at board.now) (at mark.now) tasks result }
+    requires tasks_bound { book.now.tasks ≤ 64 }
+    requires on_eight { OnEight (plan_by book.now waits.now) (at book.now.board) }
+    ensures { TableTo (plan_by book.now waits.now) (at book.now.board) (at mark.now) book.now.tasks result }
 {
     let mut last = [[0u8; 8]; 64];
-    for i in 0..tasks {
+    for i in 0..usize::from(book.tasks) {
         if mark[i] == 0 {
-            last[i] = row_of(board, finish, waits, tasks, i);
+            last[i] = row_of(book, waits, i);
         }
     }
     last

@@ -1,80 +1,77 @@
 -- The least of those that count, task by task.
-use Prim.Native.Nat.{ℕ, ◌+◌, ◌≤◌, ◌<◌, min}
+use Prim.Native.Nat.{ℕ, ◌+◌, ◌-◌, ◌≤◌, ◌<◌, min}
 use native.Mathlib.Numerals.{add-one}
 use native.Mathlib.Omega.{arith}
-use mathlib.Core.Bool.{Bool, true, false, not, cond}
-use mathlib.Core.List.{List, []}
+use mathlib.Core.Bool.{Bool, true, false}
 use mathlib.Core.Option.{get_or, none, some}
-use mathlib.Core.Path.{◌≡◌, refl, ap, ◌∙◌}
+use mathlib.Core.Path.{◌≡◌, refl, sym, ap, ◌∙◌}
 use lib.ListN.{length}
-use borrow.Author.Tests.{not-true, not-false}
+use Rattle.std.specs.Prelude.{Option, None, Some, unwrap_or}
 use Rattle.laws.specs.Picked.{least}
 use Rattle.laws.proofs.Least.{least-or-under}
-use Rattle.theory.specs.Figure.{early_by, counts, minimum_early}
-use Rattle.book_view.specs.View.{plan_seen, book_seen}
+use Rattle.theory.specs.Plan.{Plan}
+use Rattle.theory.specs.Book.{Book}
+use Rattle.theory.specs.Figure.{has_begun, early_by, counts, minimum_early}
+use Rattle.book_view.specs.Shown.{plan_shown, book_shown}
+use Rattle.book_view.specs.declared.BookView.{BookView}
 use Rattle.book_view.proofs.Short.{at-past}
+use Rattle.book_codes.specs.Private.Held.{held}
 
--- whether one of the first n was picked, and the least of those that were, 0 for none
-pub data LeastTo (n : ℕ) (w : ℕ → Bool) (f : ℕ → ℕ) (found : Bool) (so_far : ℕ) : Type 0 where
-  nobody : found ≡ false → so_far ≡ 0 → least n w f ≡ none → LeastTo n w f found so_far
-  somebody : found ≡ true → least n w f ≡ some so_far → LeastTo n w f found so_far
+-- one that counts, the first or not, and one that does not
+module _ (w : ℕ → Bool) (f : ℕ → ℕ) (n : ℕ) {so_far : Option ℕ} (h : held so_far ≡ least n w f) {next : Option ℕ} where
+  module _ (picked : w n ≡ true) {this : ℕ} (t : this ≡ f n) where
+    pub least-first : so_far ≡ None → next ≡ Some this → held next ≡ least (n + 1) w f
+    unfolding least
+    least-first e d = let none-yet : least n w f ≡ none = sym h ∙ ap held e in rw (d, add-one, picked, none-yet, t)
 
-module _ (w : ℕ → Bool) (f : ℕ → ℕ) where
-  pub least_first : LeastTo 0 w f false 0
+    pub least-other :
+        {other lower : ℕ} → so_far ≡ Some other → lower ≡ min other this → next ≡ Some lower → held next ≡ least (n + 1) w f
+    unfolding least
+    least-other {other} e m d = let one-yet : least n w f ≡ some other = sym h ∙ ap held e in rw (d, add-one, picked, one-yet, m, t)
+
+  pub least-passed : w n ≡ false → next ≡ so_far → held next ≡ least (n + 1) w f
   unfolding least
-  least_first = LeastTo.nobody refl refl refl
+  least-passed passed d = rw (d, add-one, passed) h
 
-  module _ (n : ℕ) {found : Bool} {so_far : ℕ} where
-    pub least-taken :
-        LeastTo n w f found so_far → w n ≡ true → {this : ℕ} → this ≡ f n → {now : Bool} → now ≡ true → {next : ℕ}
-        → next ≡ cond found (min so_far this) this → LeastTo (n + 1) w f now next
-    unfolding least
-    least-taken (LeastTo.nobody z e q) h {this} t o {next} d =
-        let d' : next ≡ this = rw z at d in LeastTo.somebody o (rw (add-one, h, q, d', t))
-    least-taken (LeastTo.somebody z q) h {this} t o {next} d =
-        let d' : next ≡ min so_far this = rw z at d in LeastTo.somebody o (rw (add-one, h, q, d', t))
+-- how early it is
+module _ (plan : Plan) (book : Book) (i : ℕ) {since this : ℕ} (t : this ≡ plan.begin i - since) where
+  pub early-begun : has_begun book i ≡ true → since ≡ book.start i → this ≡ early_by plan book i
+  early-begun h e = rw (h, t, e)
 
-    pub least-passed :
-        LeastTo n w f found so_far → w n ≡ false → {now : Bool} → now ≡ found → {next : ℕ} → next ≡ so_far
-        → LeastTo (n + 1) w f now next
-    unfolding least
-    least-passed (LeastTo.nobody z e q) h o d = LeastTo.nobody (o ∙ z) (d ∙ e) (rw (add-one, h, q))
-    least-passed (LeastTo.somebody z q) h o d = LeastTo.somebody (o ∙ z) (rw (add-one, h, q, d))
+  pub early-to-begin : has_begun book i ≡ false → since ≡ plan.ready i → this ≡ early_by plan book i
+  early-to-begin h e = rw (h, t, e)
 
-    pub least-is : LeastTo n w f found so_far → so_far ≡ get_or (least n w f) 0
-    least-is (LeastTo.nobody z e q) = rw (q, e)
-    least-is (LeastTo.somebody z q) = rw q
-
--- the lesser of the two, where there is one already
-module _ (found : Bool) (so_far this : ℕ) where
-  pub lesser-first : not found ≡ true → this ≡ cond found (min so_far this) this
-  lesser-first h = rw (not-true found h)
-
-  module _ (h : not found ≡ false) where
-    pub lesser-kept : so_far < this → so_far ≡ cond found (min so_far this) this
-    lesser-kept l = rw (not-false found h) (omega arith)
-
-    pub lesser-new : this ≤ so_far → this ≡ cond found (min so_far this) this
-    lesser-new l = rw (not-false found h) (omega arith)
+held-or : (found : Option ℕ) → unwrap_or found 0 ≡ get_or (held found) 0
+held-or None = refl
+held-or (Some n) = refl
 
 -- the figure of tasks that may lack a place
-module _ (tasks : ℕ) (ready begin start mark dropped : List ℕ) (clock : ℕ) {n : ℕ} (e : n ≡ min tasks (length mark)) where
-  abbrev figure : ℕ → ℕ
-  figure m = minimum_early (plan_seen m ready begin [] []) (book_seen mark start [] dropped clock)
+module _ (v : BookView) {n : ℕ} (e : n ≡ min v.plan.tasks (length v.mark.now)) where
+  abbrev plan : Plan
+  plan = plan_shown v
+
+  abbrev book : Book
+  book = book_shown v
 
   -- one that lacks it waits, and is planned at 0
-  pub figure-none : length begin ≡ length mark → length dropped ≡ length mark → n < tasks → 0 ≡ figure tasks
+  pub figure-none :
+      length v.plan.begin.now ≡ length v.mark.now → length v.dropped.now ≡ length v.mark.now → n < v.plan.tasks
+      → 0 ≡ minimum_early plan book
   unfolding minimum_early
   figure-none same-begin same-dropped h =
-      let j = length mark in
-      let m = at-past mark j (omega arith) in
-      let b = at-past begin j (omega arith) in
-      let d = at-past dropped j (omega arith) in
-      let book = book_seen mark start [] dropped clock in
-      let early = early_by (plan_seen tasks ready begin [] []) book in
+      let j = length v.mark.now in
+      let m = at-past v.mark.now j (omega arith) in
+      let b = at-past v.plan.begin.now j (omega arith) in
+      let d = at-past v.dropped.now j (omega arith) in
+      let early = early_by plan book in
       let zero-early : early j ≡ 0 = rw (m, b) (omega arith) in
-      let under = least-or-under tasks (counts book) early 0 j (omega arith) (rw (m, d)) in
+      let under = least-or-under v.plan.tasks (counts book) early 0 j (omega arith) (rw (m, d)) in
       omega arith
 
-  pub figure-of : {r : ℕ} → tasks ≤ n → r ≡ figure n → r ≡ figure tasks
-  figure-of h q = let all : n ≡ tasks = omega arith in q ∙ ap figure all
+  pub figure-of :
+      v.plan.tasks ≤ n → (found : Option ℕ) → held found ≡ least n (counts book) (early_by plan book)
+      → unwrap_or found 0 ≡ minimum_early plan book
+  unfolding minimum_early
+  figure-of h found q =
+      let all : n ≡ v.plan.tasks = omega arith in
+      held-or found ∙ (λ i. get_or (q i) 0) ∙ (λ i. get_or (least (all i) (counts book) (early_by plan book)) 0)

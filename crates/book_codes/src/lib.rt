@@ -1,216 +1,151 @@
-// The codes 9 to 15 of a report, 9, 10 and 19 of a drop, by lent arrays, whatever they hold; 9 where the caller says that the book is not sound.
+// Whether a report or a drop is refused and by which of the codes 10 to 15 and 19, and the figure M, of a book where it stands, whatever its arrays hold.
 // Minimum early: the least of planned start − start over those that have begun and of planned start − ready over those still to begin.
 #![tactic(auto)]
 
-ghost use Rattle.std.specs.Prelude.{◌≡◌, not, cond, [], ◌-◌, ◌≤◌, min};
+ghost use Rattle.std.specs.Prelude.{◌≡◌, [], ◌≤◌};
+ghost use Rattle.laws.specs.Picked.{least};
 ghost use Rattle.theory.specs.Report.{none_past, report_code, drop_code, from_one};
+ghost use Rattle.theory.specs.Figure.{minimum_early, early_by, counts};
 ghost use Rattle.book_view.specs.View.{plan_seen, book_seen};
-ghost use Rattle.theory.specs.Figure.{minimum_early};
+ghost use Rattle.book_view.specs.Shown.{plan_shown, book_shown};
+ghost use Rattle.book_codes.specs.Refused.{number_of, number_in};
+ghost use Rattle.book_codes.specs.Private.Place.{place_in};
+ghost use Rattle.book_codes.specs.Private.Held.{held};
 
-use book_view::{limit_of, places, wide};
+use book_view::{BookView, limit_of, places};
+
+// Why a report or a drop is refused, with its number.
+#[derive(Clone, Copy, PartialEq, Eq)]
+pub enum Refusal {
+    Unsound = 9,
+    NoTask = 10,
+    NotRunning = 11,
+    BeforeClock = 12,
+    NotPastStart = 13,
+    PastLimit = 14,
+    OtherPastLimit = 15,
+    KnownOrDropped = 19,
+}
+
+impl Refusal {
+    pub fn number(self) -> u32
+        ensures { result ≡ number_of self }
+    {
+        self as u32
+    }
+}
+
+// The place of a task of the plan.
+fn place_of(tasks: u8, task: u32) -> Result<usize, Refusal>
+    ensures { result ≡ place_in tasks task }
+{
+    if task == 0 {
+        return Err(Refusal::NoTask);
+    }
+    let k = (task - 1) as usize;
+    if usize::from(tasks) <= k {
+        return Err(Refusal::NoTask);
+    }
+    Ok(k)
+}
 
 // Is none of the first n tasks running whose limit is before the tick?
-fn none_past<'a>(
-    begin: &'a [u32; 64],
-    finish: &'a [u32; 64],
-    start: &'a [u32; 64],
-    mark: &'a [u8; 64],
-    n: usize,
-    tick: u32,
-) -> bool
+fn none_past(book: &BookView<'_>, n: usize, tick: u32) -> bool
     requires { n ≤ 64 }
-    ensures { result ≡ none_past (plan_seen n [] begin.now finish.now []) (book_seen mark.now start.now [] [] 0) tick }
+    ensures { result ≡ none_past (plan_seen n [] book.now.plan.begin.now book.now.plan.finish.now []) (book_seen book.now.mark.now book.now.start.now [] [] 0) tick }
 {
+    let plan = book.plan;
     let mut all = true;
     for j in 0..n {
-        let limit = limit_of(begin[j], finish[j], start[j]);
-        all = (!(mark[j] == 1) | (wide(tick) <= limit)) & all;
+        let limit = limit_of(plan.begin[j], plan.finish[j], book.start[j]);
+        all = (!(book.mark[j] == 1) | (u64::from(tick) <= limit)) & all;
     }
     all
 }
 
-// The first of 10 to 15 that applies, or 0.
-fn end_code<'a>(
-    begin: &'a [u32; 64],
-    finish: &'a [u32; 64],
-    start: &'a [u32; 64],
-    mark: &'a [u8; 64],
-    clock: u32,
-    tasks: u8,
-    task: u32,
-    tick: u32,
-) -> u32
-    ensures { result ≡ from_one (λ k. report_code (plan_seen tasks [] begin.now finish.now []) (book_seen mark.now start.now [] [] clock) k tick) task }
+// The first of 10 to 15 that applies.
+pub fn check_report(book: &BookView<'_>, task: u32, tick: u32) -> Result<(), Refusal>
+    ensures { number_in result ≡ from_one (λ k. report_code (plan_shown book.now) (book_shown book.now) k tick) task }
 {
-    if task == 0 {
-        return 10;
-    }
-    let k = (task - 1) as usize;
-    if tasks as usize <= k {
-        return 10;
-    }
+    let (plan, mark) = (book.plan, book.mark);
+    let k = place_of(plan.tasks, task)?;
     // a task without a place holds nothing, so it waits
-    let n = places(tasks, mark);
+    let n = places(plan.tasks, mark);
     if n <= k {
-        return 11;
+        return Err(Refusal::NotRunning);
     }
     if mark[k] != 1 {
-        return 11;
+        return Err(Refusal::NotRunning);
     }
-    if tick < clock {
-        return 12;
+    if tick < book.clock {
+        return Err(Refusal::BeforeClock);
     }
-    if tick <= start[k] {
-        return 13;
+    if tick <= book.start[k] {
+        return Err(Refusal::NotPastStart);
     }
-    if limit_of(begin[k], finish[k], start[k]) < wide(tick) {
-        return 14;
+    if limit_of(plan.begin[k], plan.finish[k], book.start[k]) < u64::from(tick) {
+        return Err(Refusal::PastLimit);
     }
-    if !none_past(begin, finish, start, mark, n, tick) {
-        return 15;
+    if !none_past(book, n, tick) {
+        return Err(Refusal::OtherPastLimit);
     }
-    0
+    Ok(())
 }
 
-// 10, then 19 where its start is known or it is already dropped, or 0.
-fn absent_code<'a>(mark: &'a [u8; 64], dropped: &'a [u8; 64], tasks: u8, task: u32) -> u32
-    ensures { result ≡ from_one (drop_code (plan_seen tasks [] [] [] []) (book_seen mark.now [] [] dropped.now 0)) task }
+// 10, then 19 where its start is known or it is already dropped.
+pub fn check_drop(book: &BookView<'_>, task: u32) -> Result<(), Refusal>
+    ensures { number_in result ≡ from_one (drop_code (plan_shown book.now) (book_shown book.now)) task }
 {
+    let (tasks, mark, dropped) = (book.plan.tasks, book.mark, book.dropped);
+    // lent as a slice its length is known
     let gone = &dropped[..];
-    if task == 0 {
-        return 10;
-    }
-    let k = (task - 1) as usize;
-    if tasks as usize <= k {
-        return 10;
-    }
+    let k = place_of(tasks, task)?;
     // a task without a place holds nothing, so it waits
     if places(tasks, mark) <= k {
-        return 0;
+        return Ok(());
     }
     if (mark[k] != 0) | (gone[k] == 1) {
-        return 19;
+        return Err(Refusal::KnownOrDropped);
     }
-    0
+    Ok(())
 }
 
-// The first of 9 to 15 that applies, or 0; 9 where the book is not sound.
-pub fn report_code<'a>(
-    sound: bool,
-    begin: &'a [u32; 64],
-    finish: &'a [u32; 64],
-    start: &'a [u32; 64],
-    mark: &'a [u8; 64],
-    clock: u32,
-    tasks: u8,
-    task: u32,
-    tick: u32,
-) -> u32
-    ensures { result ≡ cond (not sound) 9 (from_one (λ k. report_code (plan_seen tasks [] begin.now finish.now []) (book_seen mark.now start.now [] [] clock) k tick) task) }
-{
-    if !sound {
-        return 9;
-    }
-    end_code(begin, finish, start, mark, clock, tasks, task, tick)
-}
-
-// The first of 9, 10 and 19 that applies, or 0; 9 where the book is not sound.
-pub fn drop_code<'a>(
-    sound: bool,
-    mark: &'a [u8; 64],
-    dropped: &'a [u8; 64],
-    tasks: u8,
-    task: u32,
-) -> u32
-    ensures { result ≡ cond (not sound) 9 (from_one (drop_code (plan_seen tasks [] [] [] []) (book_seen mark.now [] [] dropped.now 0)) task) }
-{
-    if !sound {
-        return 9;
-    }
-    absent_code(mark, dropped, tasks, task)
-}
-
-fn less(a: u32, b: u32) -> u32
-    ensures { result ≡ a - b }
-{
-    if a < b {
-        return 0;
-    }
-    a - b
-}
-
-// The lesser of the two, where there is one already.
-fn lesser(found: bool, least: u32, this: u32) -> u32
-    ensures { result ≡ cond found (min least this) this }
-{
-    if !found {
-        return this;
-    }
-    if least < this {
-        return least;
-    }
-    this
-}
-
-// Planned start − start of one that has begun, planned start − ready of any other.
-fn early_so_far(begun: bool, begin: u32, start: u32, ready: u32) -> u32
-    ensures { result ≡ cond begun (begin - start) (begin - ready) }
-{
-    if begun {
-        return less(begin, start);
-    }
-    less(begin, ready)
-}
-
-// The least of the first n tasks.
-fn least_of<'a>(
-    ready: &'a [u32; 64],
-    begin: &'a [u32; 64],
-    start: &'a [u32; 64],
-    mark: &'a [u8; 64],
-    dropped: &'a [u8; 64],
-    clock: u32,
-    n: usize,
-) -> u32
+// The least of the first n tasks, if one of them counts.
+fn least_of(book: &BookView<'_>, n: usize) -> Option<u32>
     requires { n ≤ 64 }
-    ensures { result ≡ minimum_early (plan_seen n ready.now begin.now [] []) (book_seen mark.now start.now [] dropped.now clock) }
+    ensures { held result ≡ least n (counts (book_shown book.now)) (early_by (plan_shown book.now) (book_shown book.now)) }
 {
-    let mut least = 0;
-    let mut found = false;
+    let plan = book.plan;
+    let mut least = None;
     for i in 0..n {
-        let begun = (mark[i] == 1) & (start[i] <= clock);
-        let to_begin = (mark[i] == 1) | (mark[i] == 0);
-        if begun | (!(dropped[i] == 1) & to_begin) {
-            least = lesser(
-                found,
-                least,
-                early_so_far(begun, begin[i], start[i], ready[i]),
-            );
-            found = true;
+        let begun = (book.mark[i] == 1) & (book.start[i] <= book.clock);
+        let to_begin = (book.mark[i] == 1) | (book.mark[i] == 0);
+        if begun | (!(book.dropped[i] == 1) & to_begin) {
+            // planned start − start of one that has begun, planned start − ready of any other
+            let since = if begun { book.start[i] } else { plan.ready[i] };
+            let early = plan.begin[i].saturating_sub(since);
+            least = match least {
+                None => Some(early),
+                Some(other) => Some(other.min(early)),
+            };
         }
     }
     least
 }
 
-// The figure by lent arrays, whatever they hold, so that who has judged a book need not judge it again.
-pub fn least_early<'a>(
-    ready: &'a [u32; 64],
-    begin: &'a [u32; 64],
-    start: &'a [u32; 64],
-    mark: &'a [u8; 64],
-    dropped: &'a [u8; 64],
-    clock: u32,
-    tasks: u8,
-) -> u32
-    ensures { result ≡ minimum_early (plan_seen tasks ready.now begin.now [] []) (book_seen mark.now start.now [] dropped.now clock) }
+// The figure, so that who has judged a book need not judge it again.
+pub fn least_early(book: &BookView<'_>) -> u32
+    ensures { result ≡ minimum_early (plan_shown book.now) (book_shown book.now) }
 {
+    let (tasks, begin) = (book.plan.tasks, book.plan.begin);
+    let (mark, dropped) = (book.mark, book.dropped);
     // lent as slices their lengths are known
     let planned = &begin[..];
     let gone = &dropped[..];
     let n = places(tasks, mark);
     // a task without a place waits, and is planned at 0
-    if n < tasks as usize {
+    if n < usize::from(tasks) {
         return 0;
     }
-    least_of(ready, begin, start, mark, dropped, clock, n)
+    least_of(book, n).unwrap_or(0)
 }

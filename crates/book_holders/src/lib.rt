@@ -28,8 +28,8 @@ fn note_hold(held: &mut [u64; 32], exclusive: &mut [u64; 32], hold: u8, task: us
         return;
     }
     let p = (drive - 1) as usize;
-    held[p] = held[p] | bit_of(true, task);
-    exclusive[p] = exclusive[p] | bit_of(!(hold % 2 == 1), task);
+    held[p] |= bit_of(true, task);
+    exclusive[p] |= bit_of(!(hold % 2 == 1), task);
 }
 
 // All holds of a task, up to the first 0.
@@ -37,14 +37,11 @@ fn note_list(held: &mut [u64; 32], exclusive: &mut [u64; 32], list: &[u8], task:
     requires { (task < 64) × (length held.old ≡ 32) × (length exclusive.old ≡ 32) }
     ensures { (held.new ≡ noted 32 (λ d. any_of (λ h. eqb (d + 1) (drive_of h)) (items list.now)) task held.old) × (exclusive.new ≡ noted 32 (λ d. any_of (λ h. eqb (d + 1) (drive_of h) && not (is_shared h)) (items list.now)) task exclusive.old) }
 {
-    let mut i = 0;
-    while i < list.len() {
-        let h = list[i];
+    for &h in list {
         if h == 0 {
             return;
         }
         note_hold(held, exclusive, h, task);
-        i += 1;
     }
 }
 
@@ -77,19 +74,18 @@ fn rivals_on<'a>(held: &'a [u64; 32], exclusive: &'a [u64; 32], hold: u8) -> u64
     held[p]
 }
 
-// Whom a list of holds clashes with, each hold by itself.
-pub fn rivals<'a>(list: &'a [u8], held: &'a [u64; 32], exclusive: &'a [u64; 32]) -> u64
-    ensures { result ≡ set_of 64 (λ j. any_of (λ h. has (rivals_on held.now exclusive.now h) j) (items list.now)) }
-{
-    let mut set: u64 = 0;
-    let mut i = 0;
-    while i < list.len() {
-        let h = list[i];
-        if h == 0 {
-            return set;
+impl Holders {
+    // Whom a list of holds clashes with, each hold by itself.
+    pub fn rivals(&self, list: &[u8]) -> u64
+        ensures { result ≡ set_of 64 (λ j. any_of (λ h. has (rivals_on self.now.held self.now.exclusive h) j) (items list.now)) }
+    {
+        let mut set: u64 = 0;
+        for &h in list {
+            if h == 0 {
+                return set;
+            }
+            set |= rivals_on(&self.held, &self.exclusive, h);
         }
-        set = set | rivals_on(held, exclusive, h);
-        i += 1;
+        set
     }
-    set
 }

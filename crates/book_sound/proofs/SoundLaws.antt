@@ -1,5 +1,5 @@
 -- The ways out of the soundness test's loops, a task's state by its mark, and the test part by part.
-use Prim.Native.Nat.{ℕ, ◌≤◌}
+use Prim.Native.Nat.{ℕ}
 use native.Mathlib.Omega.{arith}
 use mathlib.Core.Bool.{Bool, true, false, not, ◌&&◌, and-false, and-true, and_assoc}
 use mathlib.Core.List.{List}
@@ -7,7 +7,7 @@ use mathlib.Core.Path.{◌≡◌, sym, ap, ◌∙◌}
 use mathlib.Core.Logic.{◌≢◌}
 use lib.Bits.{bit_and}
 use lib.Dec.{eqb, ltb, leb}
-use borrow.Author.Tests.{eq-eqb, ne_eqb, eqb-true, le-leb, lt-leb, leb-true, lt-ltb, ltb-true, not-true, not-false}
+use borrow.Author.Tests.{eq-eqb, ne_eqb, eqb-true, le-leb, lt-leb, lt-ltb, ltb-true, not-true, not-false}
 use Rattle.laws.proofs.Cases.{by-eq, true-false, same_test, and_no, and_l, and_r, and-of}
 use Rattle.laws.specs.Bits.{has, set_of}
 use Rattle.laws.proofs.Bits.{has-and, has-none, has-set, some-bit}
@@ -118,29 +118,21 @@ module _ (tasks : ℕ) (ready begin finish waits mark start end dropped : List �
           && (leb (book.end i) (limit plan book i) && leb (book.end i) book.clock))))))
 
 -- the test, part by part
-module _ (on : Plan) (mark start end dropped : List ℕ) (clock : ℕ) (good : Bool) where
-  pub unsound-unknown : not good ≡ true → false ≡ (good && sound_on on mark start end dropped clock)
-  unsound-unknown h = rw (not-true good h)
+module _ (on : Plan) (mark start end dropped : List ℕ) (clock : ℕ) {past : Bool} (q : past ≡ nothing_past on.tasks mark start end dropped) where
+  pub unsound-past : not past ≡ true → false ≡ sound_on on mark start end dropped clock
+  unfolding sound_on
+  unsound-past h = rw (sym q ∙ not-true past h, and-false)
 
-  module _ (known : not good ≡ false) {past : Bool} (q : past ≡ nothing_past on.tasks mark start end dropped) where
-    pub unsound-past : not past ≡ true → false ≡ (good && sound_on on mark start end dropped clock)
-    unfolding sound_on
-    unsound-past h = rw (sym q ∙ not-true past h, and-false, and-false)
+  module _ (nothing : not past ≡ false) {tasks : Bool}
+      (r : tasks ≡ every on.tasks (task_test on (book_seen mark start end dropped clock))) where
+    pub unsound-task : not tasks ≡ true → false ≡ sound_on on mark start end dropped clock
+    unfolding sound_on sound_test
+    unsound-task h = rw (sym r ∙ not-true tasks h)
 
-    module _ (nothing : not past ≡ false) {tasks : Bool}
-        (r : tasks ≡ every on.tasks (task_test on (book_seen mark start end dropped clock))) where
-      pub unsound-task : not tasks ≡ true → false ≡ (good && sound_on on mark start end dropped clock)
-      unfolding sound_on sound_test
-      unsound-task h = rw (not-false good known, sym r ∙ not-true tasks h)
-
-      pub sound-clock :
-          not tasks ≡ false → {last : ℕ} → last ≡ latest on.tasks (ended (at mark)) (at end)
-          → eqb clock last ≡ (good && sound_on on mark start end dropped clock)
-      unfolding sound_on sound_test
-      sound-clock h e =
-          rw (not-false good known, sym q ∙ not-false past nothing, sym r ∙ not-false tasks h, e)
-          (sym (and-true (eqb clock _)))
-
--- the tasks have places
-pub few_tasks : (tasks : ℕ) (known : Bool) → not (known && leb tasks 64) ≡ false → tasks ≤ 64
-few_tasks tasks known h = leb-true tasks 64 (and_r known (leb tasks 64) (not-false (known && leb tasks 64) h))
+    pub sound-clock :
+        not tasks ≡ false → {last : ℕ} → last ≡ latest on.tasks (ended (at mark)) (at end)
+        → eqb clock last ≡ sound_on on mark start end dropped clock
+    unfolding sound_on sound_test
+    sound-clock h e =
+        rw (sym q ∙ not-false past nothing, sym r ∙ not-false tasks h, e)
+        (sym (and-true (eqb clock _)))

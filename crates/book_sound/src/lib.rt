@@ -1,39 +1,41 @@
-// The test of code 9 of a book, by lent arrays, whatever they hold.
+// The test of code 9 of a book where it stands, whatever its arrays hold.
 #![tactic(auto)]
 
-ghost use Rattle.std.specs.Prelude.{◌≡◌, not, cond, ◌&&◌, ◌<◌, ◌≤◌, max, leb};
+ghost use Rattle.std.specs.Prelude.{◌≡◌, not, ◌<◌, ◌≤◌};
 ghost use Rattle.laws.specs.Bits.{has, set_of};
 ghost use Rattle.laws.specs.Every.{every, any};
 ghost use Rattle.laws.specs.Picked.{latest};
 ghost use Rattle.theory.specs.Book.{ended, task_test};
-ghost use Rattle.plan.specs.Value.{at, plan_with};
-ghost use Rattle.book_view.specs.View.{plan_seen, book_seen};
+ghost use Rattle.plan.specs.Value.{at};
+ghost use Rattle.plan.specs.View.{viewed};
+ghost use Rattle.book_view.specs.Shown.{book_shown};
 ghost use Rattle.book_sound.specs.Sound.{nothing_past, sound_on, sound_waits};
+ghost use Rattle.book_sound.specs.Private.Lent.{plan_by};
 
-use book_view::{bit_of, is_in, later, latest_end, limit_of, start_of, wide};
-use book_waits::{Waits, wait_sets};
-use plan_ranges::{blank_bytes, blank_ticks};
+use book_view::{BookView, bit_of, is_in, later, latest_end, limit_of, start_of};
+use book_waits::wait_sets;
+use plan_ranges::is_blank;
 
 // The tasks that have not ended.
-fn unended_set(mark: &[u8; 64], tasks: usize) -> u64
-    requires { tasks ≤ 64 }
-    ensures { result ≡ set_of tasks (λ j. not (ended (at mark.now) j)) }
+fn unended_set(book: &BookView<'_>) -> u64
+    requires { book.now.plan.tasks ≤ 64 }
+    ensures { result ≡ set_of book.now.plan.tasks (λ j. not (ended (at book.now.mark.now) j)) }
 {
     let mut set: u64 = 0;
-    for j in 0..tasks {
-        set = set | bit_of(!(mark[j] == 2), j);
+    for j in 0..book.plan.tasks as usize {
+        set = set | bit_of(book.mark[j] != 2, j);
     }
     set
 }
 
 // The greatest end, or 0.
-fn last_end<'a>(mark: &'a [u8; 64], end: &'a [u32; 64], tasks: usize) -> u32
-    requires { tasks ≤ 64 }
-    ensures { result ≡ latest tasks (ended (at mark.now)) (at end.now) }
+fn last_end(book: &BookView<'_>) -> u32
+    requires { book.now.plan.tasks ≤ 64 }
+    ensures { result ≡ latest book.now.plan.tasks (ended (at book.now.mark.now)) (at book.now.end.now) }
 {
     let mut last = 0;
-    for j in 0..tasks {
-        last = later(mark[j] == 2, end[j], last);
+    for j in 0..book.plan.tasks as usize {
+        last = later(book.mark[j] == 2, book.end[j], last);
     }
     last
 }
@@ -51,69 +53,44 @@ fn waits_at_all(awaited: u64, tasks: usize) -> bool
 }
 
 // Is the task's state as the rules say?
-fn task_sound<'a>(
-    ready: &'a [u32; 64],
-    begin: &'a [u32; 64],
-    finish: &'a [u32; 64],
-    waits: &'a [u64; 64],
-    start: &'a [u32; 64],
-    end: &'a [u32; 64],
-    mark: &'a [u8; 64],
-    dropped: &'a [u8; 64],
-    unended: u64,
-    clock: u32,
-    tasks: usize,
-    i: usize,
-) -> bool
-    requires { (tasks ≤ 64) × (i < 64) × (unended ≡ set_of tasks (λ j. not (ended (at mark.now) j))) }
-    ensures { result ≡ task_test (plan_seen tasks ready.now begin.now finish.now waits.now) (book_seen mark.now start.now end.now dropped.now clock) i }
+fn task_sound(book: &BookView<'_>, waits: &[u64; 64], unended: u64, i: usize) -> bool
+    requires { (book.now.plan.tasks ≤ 64) × (i < 64) × (unended ≡ set_of book.now.plan.tasks (λ j. not (ended (at book.now.mark.now) j))) }
+    ensures { result ≡ task_test (plan_by book.now waits.now) (book_shown book.now) i }
 {
-    let state = mark[i];
-    let gone = dropped[i];
-    let ready_at = ready[i];
-    let started = start[i];
-    let over = end[i];
+    let tasks = book.plan.tasks as usize;
+    let clock = book.clock;
+    let state = book.mark[i];
+    let gone = book.dropped[i];
+    let started = book.start[i];
+    let over = book.end[i];
+    let ready_at = book.plan.ready[i];
     let awaited = waits[i];
     let free = awaited & unended == 0;
     if state == 0 {
         return (gone <= 1) & (!free & ((started == 0) & (over == 0)));
     }
-    let due = latest_end(awaited, end, tasks);
+    let due = latest_end(awaited, book.end, tasks);
     let from = start_of(ready_at, due);
     if gone == 1 {
         let some = waits_at_all(awaited, tasks);
         let at_once = (started == due) & ((over == started) & (over <= clock));
         return (state == 2) & (some & (free & at_once));
     }
-    let limit = limit_of(begin[i], finish[i], started);
+    let limit = limit_of(book.plan.begin[i], book.plan.finish[i], started);
     if state == 1 {
-        let runs = (started == from) & ((over == 0) & (wide(clock) <= limit));
+        let runs = (started == from) & ((over == 0) & (u64::from(clock) <= limit));
         return (gone == 0) & (free & runs);
     }
-    let in_time = (started < over) & ((wide(over) <= limit) & (over <= clock));
+    let in_time = (started < over) & ((u64::from(over) <= limit) & (over <= clock));
     (state == 2) & ((gone == 0) & (free & ((started == from) & in_time)))
 }
 
-fn tasks_sound<'a>(
-    ready: &'a [u32; 64],
-    begin: &'a [u32; 64],
-    finish: &'a [u32; 64],
-    waits: &'a [u64; 64],
-    start: &'a [u32; 64],
-    end: &'a [u32; 64],
-    mark: &'a [u8; 64],
-    dropped: &'a [u8; 64],
-    unended: u64,
-    clock: u32,
-    tasks: usize,
-) -> bool
-    requires { (tasks ≤ 64) × (unended ≡ set_of tasks (λ j. not (ended (at mark.now) j))) }
-    ensures { result ≡ every tasks (task_test (plan_seen tasks ready.now begin.now finish.now waits.now) (book_seen mark.now start.now end.now dropped.now clock)) }
+fn tasks_sound(book: &BookView<'_>, waits: &[u64; 64], unended: u64) -> bool
+    requires { (book.now.plan.tasks ≤ 64) × (unended ≡ set_of book.now.plan.tasks (λ j. not (ended (at book.now.mark.now) j))) }
+    ensures { result ≡ every book.now.plan.tasks (task_test (plan_by book.now waits.now) (book_shown book.now)) }
 {
-    for i in 0..tasks {
-        if !task_sound(
-            ready, begin, finish, waits, start, end, mark, dropped, unended, clock, tasks, i,
-        ) {
+    for i in 0..book.plan.tasks as usize {
+        if !task_sound(book, waits, unended, i) {
             return false;
         }
     }
@@ -121,88 +98,39 @@ fn tasks_sound<'a>(
 }
 
 // Places past the tasks hold nothing.
-fn past_nothing<'a>(
-    start: &'a [u32; 64],
-    end: &'a [u32; 64],
-    mark: &'a [u8; 64],
-    dropped: &'a [u8; 64],
-    tasks: usize,
-) -> bool
-    ensures { result ≡ nothing_past tasks mark.now start.now end.now dropped.now }
+fn past_nothing(book: &BookView<'_>) -> bool
+    ensures { result ≡ nothing_past book.now.plan.tasks book.now.mark.now book.now.start.now book.now.end.now book.now.dropped.now }
 {
-    let ticks = blank_ticks(&start[..], tasks) & blank_ticks(&end[..], tasks);
-    ticks & (blank_bytes(&mark[..], tasks) & blank_bytes(&dropped[..], tasks))
+    let tasks = book.plan.tasks as usize;
+    let (start, end) = (book.start, book.end);
+    let (mark, dropped) = (book.mark, book.dropped);
+    let ticks = is_blank(0, start, tasks) & is_blank(0, end, tasks);
+    ticks & (is_blank(0, mark, tasks) & is_blank(0, dropped, tasks))
 }
 
-// Known: the plan is accepted and its rule is one of the two, so these are its wait sets.
-fn is_sound<'a>(
-    known: bool,
-    tasks: u8,
-    clock: u32,
-    ready: &'a [u32; 64],
-    begin: &'a [u32; 64],
-    finish: &'a [u32; 64],
-    waits: &'a [u64; 64],
-    start: &'a [u32; 64],
-    end: &'a [u32; 64],
-    mark: &'a [u8; 64],
-    dropped: &'a [u8; 64],
-) -> bool
-    ensures { result ≡ ((known && leb tasks 64) && sound_on (plan_seen tasks ready.now begin.now finish.now waits.now) mark.now start.now end.now dropped.now clock) }
+// By the wait sets of its tasks.
+fn is_sound(book: &BookView<'_>, waits: &[u64; 64]) -> bool
+    requires { book.now.plan.tasks ≤ 64 }
+    ensures { result ≡ sound_on (plan_by book.now waits.now) book.now.mark.now book.now.start.now book.now.end.now book.now.dropped.now book.now.clock }
 {
-    // nothing is known of a task without a place
-    if !(known & (tasks <= 64)) {
+    if !past_nothing(book) {
         return false;
     }
-    let n = tasks as usize;
-    if !past_nothing(start, end, mark, dropped, n) {
+    let unended = unended_set(book);
+    if !tasks_sound(book, waits, unended) {
         return false;
     }
-    let unended = unended_set(mark, n);
-    if !tasks_sound(
-        ready, begin, finish, waits, start, end, mark, dropped, unended, clock, n,
-    ) {
-        return false;
-    }
-    clock == last_end(mark, end, n)
+    book.clock == last_end(book)
 }
 
-// The wait sets of a book's tasks by its rule, known where the book is sound: the test of code 9, in one call.
-pub fn sound_waits<'a>(
-    rule: u8,
-    edition: u8,
-    boards: u8,
-    tasks: u8,
-    clock: u32,
-    board: &'a [u8; 64],
-    ready: &'a [u32; 64],
-    begin: &'a [u32; 64],
-    finish: &'a [u32; 64],
-    holds: &'a [u8; 2048],
-    after: &'a [u8; 4096],
-    start: &'a [u32; 64],
-    end: &'a [u32; 64],
-    mark: &'a [u8; 64],
-    dropped: &'a [u8; 64],
-) -> Waits
-    ensures { result ≡ sound_waits rule (plan_with edition boards tasks board.now ready.now begin.now finish.now holds.now after.now) mark.now start.now end.now dropped.now clock }
+// The wait sets of a book's tasks by its rule; none where the book is not sound: the test of code 9, in one call.
+pub fn sound_waits(book: &BookView<'_>) -> Option<[u64; 64]>
+    ensures { result ≡ sound_waits book.now.rule (viewed book.now.plan) book.now.mark.now book.now.start.now book.now.end.now book.now.dropped.now book.now.clock }
 {
-    let waits = wait_sets(
-        rule, edition, boards, tasks, board, ready, begin, finish, holds, after,
-    );
-    let known = is_sound(
-        waits.known,
-        tasks,
-        clock,
-        ready,
-        begin,
-        finish,
-        &waits.sets,
-        start,
-        end,
-        mark,
-        dropped,
-    );
-    let sets = waits.sets;
-    Waits { known, sets }
+    let plan = book.plan;
+    let waits = wait_sets(book.rule, &plan)?;
+    if is_sound(book, &waits) {
+        return Some(waits);
+    }
+    None
 }

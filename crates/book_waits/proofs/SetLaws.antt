@@ -22,8 +22,9 @@ use Rattle.plan.specs.declared.Plan.{Plan}
 use Rattle.book_holders.specs.Holders.{holders_of}
 use Rattle.book_holders.specs.declared.Holders.{Holders}
 use Rattle.book_holders.proofs.ClashLaws.{rivals-clash}
-use Rattle.book_view.specs.View.{plan_for, laid}
+use Rattle.book_view.specs.View.{plan_for}
 use Rattle.book_view.proofs.Laid.{laid-is}
+use Rattle.book_waits.specs.Waits.{sets_by}
 use Rattle.book_waits.specs.Private.Arrays.{listed_set, rival_set, clash_set, clash_sets, Fit}
 
 -- one place more
@@ -44,24 +45,23 @@ await-more pick j i old low s b =
 
 -- and one more wait set by clash, of what the calls gave
 pub clash-more :
-    (early board holds after : List ℕ) (tasks n : ℕ) {on sets : List ℕ} {drives : Holders} {clashing : ℕ}
-    → on ≡ sets_to 8 tasks (λ b k. eqb (b + 1) (at board k)) → drives ≡ holders_of holds
-    → sets ≡ clash_sets early board holds after tasks n
-    → clashing ≡ clash_set board on holds drives.held drives.exclusive after n
-    → set sets n (bit_and clashing (at sets n)) ≡ clash_sets early board holds after tasks (n + 1)
+    (early : List ℕ) (plan : Plan) (n : ℕ) {on sets : List ℕ} {drives : Holders} {clashing : ℕ}
+    → on ≡ sets_to 8 plan.tasks (λ b k. eqb (b + 1) (at plan.board k)) → drives ≡ holders_of plan.holds
+    → sets ≡ clash_sets early plan n
+    → clashing ≡ clash_set plan on drives n
+    → set sets n (bit_and clashing (at sets n)) ≡ clash_sets early plan (n + 1)
 unfolding clash_sets
-clash-more early board holds after tasks n {on} {sets} {drives} {clashing} o d s c =
+clash-more early plan n {on} {sets} {drives} {clashing} o d s c =
     each_more n own early s
     (ap (bit_and clashing) (ap (λ (l : List ℕ). at l n) s ∙ each-past n own early n 0 (omega arith)) ∙ rw (c, o, d))
   where
     own : ℕ → ℕ
     own i =
-        bit_and (clash_set board (sets_to 8 tasks (λ b k. eqb (b + 1) (at board k))) holds (holders_of holds).held (holders_of holds).exclusive after i)
-        (at early i)
+        bit_and (clash_set plan (sets_to 8 plan.tasks (λ b k. eqb (b + 1) (at plan.board k))) (holders_of plan.holds) i) (at early i)
 
-module _ (plan : Plan) (fit : Fit plan.board plan.begin plan.finish plan.holds plan.after plan.tasks) where
+module _ (plan : Plan) (fit : Fit plan) where
   abbrev WaitSets : ℕ → List ℕ → Type 0
-  WaitSets rule sets = sets ≡ laid plan.tasks (λ i. set_of plan.tasks ((plan_for rule plan).waits i))
+  WaitSets rule sets = sets ≡ sets_by rule plan
 
   abbrev waited : ℕ → ℕ → Bool
   waited i j = leb (at plan.finish j) (at plan.begin i)
@@ -83,6 +83,7 @@ module _ (plan : Plan) (fit : Fit plan.board plan.begin plan.finish plan.holds p
 
     -- by Early Start, which minds every task
     pub early-waits : (rule : ℕ) → rule ≡ 0 → WaitSets rule early
+    unfolding sets_by
     early-waits rule z =
         rw z
         (laid-is plan.tasks (λ i. set_of plan.tasks (waited i)) early fit.range.few early-length
@@ -93,7 +94,7 @@ module _ (plan : Plan) (fit : Fit plan.board plan.begin plan.finish plan.holds p
     on = sets_to 8 plan.tasks (λ b k. eqb (b + 1) (at plan.board k))
 
     abbrev clashing : ℕ → ℕ
-    clashing = clash_set plan.board on plan.holds (holders_of plan.holds).held (holders_of plan.holds).exclusive plan.after
+    clashing = clash_set plan on (holders_of plan.holds)
 
     module _ (i j : ℕ) (li : i < plan.tasks) (lj : j < plan.tasks) where
       few : j < 64
@@ -108,18 +109,18 @@ module _ (plan : Plan) (fit : Fit plan.board plan.begin plan.finish plan.holds p
           ∙ has-below plan.tasks (λ k. eqb (at plan.board i - 1 + 1) (at plan.board k)) j lj
           ∙ ap (λ (b : ℕ). eqb b (at plan.board j)) back
 
-      rival-is : has (rival_set plan.holds (holders_of plan.holds).held (holders_of plan.holds).exclusive i) j
+      rival-is : has (rival_set plan (holders_of plan.holds) i) j
           ≡ clash_by_drive (items (row 32 plan.holds i)) (items (row 32 plan.holds j))
-      rival-is = rivals-clash plan.holds {all = holders_of plan.holds} (λ x. holders_of plan.holds) i (fit.range.range i li) (λ x. rival_set plan.holds (holders_of plan.holds).held (holders_of plan.holds).exclusive i) j few
+      rival-is = rivals-clash plan.holds {all = holders_of plan.holds} (λ x. holders_of plan.holds) i (fit.range.range i li) (λ x. rival_set plan (holders_of plan.holds) i) j few
 
       listed-is : has (listed_set (items (row 64 plan.after i))) j ≡ is_listed (items (row 64 plan.after i)) (j + 1)
       listed-is = has-below 64 (λ n. is_listed (items (row 64 plan.after i)) (n + 1)) j few
 
       clash-is : leb (at plan.finish j) (at plan.begin i) ≡ true → has (clashing i) j ≡ clash (task_at plan) i j
       clash-is done =
-          has-or (at on (at plan.board i - 1)) (bit_or (rival_set plan.holds (holders_of plan.holds).held (holders_of plan.holds).exclusive i) (listed_set (items (row 64 plan.after i)))) j
+          has-or (at on (at plan.board i - 1)) (bit_or (rival_set plan (holders_of plan.holds) i) (listed_set (items (row 64 plan.after i)))) j
           ∙ ap (λ (b : Bool). has (at on (at plan.board i - 1)) j || b)
-          (has-or (rival_set plan.holds (holders_of plan.holds).held (holders_of plan.holds).exclusive i) (listed_set (items (row 64 plan.after i))) j)
+          (has-or (rival_set plan (holders_of plan.holds) i) (listed_set (items (row 64 plan.after i))) j)
           ∙ (λ x. beside-is x || (rival-is x || listed-is x))
           ∙ (λ x. eqb (at plan.board i) (at plan.board j)
           || (clash_by_drive (items (row 32 plan.holds i)) (items (row 32 plan.holds j)) || alone x))
@@ -130,8 +131,8 @@ module _ (plan : Plan) (fit : Fit plan.board plan.begin plan.finish plan.holds p
 
     pub clash-waits :
         (rule : ℕ) {sets : List ℕ} → rule ≢ 0
-        → sets ≡ clash_sets early plan.board plan.holds plan.after plan.tasks plan.tasks → WaitSets rule sets
-    unfolding clash_sets
+        → sets ≡ clash_sets early plan plan.tasks → WaitSets rule sets
+    unfolding clash_sets sets_by
     clash-waits rule {sets} n s =
         laid-is plan.tasks (λ i. set_of plan.tasks ((plan_for rule plan).waits i)) sets fit.range.few (ap length s ∙ length-each plan.tasks both early ∙ early-length)
         (λ i l.

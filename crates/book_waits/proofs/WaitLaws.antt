@@ -4,11 +4,9 @@ use native.Mathlib.Omega.{arith}
 use mathlib.Core.Path.{◌≡◌, sym, ap, ◌∙◌}
 use mathlib.Core.Bool.{Bool, true, false, not, ◌&&◌}
 use mathlib.Core.List.{List}
+use Rattle.std.specs.Prelude.{Some, None}
 use lib.Dec.{leb, ltb}
-use lib.ListN.{replicate}
 use borrow.Author.Tests.{not-true, not-false, leb-true, le-leb, lt-leb, lt-ltb}
-use Rattle.laws.specs.Bits.{set_of}
-use Rattle.laws.specs.Each.{each}
 use Rattle.laws.proofs.Cases.{by-eq, by_le, and_l, and_r, and_no}
 use Rattle.plan.specs.Pairs.{is_listed}
 use Rattle.plan.specs.Value.{at, row, items, blank_from, is_accepted, task_at}
@@ -17,25 +15,20 @@ use Rattle.plan.proofs.Judged.{accepted-ranges}
 use Rattle.plan.proofs.Drives.{plan-in-range}
 use Rattle.plan.proofs.PlanTasks.{ranges-kept}
 use Rattle.book_view.proofs.Blank.{blank-at}
-use Rattle.book_view.specs.View.{plan_for, laid}
 use Rattle.book_view.proofs.Accepted.{PlanFacts, plan-facts, keeps-after}
 use Rattle.book_waits.specs.Private.Arrays.{Fit}
-use Rattle.book_waits.specs.Waits.{waits_of}
-use Rattle.book_waits.specs.declared.Waits.{Waits}
+use Rattle.book_waits.specs.Waits.{sets_by, waits_of}
 
 module _ (rule : ℕ) (plan : Plan) where
-  abbrev waits : Bool → List ℕ → Waits
-  waits known sets = record { known = known; sets = sets }
-
-  unknown : (is_accepted plan && leb rule 1) ≡ false → waits false (replicate 64 0) ≡ waits_of rule plan
-  unfolding waits_of laid each
+  unknown : (is_accepted plan && leb rule 1) ≡ false → None ≡ waits_of rule plan
+  unfolding waits_of
   unknown h = rw h
 
-  pub no-rule : 1 < rule → waits false (replicate 64 0) ≡ waits_of rule plan
+  pub no-rule : 1 < rule → None ≡ waits_of rule plan
   no-rule h = unknown (ap (λ (b : Bool). is_accepted plan && b) (lt-leb rule 1 h) ∙ and_no (is_accepted plan))
 
   module _ {ok : Bool} (e : ok ≡ is_accepted plan) where
-    pub not-accepted : not ok ≡ true → waits false (replicate 64 0) ≡ waits_of rule plan
+    pub not-accepted : not ok ≡ true → None ≡ waits_of rule plan
     not-accepted h = unknown (ap (λ (b : Bool). b && leb rule 1) (sym e ∙ not-true ok h))
 
     module _ (yes : not ok ≡ false) where
@@ -69,7 +62,7 @@ module _ (rule : ℕ) (plan : Plan) where
           let rest = and_r (blank_from plan.tasks plan.ready) _ (and_r (blank_from plan.tasks plan.board) _ past) in
           blank-at plan.tasks plan.begin (and_l (blank_from plan.tasks plan.begin) _ rest) i h
 
-      pub plan-fits : Fit plan.board plan.begin plan.finish plan.holds plan.after plan.tasks
+      pub plan-fits : Fit plan
       plan-fits = record {
         range = plan-in-range plan (accepted-ranges plan accepted);
         on = λ k l. let t = facts.task k l in (t.board-from, omega (arith, t.board-to, facts.boards-to));
@@ -79,8 +72,6 @@ module _ (rule : ℕ) (plan : Plan) where
             lt-leb (at plan.finish j) (at plan.begin i) (omega (arith, zero, (facts.task j l).lasts));
       }
 
-      pub waits-are :
-          {sets : List ℕ} → rule ≤ 1 → sets ≡ laid plan.tasks (λ i. set_of plan.tasks ((plan_for rule plan).waits i))
-          → waits true sets ≡ waits_of rule plan
+      pub waits-are : {sets : List ℕ} → rule ≤ 1 → sets ≡ sets_by rule plan → Some sets ≡ waits_of rule plan
       unfolding waits_of
       waits-are h s = rw (accepted, le-leb rule 1 h, s)

@@ -6,51 +6,24 @@ mod listed;
 mod sets;
 
 ghost use Rattle.std.specs.Prelude.{◌≡◌};
-ghost use Rattle.plan.specs.Value.{plan_with};
+ghost use Rattle.plan.specs.View.{viewed};
 ghost use Rattle.book_waits.specs.Waits.{waits_of};
 
+use plan::PlanView;
 use plan_judge::value::is_accepted;
 use sets::fill_sets;
 
-// Whether the plan is accepted and the rule is one of the two, and then the wait sets.
-#[derive(Drop)]
-pub struct Waits {
-    pub known: bool,
-    pub sets: [u64; 64],
-}
-
-pub fn wait_sets<'a>(
-    rule: u8,
-    edition: u8,
-    boards: u8,
-    tasks: u8,
-    board: &'a [u8; 64],
-    ready: &'a [u32; 64],
-    begin: &'a [u32; 64],
-    finish: &'a [u32; 64],
-    holds: &'a [u8; 2048],
-    after: &'a [u8; 4096],
-) -> Waits
-    ensures { result ≡ waits_of rule (plan_with edition boards tasks board.now ready.now begin.now finish.now holds.now after.now) }
+// None where the plan is not accepted or the rule is none of the two.
+pub fn wait_sets(rule: u8, plan: &PlanView<'_>) -> Option<[u64; 64]>
+    ensures { result ≡ waits_of rule (viewed plan.now) }
 {
-    let mut sets = [0u64; 64];
     if 1 < rule {
-        return Waits { known: false, sets };
+        return None;
     }
-    if !is_accepted(
-        edition, boards, tasks, board, ready, begin, finish, holds, after,
-    ) {
-        return Waits { known: false, sets };
+    if !is_accepted(plan) {
+        return None;
     }
-    fill_sets(
-        &mut sets,
-        rule,
-        board,
-        begin,
-        finish,
-        holds,
-        after,
-        tasks as usize,
-    );
-    Waits { known: true, sets }
+    let mut sets = [0u64; 64];
+    fill_sets(&mut sets, rule, plan);
+    Some(sets)
 }

@@ -1,6 +1,6 @@
 // A task's after list as a set.
 ghost use Rattle.std.specs.Prelude.{◌≡◌, cond, ◌-◌, ◌^◌, ◌<◌, leb};
-ghost use Rattle.plan.specs.Value.{items, row};
+ghost use Rattle.plan.specs.Value.{items};
 ghost use Rattle.book_waits.specs.Private.Arrays.{listed_set};
 
 use book_view::bit_of;
@@ -14,27 +14,15 @@ fn number_bit(number: u8) -> u64
 }
 
 // The tasks that a list names up to its first 0.
-fn listed_set(list: &[u8]) -> u64
+pub(crate) fn listed_set(list: &[u8]) -> u64
     ensures { result ≡ listed_set (items list.now) }
 {
     let mut set: u64 = 0;
-    let mut i = 0;
-    while i < list.len() {
-        let n = list[i];
+    for &n in list {
         if n == 0 {
             return set;
         }
         set = set | number_bit(n);
-        i += 1;
     }
     set
-}
-
-pub(crate) fn listed_by(after: &[u8; 4096], k: usize) -> u64
-    requires { k < 64 }
-    ensures { result ≡ listed_set (items (row 64 after.now k)) }
-{
-    let all = &after[..];
-    let s = 64 * k;
-    listed_set(&all[s..s + 64])
 }

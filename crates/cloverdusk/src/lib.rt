@@ -70,41 +70,21 @@ pub extern "C" fn clover_convert_text(text: &[u8], out: &mut [u8]) -> usize
 pub extern "C" fn clover_judge_plan(plan: Plan) -> Answer
     ensures { result ≡ judged_answer plan }
 {
-    plan_judge::value::judge_plan(
-        plan.edition,
-        plan.boards,
-        plan.tasks,
-        &plan.board,
-        &plan.ready,
-        &plan.begin,
-        &plan.finish,
-        &plan.holds,
-        &plan.after,
-    )
+    plan_judge::value::judge_plan(&plan.view())
 }
 
 #[unsafe(no_mangle)]
 pub extern "C" fn clover_is_accepted(plan: Plan) -> bool
     ensures { result ≡ is_accepted plan }
 {
-    plan_judge::value::is_accepted(
-        plan.edition,
-        plan.boards,
-        plan.tasks,
-        &plan.board,
-        &plan.ready,
-        &plan.begin,
-        &plan.finish,
-        &plan.holds,
-        &plan.after,
-    )
+    plan_judge::value::is_accepted(&plan.view())
 }
 
 #[unsafe(no_mangle)]
 pub extern "C" fn clover_is_sound(book: Book) -> bool
     ensures { result ≡ is_sound book }
 {
-    book::is_sound(book)
+    book::is_sound(&book)
 }
 
 fn rule_for(clash: bool) -> Rule

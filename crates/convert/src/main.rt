@@ -1,31 +1,32 @@
 // The program: plan.txt in, its text in edition 2 out. Every byte of that text comes from `convert_text`.
 #![tactic(auto)]
 
-ghost use Rattle.std.specs.Prelude.{◌≡◌, take};
-ghost use Rattle.io.specs.Counts.{IsPrefixLen};
+ghost use Rattle.std.specs.Prelude.{◌≡◌};
 ghost use Rattle.plan_convert.specs.Renewed.{renewed_text};
 
 use files::both::READ_MOST;
+use files::say::{Say, Told};
 use files::{print, read_text};
 use plan_convert::convert_text;
+use std::rt::Files;
 use text::TEXT_MOST;
 
-// The first bytes of the buffer are the whole answer, whatever the text is.
-fn put_converted(plan: &[u8], out: &mut [u8; TEXT_MOST]) -> usize
-    ensures prefix_len { IsPrefixLen result out.new }
-    ensures out_after { take result out.new ≡ renewed_text plan.now }
+// The front of the buffer is the whole answer, whatever the text is.
+fn put_converted<'o>(plan: &[u8], out: &'o mut [u8; TEXT_MOST]) -> &'o [u8]
+    ensures { result.now ≡ renewed_text plan.now }
 {
-    convert_text(plan, out)
+    let length = convert_text(plan, out);
+    &out[..length]
 }
 
-fn main(rt: HostRuntime) {
+fn run(rt: &(impl Files + Print + Say)) -> Result<(), Told> {
     let mut plan = [0u8; READ_MOST];
-    let read = read_text(&rt, b"plan.txt", &mut plan);
-    if read.failed {
-        return;
-    }
-    let read_length = read.length;
+    let read = read_text(rt, b"plan.txt", &mut plan)?;
     let mut out = [0u8; TEXT_MOST];
-    let length = put_converted(&plan[..read_length], &mut out);
-    print(&rt, &out[..length]);
+    print(rt, put_converted(read, &mut out))
+}
+
+// The exit status is 0 after a failure too.
+fn main(rt: HostRuntime) {
+    let _ = run(&rt);
 }

@@ -1,14 +1,14 @@
 // Lines kept in ends.txt. What is said here of the disk is the system's word; no contract can say it.
-ghost use Rattle.std.specs.Prelude.{◌≤◌};
-ghost use Rattle.io.specs.Counts.{IsPrefixLen};
+ghost use Rattle.std.specs.Prelude.{◌≡◌, ◌++◌, ◌∷◌, []};
 
-use files::say::{Say, is_done};
+use crate::TypedLine;
+use arrayvec::ArrayVec;
+use files::say::{Say, Told, or_tell};
 use std::fs::{File, OpenFile};
 use std::io;
 use std::io::{Error, ErrorKind, Write};
 use std::rt::Files;
 use text::part::LF;
-use text::put::{put_byte, put_text};
 
 const ENDS: &str = "ends.txt";
 
@@ -46,18 +46,18 @@ fn keep_text(rt: &impl Files, text: &[u8]) -> io::Result<()> {
 }
 
 // The line and its LF.
-fn put_line(line: &[u8], text: &mut [u8; 66]) -> usize
-    ensures { IsPrefixLen result text.new }
+fn ended(line: &TypedLine) -> ArrayVec<u8, 66>
+    ensures { result.items ≡ line.now.items ++ 10 ∷ [] }
 {
-    let end = put_text(text, 0, line);
-    put_byte(text, end, LF)
+    let mut text = ArrayVec::new();
+    let _ = text.try_extend_from_slice(line.as_slice());
+    text.push(LF);
+    text
 }
 
-// Whether the line and its LF are on the disk; where they are not, standard error says why.
-pub(crate) fn keep(rt: &(impl Files + Say), line: &[u8]) -> bool {
-    let mut text = [0u8; 66];
-    let length = put_line(line, &mut text);
-    is_done(rt, ENDS.as_bytes(), keep_text(rt, &text[..length]))
+// The line and its LF are on the disk; where they are not, standard error says why.
+pub(crate) fn keep(rt: &(impl Files + Say), line: &TypedLine) -> Result<(), Told> {
+    or_tell(rt, ENDS.as_bytes(), keep_text(rt, ended(line).as_slice()))
 }
 
 fn cut_to(rt: &impl Files, length: usize) -> io::Result<()> {
@@ -67,12 +67,8 @@ fn cut_to(rt: &impl Files, length: usize) -> io::Result<()> {
 }
 
 // What stands past so many bytes was never answered.
-pub(crate) fn cut(rt: &(impl Files + Say), length: usize) -> bool
-    requires { length ≤ 32769 }
-{
-    let is_cut = is_done(rt, ENDS.as_bytes(), cut_to(rt, length));
-    if is_cut {
-        rt.say(b"note: what followed the last LF of ends.txt was never answered, and is cut off\n");
-    }
-    is_cut
+pub(crate) fn cut(rt: &(impl Files + Say), length: usize) -> Result<(), Told> {
+    or_tell(rt, ENDS.as_bytes(), cut_to(rt, length))?;
+    rt.say(b"note: what followed the last LF of ends.txt was never answered, and is cut off\n");
+    Ok(())
 }

@@ -2,14 +2,18 @@
 use Prim.Native.Nat.{ℕ, ◌+◌, ◌*◌, ◌≤◌}
 use mathlib.Core.Path.{◌≡◌, sym, ◌∙◌}
 use mathlib.Core.Logic.{◌≢◌}
-use mathlib.Core.Bool.{Bool, true, false, not}
+use mathlib.Core.Bool.{Bool, true, false, not, cond}
+use Rattle.std.specs.Prelude.{Option, Some, None, is_some, unwrap_or}
+use Rattle.std.proofs.lemmas.Option.{none-some}
+use Rattle.laws.proofs.Cases.{by-eq}
+use Rattle.std.specs.Bool.{then_some}
 use mathlib.Core.List.{List, [], ◌∷◌}
 use native.Mathlib.Omega.{arith}
 use lib.ListN.{length}
 use borrow.Author.Tests.{eq-eqb, ne_eqb, not-true, not-false}
 use Rattle.text.specs.Bytes.{bytes}
 use Rattle.theory.proofs.Order as order
-use Rattle.plan.specs.Answer.{refuse}
+use Rattle.plan.specs.Answer.{refuse, is_granted}
 use Rattle.plan.specs.declared.Answer.{Answer}
 use Rattle.book_view.proofs.Accepted.{plan-facts, plan-lawful}
 use Rattle.book.specs.View.{plan_in, plan_view, book_view}
@@ -33,6 +37,27 @@ answered h w = record { place = omega (arith, w.place); bytes = w.bytes; small =
 pub one_line :
     {out text : List ℕ} {a : ℕ} {m : List ℕ} {p : ℕ} → length out ≡ 3432 → a ≤ 52 → Lined out 0 text a m p → Answered out text m p
 one_line l h w = answered (omega arith) (wrote-line (omega arith) w)
+
+-- an answer that refuses, and one that grants
+module _ (answer : Answer) where
+  pub refusal-some : {a : Answer} → Some a ≡ cond (is_granted answer) None (Some answer) → (answer.code ≢ 0) × (a ≡ answer)
+  refusal-some {a} q =
+      by-eq answer.code 0
+      (λ z. let e : None ≡ Some a = sym (q ∙ rw (eq-eqb answer.code 0 z)) in absurd (none-some _ e))
+      (λ n. let e : Some a ≡ Some answer = q ∙ rw (ne_eqb answer.code 0 n) in (n, cc))
+
+  pub refusal-none : None ≡ cond (is_granted answer) None (Some answer) → answer.code ≡ 0
+  refusal-none q =
+      by-eq answer.code 0 (λ z. z)
+      (λ n. let e : None ≡ Some answer = q ∙ rw (ne_eqb answer.code 0 n) in absurd (none-some _ e))
+
+-- a number that may not be known, as a value and as a flag beside it
+pub known-as :
+    (word numbers : List ℕ) (known : Bool) (last : ℕ) {o : Option ℕ} → o ≡ then_some known last
+    → known_line word numbers (is_some o) (unwrap_or o 0) ≡ known_line word numbers known last
+unfolding known_line
+known-as word numbers true last q = rw q
+known-as word numbers false last q = rw q
 
 module _ (answer : Answer) (lines : List ℕ) {out m : List ℕ} {p : ℕ} where
   pub unless-no : answer.code ≢ 0 → Answered out (refused_line answer) m p → Answered out (unless_refused answer lines) m p
@@ -60,10 +85,13 @@ module _ (book : Book) {out m : List ℕ} {p : ℕ} where
 
     pub exact-yes :
         exact.answer.code ≡ 0 → length out ≡ 3432
-        → Lined out 0 (known_line (bytes "exact") (book.clock ∷ []) exact.known exact.early) 52 m p
+        → {early : Option ℕ} → early ≡ then_some exact.known exact.early
+        → Lined out 0 (known_line (bytes "exact") (book.clock ∷ []) (is_some early) (unwrap_or early 0)) 52 m p
         → Answered out (exact_answer book) m p
     unfolding exact_answer
-    exact-yes z l w = unless-yes (exact_of book).answer _ (rw e at z) (one_line l (omega arith) (rw e at w))
+    exact-yes z l q w =
+        let said = known-as (bytes "exact") (book.clock ∷ []) exact.known exact.early q in
+        unless-yes (exact_of book).answer _ (rw e at z) (one_line l (omega arith) (rw e at (rw said at w)))
 
 -- ---- who runs now
 
@@ -82,7 +110,7 @@ module _ (book : Book) {sound : Bool} (s : sound ≡ is_sound book) where
     now-few = (plan-facts (plan_in book) ((is-sound-facts book).0 is).accepted).tasks-to
 
     -- nobody is late, so a limit is at most the planned finish
-    pub now-fits : LimitsFit book.tasks book.begin book.finish book.start book.mark
+    pub now-fits : LimitsFit book
     now-fits i l r =
         let facts = (is-sound-facts book).0 is in
         let early =
@@ -93,7 +121,7 @@ module _ (book : Book) {sound : Bool} (s : sound ≡ is_sound book) where
 
     pub now-yes :
         {out m : List ℕ} {p c : ℕ} {m' : List ℕ} {p' : ℕ} → length out ≡ 3432
-        → Running out book.tasks book.board book.begin book.finish book.start book.mark m p c
+        → Running book out book.tasks m p c
         → Lined m p (numbers_line (bytes "now") (book.clock ∷ c ∷ [])) 30 m' p' → Answered out (now_answer book) m' p'
     unfolding now_answer
     now-yes {out} {m} {p} {c} l r w =

@@ -6,10 +6,13 @@ use mathlib.Core.List.{List, [], ◌∷◌, ◌++◌, map}
 use native.Mathlib.Omega.{arith}
 use native.Mathlib.Numerals.{add-one}
 use lib.Dec.{eqb}
-use lib.ListN.{length, get_or, replicate, length-replicate, take, get_or-eq_default}
+use Rattle.std.specs.Prelude.{Option, is_some, unwrap_or}
+use Rattle.std.specs.Bool.{then_some}
+use lib.ListN.{length, get_or, replicate, length-replicate, length-take, take}
 use lib.Seq.{length-sets, take_all, take-suc}
 use Rattle.laws.proofs.Cases.{by_bool, by_le}
 use Rattle.text.specs.Bytes.{bytes}
+use Rattle.theory.specs.Book.{ended}
 use Rattle.theory.specs.Chain.{chain_of}
 use Rattle.plan.specs.Answer.{refuse, granted}
 use Rattle.plan.specs.Value.{at}
@@ -26,35 +29,25 @@ use Rattle.log_write.specs.Private.Wrote.{Wrote}
 use Rattle.log_write.proofs.WriteLaws.{also, looser, nothing, wrote-line, wrote-length}
 use Rattle.desk_answers.specs.Answers.{lines_each, known_line}
 use Rattle.desk_answers.proofs.LineLaws.{each_last}
-use Rattle.desk_answers.proofs.AnswerLaws.{answered, unless-no, unless-yes}
+use Rattle.desk_answers.proofs.AnswerLaws.{answered, known-as, unless-no, unless-yes}
 use Rattle.desk_answers.specs.Questions.{link_line, links_in, why_answer}
-use Rattle.desk_answers.specs.Private.Questions.{link_in}
-
--- ---- what an array has for a task's number
-
-pub of-past : (l : List ℕ) (task : ℕ) {i : ℕ} → i ≡ task - 1 → length l ≤ i → 0 ≡ at l (task - 1)
-of-past l task e h = sym (get_or-eq_default l 0 h) ∙ ap (at l) e
-
-pub of-task : (l : List ℕ) (task : ℕ) {i : ℕ} → i ≡ task - 1 → at l i ≡ at l (task - 1)
-of-task l task e = ap (at l) e
 
 -- ---- one link, and the next
 
-module _ (board start end mark : List ℕ) where
-  abbrev link : ℕ → List ℕ
-  link = link_in board start end mark
-
+module _ (book : Book) where
   pub one_link :
-      (task : ℕ) {out : List ℕ} {p : ℕ} {m : List ℕ} {q : ℕ} {a b c d e : ℕ} → a ≡ task → b ≡ at board (task - 1) → c ≡ at start (task - 1)
-      → d ≡ at mark (task - 1) → e ≡ at end (task - 1) → p + 52 ≤ length out
-      → Lined out p (known_line (bytes "link") (a ∷ b ∷ c ∷ []) (eqb d 2) e) 52 m q → Wrote out p (link task) 52 m q
-  one_link task {out} {p} {m} {q} {a} {b} {c} {d} {e} x y z u v fits w =
-      let s : known_line (bytes "link") (a ∷ b ∷ c ∷ []) (eqb d 2) e ≡ link task =
-      λ i. known_line (bytes "link") (x i ∷ y i ∷ z i ∷ []) (eqb (u i) 2) (v i) in
+      (task : ℕ) {out : List ℕ} {p : ℕ} {m : List ℕ} {q : ℕ} {i a b c : ℕ} {d : Option ℕ} → i ≡ task - 1 → a ≡ task → b ≡ at book.board i → c ≡ at book.start i
+      → d ≡ then_some (ended (at book.mark) i) (at book.end i) → p + 52 ≤ length out
+      → Lined out p (known_line (bytes "link") (a ∷ b ∷ c ∷ []) (is_some d) (unwrap_or d 0)) 52 m q → Wrote out p (link_line book task) 52 m q
+  one_link task {out} {p} {m} {q} {i} {a} {b} {c} {d} e x y z u fits w =
+      let s : known_line (bytes "link") (a ∷ b ∷ c ∷ []) (is_some d) (unwrap_or d 0) ≡ link_line book task =
+      known-as (bytes "link") (a ∷ b ∷ c ∷ []) (ended (at book.mark) i) (at book.end i) u
+      ∙ (λ j. known_line (bytes "link") (x j ∷ y j ∷ z j ∷ []) (ended (at book.mark) i) (at book.end i))
+      ∙ ap (λ (k : ℕ). known_line (bytes "link") (task ∷ at book.board k ∷ at book.start k ∷ []) (ended (at book.mark) k) (at book.end k)) e in
       subst (λ (l : List ℕ). Wrote out p l 52 m q) s (wrote-line fits w)
 
   abbrev pub Below : List ℕ → ℕ → List ℕ → List ℕ → ℕ → Type 0
-  Below links n out m p = Wrote out 0 (lines_each link (take n links)) (52 * n) m p
+  Below links n out m p = Wrote out 0 (lines_each (link_line book) (take n links)) (52 * n) m p
 
   pub links-none : (links out : List ℕ) → Below links 0 out out 0
   unfolding lines_each
@@ -62,10 +55,15 @@ module _ (board start end mark : List ℕ) where
 
   pub links-turn :
       (links : List ℕ) (i : ℕ) {out m : List ℕ} {p : ℕ} {m' : List ℕ} {p' : ℕ} → i < length links → Below links i out m p
-      → Wrote m p (link (get_or links i 0)) 52 m' p' → Below links (i + 1) out m' p'
+      → Wrote m p (link_line book (get_or links i 0)) 52 m' p' → Below links (i + 1) out m' p'
   links-turn links i {out} {m' = m'} {p' = p'} h v w =
-      let e = ap (lines_each link) (ap (λ (n : ℕ). take n links) (add-one i) ∙ take-suc links i 0 h) ∙ each_last link (take i links) (get_or links i 0) in
+      let e = ap (lines_each (link_line book)) (ap (λ (n : ℕ). take n links) (add-one i) ∙ take-suc links i 0 h) ∙ each_last (link_line book) (take i links) (get_or links i 0) in
       subst (λ (l : List ℕ). Wrote out 0 l (52 * (i + 1)) m' p') (sym e) (looser {a = 52 * i + 52} (omega arith) (also v w))
+
+  pub links-all : (links : List ℕ) (n : ℕ) {out m : List ℕ} {p : ℕ} → n ≡ length links → Below links n out m p → Wrote out 0 (lines_each (link_line book) links) (52 * length links) m p
+  links-all links n {out} {m} {p} e v =
+      let v' : Below links (length links) out m p = rw e at v in
+      subst (λ (l : List ℕ). Wrote out 0 (lines_each (link_line book) l) (52 * length links) m p) (take_all (length links) links (omega arith)) v'
 
 -- ---- the whole answer
 
@@ -104,15 +102,16 @@ module _ (book : Book) (task : ℕ) {chain : Chain} (e : chain ≡ why_of book t
 
   pub why-yes :
       {n : ℕ} {out m : List ℕ} {p : ℕ} {m' : List ℕ} {p' : ℕ} → chain.answer.code ≡ 0 → length out ≡ 3432
-      → n ≡ min chain.count 64
-      → Below book.board book.start book.end book.mark chain.links n out m p
+      → n ≡ min chain.count 64 → {part : List ℕ} → part ≡ take n chain.links
+      → Wrote out 0 (lines_each (link_line book) part) (52 * length part) m p
       → Lined m p (numbers_line (bytes "why") (task ∷ chain.count ∷ [])) 30 m' p' → Answered out (why_answer book task) m' p'
   unfolding why_answer
-  why-yes {n} {out} {m} {p} {m'} {p'} z l q v w =
-      let t = ap (λ (k : ℕ). take k chain.links) q ∙ few-links chain.links chain.count (links-sized book task e) in
-      let v' : Wrote out 0 (lines_each (link_line book) (links_in chain)) (52 * n) m p =
-      subst (λ (k : List ℕ). Wrote out 0 (lines_each (link_line book) k) (52 * n) m p) t v in
-      let x = wrote-line (omega (arith, q, v'.place, v'.small, wrote-length v')) w in
+  why-yes {n} {out} {m} {p} {m'} {p'} z l q {part} s v w =
+      let t : part ≡ links_in chain = s ∙ ap (λ (k : ℕ). take k chain.links) q ∙ few-links chain.links chain.count (links-sized book task e) in
+      let few : length part ≤ 64 = omega (arith, q, ap length s ∙ length-take n chain.links) in
+      let v' : Wrote out 0 (lines_each (link_line book) (links_in chain)) (52 * length part) m p =
+      subst (λ (k : List ℕ). Wrote out 0 (lines_each (link_line book) k) (52 * length part) m p) t v in
+      let x = wrote-line (omega (arith, few, v'.place, v'.small, wrote-length v')) w in
       let y : Answered out (lines_each (link_line book) (links_in chain) ++ numbers_line (bytes "why") (task ∷ chain.count ∷ [])) m' p' =
-      answered {a = 52 * n + 30} (omega (arith, q)) (also v' x) in
+      answered {a = 52 * length part + 30} (omega (arith, few)) (also v' x) in
       unless-yes (why_of book task).answer _ (rw e at z) (rw e at y)

@@ -14,8 +14,9 @@ use Rattle.text.specs.Bytes.{bytes}
 use Rattle.log_write.specs.Lines.{numbers_line, Lined}
 use Rattle.log_write.specs.Private.Wrote.{Wrote}
 use Rattle.log_write.proofs.WriteLaws.{also, looser, nothing, wrote-length, wrote-line}
-use Rattle.desk_answers.specs.Answers.{lines_each}
-use Rattle.desk_answers.specs.Private.Arrays.{runs_in, Running}
+use Rattle.book.specs.declared.Book.{Book}
+use Rattle.desk_answers.specs.Answers.{lines_each, runs_line}
+use Rattle.desk_answers.specs.Private.Arrays.{Running}
 
 pub each_last : (line : ℕ → List ℕ) (l : List ℕ) (task : ℕ) → lines_each line (l ++ (task ∷ [])) ≡ lines_each line l ++ line task
 unfolding lines_each
@@ -30,15 +31,15 @@ each_same f g h (k ∷ l) = let e = h k in let r = each_same f g h l in λ i. e 
 
 -- ---- the tasks that run, one after the other
 
-module _ (board begin finish start mark : List ℕ) where
+module _ (book : Book) where
   abbrev line : ℕ → List ℕ
-  line = runs_in board begin finish start
+  line = runs_line book
 
   abbrev these : ℕ → List ℕ
-  these n = numbers n (running (at mark))
+  these n = numbers n (running (at book.mark))
 
   abbrev pub Below : ℕ → List ℕ → List ℕ → ℕ → ℕ → Type 0
-  Below n out m p c = Running out n board begin finish start mark m p c
+  Below n out m p c = Running book out n m p c
 
   pub run_none : (out : List ℕ) → Below 0 out out 0 0
   unfolding numbers lines_each
@@ -48,15 +49,15 @@ module _ (board begin finish start mark : List ℕ) where
     pub run_length : length m ≡ length out
     run_length = wrote-length w.wrote
 
-    passes : at mark n ≢ 1 → these (n + 1) ≡ these n
+    passes : at book.mark n ≢ 1 → these (n + 1) ≡ these n
     unfolding numbers
-    passes h = ap these (add-one n) ∙ rw (ne_eqb (at mark n) 1 h)
+    passes h = ap these (add-one n) ∙ rw (ne_eqb (at book.mark n) 1 h)
 
-    goes : at mark n ≡ 1 → these (n + 1) ≡ these n ++ ((n + 1) ∷ [])
+    goes : at book.mark n ≡ 1 → these (n + 1) ≡ these n ++ ((n + 1) ∷ [])
     unfolding numbers
-    goes h = ap these (add-one n) ∙ rw (eq-eqb (at mark n) 1 h) (ap (λ (k : ℕ). these n ++ (k ∷ [])) (sym (add-one n)))
+    goes h = ap these (add-one n) ∙ rw (eq-eqb (at book.mark n) 1 h) (ap (λ (k : ℕ). these n ++ (k ∷ [])) (sym (add-one n)))
 
-    pub run-passes : at mark n ≢ 1 → Below (n + 1) out m p c
+    pub run-passes : at book.mark n ≢ 1 → Below (n + 1) out m p c
     run-passes h =
         let e = passes h in
         record {
@@ -65,17 +66,17 @@ module _ (board begin finish start mark : List ℕ) where
           few = omega (arith, w.few);
         }
 
-    line_of : {limit : ℕ} → limit ≡ at start n + (at finish n - at begin n) → numbers_line (bytes "runs") ((n + 1) ∷ at board n ∷ at start n ∷ limit ∷ []) ≡ line (n + 1)
+    line_of : {limit : ℕ} → limit ≡ at book.start n + (at book.finish n - at book.begin n) → numbers_line (bytes "runs") ((n + 1) ∷ at book.board n ∷ at book.start n ∷ limit ∷ []) ≡ line (n + 1)
     line_of q =
         let e : n + 1 - 1 ≡ n = omega arith in
-        ap (λ (k : ℕ). numbers_line (bytes "runs") ((n + 1) ∷ at board n ∷ at start n ∷ k ∷ [])) q
+        ap (λ (k : ℕ). numbers_line (bytes "runs") ((n + 1) ∷ at book.board n ∷ at book.start n ∷ k ∷ [])) q
         ∙ ap
-        (λ (k : ℕ). numbers_line (bytes "runs") ((n + 1) ∷ at board k ∷ at start k ∷ (at start k + (at finish k - at begin k)) ∷ []))
+        (λ (k : ℕ). numbers_line (bytes "runs") ((n + 1) ∷ at book.board k ∷ at book.start k ∷ (at book.start k + (at book.finish k - at book.begin k)) ∷ []))
         (sym e)
 
     pub run-goes :
-        {limit : ℕ} {m' : List ℕ} {p' : ℕ} → at mark n ≡ 1 → p + 52 ≤ length m → limit ≡ at start n + (at finish n - at begin n)
-        → Lined m p (numbers_line (bytes "runs") ((n + 1) ∷ at board n ∷ at start n ∷ limit ∷ [])) 52 m' p' → Below (n + 1) out m' p' (c + 1)
+        {limit : ℕ} {m' : List ℕ} {p' : ℕ} → at book.mark n ≡ 1 → p + 52 ≤ length m → limit ≡ at book.start n + (at book.finish n - at book.begin n)
+        → Lined m p (numbers_line (bytes "runs") ((n + 1) ∷ at book.board n ∷ at book.start n ∷ limit ∷ [])) 52 m' p' → Below (n + 1) out m' p' (c + 1)
     run-goes {limit} {m'} {p'} h fits q u =
         let v : Lined m p (line (n + 1)) 52 m' p' = rw (line_of q) at u in
         let e : lines_each line (these (n + 1)) ≡ lines_each line (these n) ++ line (n + 1) =

@@ -8,11 +8,10 @@ ghost use Rattle.log_write.specs.Answers.{Answered};
 ghost use Rattle.log_write.specs.Private.Wrote.{Wrote};
 ghost use Rattle.desk_answers.specs.Questions.{drive_line, drive_answer};
 
-use crate::answer_refused;
+use crate::{answer_refused, refusal};
 use ask_drives::{make_sheet, on_drive};
 use book::Book;
 use log_write::ANSWER_MOST;
-use text::decimal::wide;
 use text::part::{LF, TAB, part_before};
 use text::put::{put_byte, put_number, put_text};
 
@@ -35,14 +34,14 @@ fn put_items(out: &mut [u8], at: usize, items: &[u8]) -> usize
     if items.len() == 0 {
         return put_text(out, at, b"\t-");
     }
-    let mut place = put_after(out, at, TAB, wide(items[0]));
+    let mut place = put_after(out, at, TAB, u32::from(items[0]));
     for i in 1..items.len() {
-        place = put_after(out, place, COMMA, wide(items[i]));
+        place = put_after(out, place, COMMA, u32::from(items[i]));
     }
     place
 }
 
-// A task's number, or a dash for 0, after a tab.
+// A task's number, or a dash for 0, after a tab: the library's struct has 0 for nobody.
 fn put_next(out: &mut [u8], at: usize, task: u8) -> usize
     requires { at + 11 ≤ length out.old }
     ensures { Wrote out.old at (9 ∷ number_or (not (eqb task 0)) task) 11 out.new result }
@@ -50,7 +49,7 @@ fn put_next(out: &mut [u8], at: usize, task: u8) -> usize
     if task == 0 {
         return put_text(out, at, b"\t-");
     }
-    put_after(out, at, TAB, wide(task))
+    put_after(out, at, TAB, u32::from(task))
 }
 
 fn put_drive(out: &mut [u8; ANSWER_MOST], drive: u32, running: &[u8; 8], next: u8) -> usize
@@ -69,10 +68,8 @@ pub fn answer_drive(book: Book, drive: u32, out: &mut [u8; ANSWER_MOST]) -> usiz
     let made = make_sheet(book);
     let sheet = made.sheet;
     let on = on_drive(book, sheet, drive);
-    let answer = on.answer;
-    if answer.code != 0 {
+    if let Some(answer) = refusal(on.answer) {
         return answer_refused(answer, out);
     }
-    let running = on.running;
-    put_drive(out, drive, &running, on.next)
+    put_drive(out, drive, &on.running, on.next)
 }

@@ -6,6 +6,8 @@ pub mod drive;
 mod lines;
 pub mod running;
 
+ghost use Rattle.std.specs.Prelude.{◌≡◌, cond};
+ghost use Rattle.plan.specs.Answer.{is_granted};
 ghost use Rattle.log_write.specs.Lines.{refused_line};
 ghost use Rattle.log_write.specs.Answers.{Answered};
 ghost use Rattle.desk_answers.specs.Answers.{early_answer, exact_answer};
@@ -15,6 +17,16 @@ use ask_exact::exact_early;
 use book::Book;
 use log_write::{ANSWER_MOST, put_early, put_refused};
 use plan::Answer;
+
+// The answer, if it refuses.
+fn refusal(answer: Answer) -> Option<Answer>
+    ensures { result ≡ cond (is_granted answer) None (Some answer) }
+{
+    if answer.code == 0 {
+        return None;
+    }
+    Some(answer)
+}
 
 // The `refused` line as the whole answer.
 pub fn answer_refused(answer: Answer, out: &mut [u8; ANSWER_MOST]) -> usize
@@ -27,8 +39,7 @@ pub fn answer_early(book: Book, out: &mut [u8; ANSWER_MOST]) -> usize
     ensures { Answered out.old (early_answer book) out.new result }
 {
     let figure = book.minimum_early();
-    let answer = figure.answer;
-    if answer.code != 0 {
+    if let Some(answer) = refusal(figure.answer) {
         return answer_refused(answer, out);
     }
     put_early(out, 0, book.clock, figure.early)
@@ -38,9 +49,8 @@ pub fn answer_exact(book: Book, out: &mut [u8; ANSWER_MOST]) -> usize
     ensures { Answered out.old (exact_answer book) out.new result }
 {
     let exact = exact_early(book);
-    let answer = exact.answer;
-    if answer.code != 0 {
+    if let Some(answer) = refusal(exact.answer) {
         return answer_refused(answer, out);
     }
-    put_exact(out, 0, book.clock, exact.known, exact.early)
+    put_exact(out, 0, book.clock, exact.known.then_some(exact.early))
 }

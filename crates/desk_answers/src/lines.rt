@@ -1,11 +1,10 @@
 // The lines of an answer that a log has not. Each is written where LINE_MOST bytes are left from `at`, and otherwise nothing is; each answers the place after it.
-ghost use Rattle.std.specs.Prelude.{[], ◌∷◌};
+ghost use Rattle.std.specs.Prelude.{[], ◌∷◌, is_some, unwrap_or};
 ghost use Rattle.text.specs.Bytes.{bytes};
 ghost use Rattle.log_write.specs.Lines.{numbers_line, Lined};
 ghost use Rattle.desk_answers.specs.Answers.{known_line};
 
 use log_write::{put_line, put_line_to};
-use text::decimal::wide;
 
 // `now`, clock, how many run.
 pub(crate) fn put_now(out: &mut [u8], at: usize, clock: u32, count: u32) -> usize
@@ -32,17 +31,17 @@ pub(crate) fn put_runs(
 ) -> usize
     ensures { Lined out.old at (numbers_line (bytes "runs") (task ∷ board ∷ start ∷ limit ∷ [])) 52 out.new result }
 {
-    put_line(out, at, b"runs", &[task, wide(board), start, limit])
+    put_line(out, at, b"runs", &[task, u32::from(board), start, limit])
 }
 
 // A figure that is not known is a dash.
-pub(crate) fn put_exact(out: &mut [u8], at: usize, clock: u32, known: bool, early: u32) -> usize
-    ensures { Lined out.old at (known_line (bytes "exact") (clock ∷ []) known early) 52 out.new result }
+pub(crate) fn put_exact(out: &mut [u8], at: usize, clock: u32, early: Option<u32>) -> usize
+    ensures { Lined out.old at (known_line (bytes "exact") (clock ∷ []) (is_some early) (unwrap_or early 0)) 52 out.new result }
 {
-    if known {
-        return put_line(out, at, b"exact", &[clock, early]);
+    match early {
+        Some(early) => put_line(out, at, b"exact", &[clock, early]),
+        None => put_line_to(out, at, b"exact", &[clock], b"\t-\n"),
     }
-    put_line_to(out, at, b"exact", &[clock], b"\t-\n")
 }
 
 // A link of a chain; an end that is not known is a dash.
@@ -52,13 +51,13 @@ pub(crate) fn put_link(
     task: u32,
     board: u8,
     start: u32,
-    known: bool,
-    end: u32,
+    end: Option<u32>,
 ) -> usize
-    ensures { Lined out.old at (known_line (bytes "link") (task ∷ board ∷ start ∷ []) known end) 52 out.new result }
+    ensures { Lined out.old at (known_line (bytes "link") (task ∷ board ∷ start ∷ []) (is_some end) (unwrap_or end 0)) 52 out.new result }
 {
-    if known {
-        return put_line(out, at, b"link", &[task, wide(board), start, end]);
+    let board = u32::from(board);
+    match end {
+        Some(end) => put_line(out, at, b"link", &[task, board, start, end]),
+        None => put_line_to(out, at, b"link", &[task, board, start], b"\t-\n"),
     }
-    put_line_to(out, at, b"link", &[task, wide(board), start], b"\t-\n")
 }

@@ -26,30 +26,26 @@ fn short_limit(begin: u32, finish: u32, start: u32) -> u32
 }
 
 // A line for each task that runs, by rising number.
-fn put_running<'a>(
-    out: &mut [u8],
-    tasks: u8,
-    board: &'a [u8; 64],
-    begin: &'a [u32; 64],
-    finish: &'a [u32; 64],
-    start: &'a [u32; 64],
-    mark: &'a [u8; 64],
-) -> LinesWritten
-    requires { (tasks ≤ 64) × (3328 ≤ length out.old) × LimitsFit tasks begin.now finish.now start.now mark.now }
-    ensures { Running out.old tasks board.now begin.now finish.now start.now mark.now out.new result.place result.count }
+fn put_running(out: &mut [u8], book: &Book) -> LinesWritten
+    requires { (book.now.tasks ≤ 64) × (3328 ≤ length out.old) × LimitsFit book.now }
+    ensures { Running book.now out.old book.now.tasks out.new result.place result.count }
 {
     let mut place = 0;
     let mut count = 0;
-    let mut number = 0;
-    while number < tasks as usize {
-        let i = number;
-        number += 1;
-        if mark[i] != 1 {
-            continue;
+    let tasks = usize::from(book.tasks);
+    for i in 0..tasks {
+        if book.mark[i] == 1 {
+            let limit = short_limit(book.begin[i], book.finish[i], book.start[i]);
+            place = put_runs(
+                out,
+                place,
+                (i + 1) as u32,
+                book.board[i],
+                book.start[i],
+                limit,
+            );
+            count += 1;
         }
-        let limit = short_limit(begin[i], finish[i], start[i]);
-        place = put_runs(out, place, number as u32, board[i], start[i], limit);
-        count += 1;
     }
     LinesWritten { place, count }
 }
@@ -57,17 +53,9 @@ fn put_running<'a>(
 pub fn answer_now(book: Book, out: &mut [u8; ANSWER_MOST]) -> usize
     ensures { Answered out.old (now_answer book) out.new result }
 {
-    if !is_sound(book) {
+    if !is_sound(&book) {
         return answer_refused(refuse(9, 0, 0), out);
     }
-    let counted = put_running(
-        out,
-        book.tasks,
-        &book.board,
-        &book.begin,
-        &book.finish,
-        &book.start,
-        &book.mark,
-    );
-    put_now(out, counted.place, book.clock, counted.count)
+    let written = put_running(out, &book);
+    put_now(out, written.place, book.clock, written.count)
 }

@@ -21,12 +21,12 @@ use Rattle.text_fields.proofs.FaultLaws.{is_code, field-is-code, word-is-code, e
 use Rattle.text_fields.proofs.UnlessLaws.{no-fault}
 use Rattle.log_read.specs.Entries.{end_codes, drop_codes, entry_of}
 use Rattle.log_read.specs.Rules.{rule_codes, choice_in}
-use Rattle.log_read.specs.declared.Choice.{Choice}
-use Rattle.log_read.specs.declared.Entry.{Entry}
-use Rattle.log_read.specs.declared.Entry.TheVariants.{End, Drop, Refused}
+use Rattle.log_read.specs.Said.{Choice}
+use Rattle.log_read.specs.Said.{Entry}
+use Rattle.log_read.specs.Said.Entry.{End, Drop, Refused}
 use Rattle.desk_read.specs.Lines.{refused_by, choice_asked, word_asked, asked_of}
-use Rattle.desk_read.specs.declared.DeskLine.{DeskLine}
-use Rattle.desk_read.specs.declared.DeskLine.TheVariants.{Step, Rule, Early, Exact, Now, Drive, Why}
+use Rattle.desk_read.specs.Asked.{DeskLine}
+use Rattle.desk_read.specs.Asked.DeskLine.{Step, Rule, Early, Exact, Now, Drive, Why}
 
 -- ---- the fault
 
@@ -55,8 +55,8 @@ pub number_is : (line : List ℕ) {second : List ℕ} → second ≡ field line 
 number_is line g n = ap (λ (x : Ranged). x.value) n ∙ ap (λ (s : List ℕ). (ranged_read 0 most s).value) g
 
 module _ (fault : Fault) (asked : DeskLine) where
-  pub unless-no : fault.code ≢ 0 → (r : DeskLine) → r ≡ refused_by fault.code fault.column → r ≡ unless_fault fault refused_by asked
-  unless-no n r e = rw (ne_eqb fault.code 0 n) e
+  pub unless-no : fault.code ≢ 0 → refused_by fault.code fault.column ≡ unless_fault fault refused_by asked
+  unless-no n = rw (ne_eqb fault.code 0 n)
 
   pub unless-yes : fault.code ≡ 0 → asked ≡ unless_fault fault refused_by asked
   unless-yes z = rw (eq-eqb fault.code 0 z)

@@ -7,11 +7,11 @@ use Rattle.text.specs.Line.{field}
 use Rattle.text_fields.specs.Faults.{field_code, line_codes, fault_of, unless_fault}
 use Rattle.log_read.specs.Entries.{entry_of}
 use Rattle.log_read.specs.Rules.{choice_in}
-use Rattle.log_read.specs.declared.Entry.TheVariants.{Refused}
-use Rattle.log_read.specs.declared.Choice.{Choice}
-use Rattle.log_read.specs.declared.Choice.TheVariants.{Unsaid, Chosen, Malformed}
-use Rattle.desk_read.specs.declared.DeskLine.{DeskLine}
-use Rattle.desk_read.specs.declared.DeskLine.TheVariants.{Step, Rule, Early, Exact, Now, Drive, Why}
+use Rattle.log_read.specs.Said.Entry.{Refused}
+use Rattle.log_read.specs.Said.{Choice}
+use Rattle.log_read.specs.Said.Choice.{Unsaid, Chosen, Malformed}
+use Rattle.desk_read.specs.Asked.{DeskLine}
+use Rattle.desk_read.specs.Asked.DeskLine.{Step, Rule, Early, Exact, Now, Drive, Why}
 
 -- the refusal of a line, as of one of ends.txt
 abbrev pub refused_by : ℕ → ℕ → DeskLine

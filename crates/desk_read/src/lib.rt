@@ -1,11 +1,12 @@
-// A line that is typed at the desk: what it asks, or its refusal.
+// A line that is typed at the desk: what it asks, or its fault.
 #![tactic(auto)]
 
-ghost use Rattle.std.specs.Prelude.{◌≡◌, [], ◌∷◌};
+ghost use Rattle.std.specs.Prelude.{◌≡◌, ◌≢◌, [], ◌∷◌, MatchResult};
 ghost use Rattle.text.specs.Number.{most};
 ghost use Rattle.text.specs.Line.{field};
-ghost use Rattle.text_fields.specs.Faults.{field_code, ranged_read, line_codes, fault_of, unless_fault};
-ghost use Rattle.desk_read.specs.Lines.{refused_by, choice_asked, word_asked, asked_of};
+ghost use Rattle.text_fields.specs.Faults.{field_code, ranged_read, line_codes, fault_of};
+ghost use Rattle.desk_read.specs.Asked.{asked};
+ghost use Rattle.desk_read.specs.Lines.{word_asked, asked_of};
 
 use log_read::rules::read_choice;
 use log_read::{Choice, Entry, read_entry};
@@ -17,8 +18,8 @@ use text_fields::faults::{end_code, fault_of, read_ranged, word_code};
 // A line has no more bytes before its LF.
 pub const TYPED_MOST: usize = 64;
 
-// What a line asks: what a line of ends.txt says or is refused by, the clash rule, or one of the questions.
-#[derive(Drop)]
+// What a line asks: what a line of ends.txt says, the clash rule, or one of the questions.
+#[derive(Clone, Copy)]
 pub enum DeskLine {
     Step(Entry),
     Rule,
@@ -29,23 +30,21 @@ pub enum DeskLine {
     Why(u32),
 }
 
-fn refused(code: u8, column: usize) -> DeskLine
-    ensures { result ≡ refused_by code column }
-{
-    DeskLine::Step(Entry::Refused(code as u32, column))
-}
-
-// The fault of a line that is a word alone.
-fn alone_fault<'a>(line: &'a [u8], word: &'a [u8], ended: bool) -> Fault
-    ensures { result ≡ fault_of line.now (line_codes word.now [] ended line.now) }
+// A line that is a word alone.
+fn read_word<'a>(line: &'a [u8], word: &'a [u8], ended: bool) -> Result<(), Fault>
+    ensures { MatchResult result (λ done. (fault_of line.now (line_codes word.now [] ended line.now)).code ≡ 0) (λ fault. (fault.code ≢ 0) × (fault ≡ fault_of line.now (line_codes word.now [] ended line.now))) }
 {
     let codes = [word_code(field(line, 0), word), end_code(line, 1, ended)];
-    fault_of(line, &codes)
+    let fault = fault_of(line, &codes);
+    if fault.code != 0 {
+        return Err(fault);
+    }
+    Ok(())
 }
 
-// The fault of a word and a number.
-fn one_fault<'a>(line: &'a [u8], word: &'a [u8], ended: bool) -> Fault
-    ensures { result ≡ fault_of line.now (line_codes word.now (field_code 0 most ∷ []) ended line.now) }
+// The number of a line that is a word and a number.
+fn read_number<'a>(line: &'a [u8], word: &'a [u8], ended: bool) -> Result<u32, Fault>
+    ensures { MatchResult result (λ n. ((fault_of line.now (line_codes word.now (field_code 0 most ∷ []) ended line.now)).code ≡ 0) × (n ≡ (ranged_read 0 most (field line.now 1)).value)) (λ fault. (fault.code ≢ 0) × (fault ≡ fault_of line.now (line_codes word.now (field_code 0 most ∷ []) ended line.now))) }
 {
     let number = read_ranged(field(line, 1), 0, NUMBER_MOST);
     let codes = [
@@ -53,72 +52,58 @@ fn one_fault<'a>(line: &'a [u8], word: &'a [u8], ended: bool) -> Fault
         number.code,
         end_code(line, 2, ended),
     ];
-    fault_of(line, &codes)
-}
-
-fn number_in(line: &[u8]) -> u32
-    ensures { result ≡ (ranged_read 0 most (field line.now 1)).value }
-{
-    let number = read_ranged(field(line, 1), 0, NUMBER_MOST);
-    number.value
-}
-
-fn unless(fault: Fault, asked: DeskLine) -> DeskLine
-    ensures { result ≡ unless_fault fault refused_by asked }
-{
+    let fault = fault_of(line, &codes);
     if fault.code != 0 {
-        return refused(fault.code, fault.column);
+        return Err(fault);
     }
-    asked
-}
-
-fn by_choice(choice: Choice, otherwise: DeskLine) -> DeskLine
-    ensures { result ≡ choice_asked choice otherwise }
-{
-    match choice {
-        Choice::Unsaid => otherwise,
-        Choice::Chosen => DeskLine::Rule,
-        Choice::Malformed(column) => refused(3, column),
-    }
+    Ok(number.value)
 }
 
 // By its word; any other is an `end` or a `drop` line.
-fn by_word(line: &[u8], ended: bool) -> DeskLine
-    ensures { result ≡ word_asked ended line.now }
+fn by_word(line: &[u8], ended: bool) -> Result<DeskLine, Fault>
+    ensures { asked result ≡ word_asked ended line.now }
 {
-    if same(field(line, 0), b"early") {
-        return unless(alone_fault(line, b"early", ended), DeskLine::Early);
+    let word = field(line, 0);
+    if same(word, b"early") {
+        read_word(line, b"early", ended)?;
+        return Ok(DeskLine::Early);
     }
-    if same(field(line, 0), b"exact") {
-        return unless(alone_fault(line, b"exact", ended), DeskLine::Exact);
+    if same(word, b"exact") {
+        read_word(line, b"exact", ended)?;
+        return Ok(DeskLine::Exact);
     }
-    if same(field(line, 0), b"now") {
-        return unless(alone_fault(line, b"now", ended), DeskLine::Now);
+    if same(word, b"now") {
+        read_word(line, b"now", ended)?;
+        return Ok(DeskLine::Now);
     }
-    if same(field(line, 0), b"drive") {
-        return unless(
-            one_fault(line, b"drive", ended),
-            DeskLine::Drive(number_in(line)),
-        );
+    if same(word, b"drive") {
+        let drive = read_number(line, b"drive", ended)?;
+        return Ok(DeskLine::Drive(drive));
     }
-    if same(field(line, 0), b"why") {
-        return unless(
-            one_fault(line, b"why", ended),
-            DeskLine::Why(number_in(line)),
-        );
+    if same(word, b"why") {
+        let task = read_number(line, b"why", ended)?;
+        return Ok(DeskLine::Why(task));
     }
-    DeskLine::Step(read_entry(line, ended))
+    let entry = read_entry(line, ended)?;
+    Ok(DeskLine::Step(entry))
 }
 
 // A line without its LF and whether it had one, and whether the rule may still be chosen.
-pub fn read_asked(line: &[u8], ended: bool, free: bool) -> DeskLine
-    ensures { result ≡ asked_of free ended line.now }
+pub fn read_asked(line: &[u8], ended: bool, free: bool) -> Result<DeskLine, Fault>
+    ensures { asked result ≡ asked_of free ended line.now }
 {
     if TYPED_MOST < line.len() {
-        return refused(3, TYPED_MOST + 1);
+        return Err(Fault {
+            code: 3,
+            column: TYPED_MOST + 1,
+        });
     }
     if !free {
         return by_word(line, ended);
     }
-    by_choice(read_choice(line, ended), by_word(line, ended))
+    match read_choice(line, ended) {
+        Ok(Choice::Unsaid) => by_word(line, ended),
+        Ok(Choice::Chosen) => Ok(DeskLine::Rule),
+        Err(column) => Err(Fault { code: 3, column }),
+    }
 }

@@ -3,19 +3,18 @@ use Prim.Native.Nat.{ℕ, zero, suc, ◌-◌, ◌≤◌, ◌<◌}
 use mathlib.Core.Path.{◌≡◌, refl, sym, ap, subst, ◌∙◌}
 use mathlib.Core.Logic.{◌≢◌}
 use mathlib.Core.Bool.{Bool, true, false, ◌||◌}
-use mathlib.Core.List.{List, [], ◌∷◌}
+use mathlib.Core.List.{List}
 use native.Mathlib.Omega.{arith}
 use lib.Dec.{ltb}
 use lib.ListN.{length, take}
 use lib.Seq.{sets}
-use types.Run.{OneOf}
-use denote.Enum.Declared
 use borrow.Author.Tests.{eq-eqb, ne_eqb, lt-ltb, le-ltb, le-leb}
 use Rattle.laws.proofs.Cases.{by-eq}
 use Rattle.laws.specs.Split.{after}
 use Rattle.text.specs.Line.{LF}
 use Rattle.plan.specs.Read.{reading_of}
 use Rattle.plan.specs.Value.{at}
+use Rattle.plan.specs.declared.Answer.{Answer}
 use Rattle.plan.specs.declared.Plan.{Plan}
 use Rattle.plan.specs.declared.Reading.{Reading}
 use Rattle.book.specs.Open.{opening_of}
@@ -26,12 +25,10 @@ use Rattle.book.specs.declared.BookResult.{BookResult}
 use Rattle.book.specs.declared.Rule.TheVariants.{EarlyStart, Clash}
 use Rattle.log_read.specs.Entries.{next_entry, entry_code}
 use Rattle.log_read.specs.Rules.{choice_of}
-use Rattle.log_read.specs.declared.Choice.{Choice}
-use Rattle.log_read.specs.declared.Choice.TheVariants.{Unsaid, Chosen, Malformed}
-use Rattle.log_read.specs.declared.Entry.{Entry}
-use Rattle.log_read.specs.declared.Entry.TheVariants.{End, Drop, Refused}
-use Rattle.log_read.specs.contracts.Entry.{the_type}
-use Rattle.log_read.specs.contracts.Choice.{the_type as choices}
+use Rattle.log_read.specs.Said.{Choice}
+use Rattle.log_read.specs.Said.Choice.{Unsaid, Chosen, Malformed}
+use Rattle.log_read.specs.Said.{Entry}
+use Rattle.log_read.specs.Said.Entry.{End, Drop}
 use Rattle.log_read.proofs.TextLaws.{line-used}
 use Rattle.log_run.specs.Log.{told_of, log_of, log_most, log_in}
 use Rattle.desk_start.specs.Start.{line_end, text_in, stopping, going, walk_from, walk_in, walked_by, walked_of, way_of, start_log, begun_of}
@@ -85,20 +82,14 @@ module _ (text : List ℕ) where
 
 -- ---- the book after an entry
 
-module _ (book : Book) {entry : Entry} where
-  pub after-end : {task tick : ℕ} {h : BookResult} → entry ≡ End task tick → h ≡ reported_of book task tick → h.book ≡ (told_of 0 book entry).book
+module _ (book : Book) {now : Book} {answer : Answer} where
+  pub after-end : (task tick : ℕ) → reported_of book task tick ≡ record { answer = answer; book = now } → now ≡ (told_of 0 book (End task tick)).book
   unfolding told_of
-  after-end q e = rw q (ap (λ (x : BookResult). x.book) e)
+  after-end task tick e = ap (λ (x : BookResult). x.book) (sym e)
 
-  pub after-drop : {task : ℕ} {h : BookResult} → entry ≡ Drop task → h ≡ dropped_of book task → h.book ≡ (told_of 0 book entry).book
+  pub after-drop : (task : ℕ) → dropped_of book task ≡ record { answer = answer; book = now } → now ≡ (told_of 0 book (Drop task)).book
   unfolding told_of
-  after-drop q e = rw q (ap (λ (x : BookResult). x.book) e)
-
-pub after-refused : (book : Book) (entry : Entry) → OneOf (2 ∷ []) (Declared.tag_of the_type entry) → book ≡ (told_of 0 book entry).book
-unfolding told_of
-after-refused book (End task tick) t = absurd (omega arith)
-after-refused book (Drop task) t = absurd (omega arith)
-after-refused book (Refused code column) t = refl
+  after-drop task e = ap (λ (x : BookResult). x.book) (sym e)
 
 -- ---- the walk: its fuel is enough
 
@@ -149,37 +140,24 @@ module _ (book : Book) (s : List ℕ) where
         more ∙ walk_turn (length s) book s (λ z. omega arith) t
         ∙ fuel (length s) (length (after LF s)) (next_book book s) (after LF s) (omega (arith, line-used s t)) (omega arith)
 
-module _ (rest : List ℕ) {entry : Entry} (n : entry ≡ next_entry rest) {code : ℕ} (k : code ≡ entry_code entry) where
-  code_is : code ≡ entry_code (next_entry rest)
-  code_is = rw n at k
+pub walked-less : (rest : List ℕ) → entry_code (next_entry rest) ≡ 0 → {next : List ℕ} → next ≡ after LF rest → length next < length rest
+walked-less rest z u = rw u (omega (arith, line-used rest z))
 
-  pub walked-less : code ≡ 0 → {next : List ℕ} → next ≡ after LF rest → length next < length rest
-  walked-less z u = rw u (omega (arith, line-used rest (sym code_is ∙ z)))
-
--- what the code has: an entry, its code, the book after it
+-- what the code has: an entry and the book after it
 module _ (book : Book) (rest : List ℕ) {whole : EndsResult} (w : walk_in book rest ≡ whole) where
   pub walked_end : length rest ≤ 0 → going book ≡ whole
   walked_end h = sym (in-none book rest (omega arith)) ∙ w
 
-  module _ {entry : Entry} (n : entry ≡ next_entry rest) {code : ℕ} (k : code ≡ entry_code entry) where
-    pub walked-stops : 0 < length rest → code ≢ 0 → stopping book ≡ whole
-    walked-stops some h = sym (in-stop book rest some (λ z. h (code_is rest n k ∙ z))) ∙ w
+  pub walked-stops : 0 < length rest → entry_code (next_entry rest) ≢ 0 → stopping book ≡ whole
+  walked-stops some h = sym (in-stop book rest some h) ∙ w
 
-    pub walked-goes :
-        0 < length rest → code ≡ 0 → {next : List ℕ} {b : Book} → b ≡ (told_of 0 book entry).book → next ≡ after LF rest → walk_in b next ≡ whole
-    walked-goes some z {next} {b} e u =
-        let e' = e ∙ ap (λ (x : Entry). (told_of 0 book x).book) n in
-        (λ i. walk_in (e' i) (u i)) ∙ sym (in-turn book rest some (sym (code_is rest n k) ∙ z)) ∙ w
+  pub walked-goes :
+      {entry : Entry} → entry ≡ next_entry rest → 0 < length rest → entry_code (next_entry rest) ≡ 0 → {next : List ℕ} {b : Book}
+      → b ≡ (told_of 0 book entry).book → next ≡ after LF rest → walk_in b next ≡ whole
+  walked-goes n some z {next} {b} e u =
+      let e' = e ∙ ap (λ (x : Entry). (told_of 0 book x).book) n in (λ i. walk_in (e' i) (u i)) ∙ sym (in-turn book rest some z) ∙ w
 
 -- ---- by the first line
-
-by-malformed :
-    (plan : Plan) (text : List ℕ) (choice : Choice) → OneOf (2 ∷ []) (Declared.tag_of choices choice)
-    → walked_by choice plan text ≡ stopping (opening_of plan EarlyStart).book
-unfolding walked_by
-by-malformed plan text Unsaid t = absurd (omega arith)
-by-malformed plan text Chosen t = absurd (omega arith)
-by-malformed plan text (Malformed column) t = refl
 
 module _ (plan : Plan) (text : List ℕ) {choice : Choice} (k : choice ≡ choice_of text) {r : EndsResult} where
   walked_by_lem : (this : Choice) → choice ≡ this → r ≡ walked_by this plan text → r ≡ walked_of plan text
@@ -195,9 +173,9 @@ module _ (plan : Plan) (text : List ℕ) {choice : Choice} (k : choice ≡ choic
   unfolding walked_by
   walked-chosen q o u e = walked_by_lem Chosen q (e ∙ (λ i. walk_in (o i) (u i)))
 
-  pub walked-malformed : {b : Book} → OneOf (2 ∷ []) (Declared.tag_of choices choice) → b ≡ (opening_of plan EarlyStart).book → r ≡ stopping b → r ≡ walked_of plan text
-  unfolding walked_of
-  walked-malformed t o e = e ∙ ap stopping o ∙ sym (by-malformed plan text choice t) ∙ ap (λ (x : Choice). walked_by x plan text) k
+  pub walked-malformed : {b : Book} {column : ℕ} → choice ≡ Malformed column → b ≡ (opening_of plan EarlyStart).book → r ≡ stopping b → r ≡ walked_of plan text
+  unfolding walked_by
+  walked-malformed {column = column} q o e = walked_by_lem (Malformed column) q (e ∙ ap stopping o)
 
 -- ---- how the desk goes on
 

@@ -10,8 +10,8 @@ use Rattle.book.specs.declared.Book.{Book}
 use Rattle.book.specs.declared.Rule.TheVariants.{EarlyStart, Clash}
 use Rattle.log_read.specs.Entries.{next_entry, entry_code}
 use Rattle.log_read.specs.Rules.{choice_of}
-use Rattle.log_read.specs.declared.Choice.{Choice}
-use Rattle.log_read.specs.declared.Choice.TheVariants.{Unsaid, Chosen, Malformed}
+use Rattle.log_read.specs.Said.{Choice}
+use Rattle.log_read.specs.Said.Choice.{Unsaid, Chosen, Malformed}
 use Rattle.log_run.specs.Log.{told_of, log_of}
 use Rattle.desk_start.specs.declared.Way.{Way}
 use Rattle.desk_start.specs.declared.Way.TheVariants.{Refused, Stops, Goes}

@@ -3,16 +3,18 @@
 
 ghost use Rattle.std.specs.Prelude.{◌≡◌, ◌≤◌, length};
 ghost use Rattle.std.proofs.lemmas.List.Edits.{sets};
+ghost use Rattle.std.specs.Prelude.{Ok};
 ghost use Rattle.book.specs.Open.{opening_of};
+ghost use Rattle.log_read.specs.Said.{said};
 ghost use Rattle.log_run.specs.Log.{told_of, log_most};
 ghost use Rattle.desk_start.specs.Start.{line_end, text_in, walk_from, walked_of, way_of, start_log, begun_of};
 
-use book::{Book, Rule, open_book};
+use book::{Book, BookResult, Rule, drop_in_place, open_book, report_in_place};
 use desk_turns::Morning;
 use log_read::rules::choose;
-use log_read::{Choice, Entry, entry_code, next_entry};
+use log_read::{Choice, Entry, next_entry};
 use log_run::{LOG_MOST, run_log};
-use plan::Plan;
+use plan::{Plan, Reading};
 use plan_read::read_plan;
 use text::TEXT_MOST;
 use text::part::{LF, part_after};
@@ -25,7 +27,7 @@ pub enum Way {
     Goes,
 }
 
-// Whether the log of a text stops in it, and the book that its lines lead to.
+// Whether the log of a text stops in it, and the book that its lines lead to: a text that stops has one too.
 #[derive(Drop)]
 pub struct EndsResult {
     pub stops: bool,
@@ -44,12 +46,10 @@ pub struct DeskOpening {
 fn lines_end(ends: &[u8]) -> usize
     ensures { result ≡ line_end ends.now (length ends.now) }
 {
-    let mut end = ends.len();
-    while 0 < end {
-        if ends[end - 1] == LF {
-            return end;
+    for i in (0..ends.len()).rev() {
+        if ends[i] == LF {
+            return i + 1;
         }
-        end -= 1;
     }
     0
 }
@@ -65,38 +65,31 @@ fn text_of<'a>(ends: &'a [u8]) -> &'a [u8]
     &ends[..end]
 }
 
-fn book_after(book: Book, entry: Entry) -> Book
-    ensures { result ≡ (told_of 0 book entry).book }
+// What a line says is done where the book stands.
+fn take(book: &mut Book, entry: Entry)
+    ensures { book.new ≡ (told_of 0 book.old (said (Ok entry))).book }
 {
     match entry {
         Entry::End(task, tick) => {
-            let reported = book.report(task, tick);
-            let after = reported.book;
-            after
+            report_in_place(book, task, tick);
         }
         Entry::Drop(task) => {
-            let dropped = book.drop(task);
-            let after = dropped.book;
-            after
+            drop_in_place(book, task);
         }
-        Entry::Refused(_, _) => book,
     }
 }
 
-// Line by line, up to one that is refused by itself.
+// Line by line, up to one that is refused by itself. Not a `for`: the rest gets shorter by a line of any length.
 fn walk(mut book: Book, text: &[u8]) -> EndsResult
     ensures { result ≡ walk_from (length text.now) book text.now }
 {
     let mut rest = text;
     while 0 < rest.len() {
-        let entry = next_entry(rest);
-        if entry_code(entry) != 0 {
+        let Ok(entry) = next_entry(rest) else {
             return EndsResult { stops: true, book };
-        }
-        let after = book_after(book, entry);
-        book = after;
-        let next = part_after(rest, LF);
-        rest = next;
+        };
+        take(&mut book, entry);
+        rest = part_after(rest, LF);
     }
     EndsResult { stops: false, book }
 }
@@ -104,8 +97,7 @@ fn walk(mut book: Book, text: &[u8]) -> EndsResult
 fn opened(plan: Plan, rule: Rule) -> Book
     ensures { result ≡ (opening_of plan rule).book }
 {
-    let opening = open_book(plan, rule);
-    let book = opening.book;
+    let BookResult { book, .. } = open_book(plan, rule);
     book
 }
 
@@ -113,9 +105,9 @@ fn walk_text(plan: Plan, text: &[u8]) -> EndsResult
     ensures { result ≡ walked_of plan text.now }
 {
     match choose(text) {
-        Choice::Unsaid => walk(opened(plan, Rule::EarlyStart), text),
-        Choice::Chosen => walk(opened(plan, Rule::Clash), part_after(text, LF)),
-        Choice::Malformed(_) => EndsResult {
+        Ok(Choice::Unsaid) => walk(opened(plan, Rule::EarlyStart), text),
+        Ok(Choice::Chosen) => walk(opened(plan, Rule::Clash), part_after(text, LF)),
+        Err(_) => EndsResult {
             stops: true,
             book: opened(plan, Rule::EarlyStart),
         },
@@ -139,20 +131,18 @@ pub fn begin(plan: &[u8], ends: &[u8], out: &mut [u8; LOG_MOST]) -> DeskOpening
 {
     let text = text_of(ends);
     let length = run_log(plan, text, out);
-    let reading = read_plan(plan);
-    let planned = reading.plan;
-    let answer = reading.answer;
-    let walked = walk_text(planned, text);
-    let book = walked.book;
-    let stops = (TEXT_MOST < ends.len()) | walked.stops;
-    let way = way_of(answer.code, stops);
-    let morning = Morning {
-        book,
-        kept: text.len(),
-    };
+    let Reading {
+        answer,
+        plan: planned,
+    } = read_plan(plan);
+    let EndsResult { stops, book } = walk_text(planned, text);
+    let way = way_of(answer.code, (TEXT_MOST < ends.len()) | stops);
     DeskOpening {
         way,
         length,
-        morning,
+        morning: Morning {
+            book,
+            kept: text.len(),
+        },
     }
 }

@@ -1,16 +1,16 @@
 -- One line at the desk, by the tests that lead to its turn.
 use Prim.Native.Nat.{ℕ, ◌+◌, ◌-◌, ◌≤◌, ◌<◌}
-use mathlib.Core.Path.{◌≡◌, refl, sym, ap, subst, ◌∙◌}
+use mathlib.Core.Path.{◌≡◌, sym, ap, subst, ◌∙◌}
 use mathlib.Core.Logic.{◌≢◌}
 use mathlib.Core.Bool.{Bool, true, false, not}
-use mathlib.Core.List.{List, [], ◌∷◌}
+use mathlib.Core.List.{List}
 use native.Mathlib.Omega.{arith}
 use lib.Dec.{leb, eqb}
 use lib.ListN.{length}
-use types.Run.{OneOf}
-use denote.Enum.Declared
 use borrow.Author.Tests.{eq-eqb, ne_eqb, le-leb, lt-leb, leb-true, not-true, not-false}
 use Rattle.laws.proofs.Cases.{by_le, by-eq}
+use Rattle.std.specs.Prelude.{Result, Ok}
+use Rattle.text_fields.specs.declared.Fault.{Fault}
 use Rattle.plan.specs.Answer.{refuse}
 use Rattle.plan.specs.declared.Answer.{Answer}
 use Rattle.plan.specs.declared.Plan.{Plan}
@@ -19,8 +19,8 @@ use Rattle.book.specs.Open.{opening_of}
 use Rattle.book.specs.declared.Book.{Book}
 use Rattle.book.specs.declared.BookResult.{BookResult}
 use Rattle.book.specs.declared.Rule.TheVariants.{Clash}
-use Rattle.log_read.specs.declared.Entry.{Entry}
-use Rattle.log_read.specs.declared.Entry.TheVariants.{End, Drop, Refused}
+use Rattle.log_read.specs.Said.{Entry}
+use Rattle.log_read.specs.Said.Entry.{End, Drop, Refused}
 use Rattle.log_write.specs.Lines.{refused_line}
 use Rattle.log_write.specs.Answers.{Answered}
 use Rattle.log_run.specs.Log.{told_of, told_log}
@@ -29,9 +29,9 @@ use Rattle.log_run.specs.Private.Writes.{Short}
 use Rattle.log_run.specs.declared.LogResult.{LogResult}
 use Rattle.log_run.specs.declared.StepOutcome.{StepOutcome}
 use Rattle.desk_read.specs.Lines.{asked_of}
-use Rattle.desk_read.specs.declared.DeskLine.{DeskLine}
-use Rattle.desk_read.specs.declared.DeskLine.TheVariants.{Step, Rule, Early, Exact, Now, Drive, Why}
-use Rattle.desk_read.specs.contracts.DeskLine.{the_type}
+use Rattle.desk_read.specs.Asked.{DeskLine, asked}
+use Rattle.desk_read.specs.Asked.DeskLine.{Step, Rule, Early, Exact, Now, Drive, Why}
+use Rattle.desk_read.specs.declared.DeskLine as line
 use Rattle.desk_read.proofs.ReadLaws.{NearEntry}
 use Rattle.desk_answers.specs.Answers.{early_answer, exact_answer, now_answer}
 use Rattle.desk_answers.specs.Questions.{drive_answer, why_answer}
@@ -179,41 +179,8 @@ module _ (morning : Morning) (size : ℕ) {room : Bool} (e : room ≡ leb (morni
 
 -- ---- what the code tells apart by a match
 
-pub is-rule : (asked : DeskLine) → OneOf (1 ∷ []) (Declared.tag_of the_type asked) → asked ≡ Rule
-is-rule (Step entry) t = absurd (omega arith)
-is-rule Rule t = refl
-is-rule Early t = absurd (omega arith)
-is-rule Exact t = absurd (omega arith)
-is-rule Now t = absurd (omega arith)
-is-rule (Drive n) t = absurd (omega arith)
-is-rule (Why task) t = absurd (omega arith)
-
-pub is-early : (asked : DeskLine) → OneOf (2 ∷ []) (Declared.tag_of the_type asked) → asked ≡ Early
-is-early (Step entry) t = absurd (omega arith)
-is-early Rule t = absurd (omega arith)
-is-early Early t = refl
-is-early Exact t = absurd (omega arith)
-is-early Now t = absurd (omega arith)
-is-early (Drive n) t = absurd (omega arith)
-is-early (Why task) t = absurd (omega arith)
-
-pub is-exact : (asked : DeskLine) → OneOf (3 ∷ []) (Declared.tag_of the_type asked) → asked ≡ Exact
-is-exact (Step entry) t = absurd (omega arith)
-is-exact Rule t = absurd (omega arith)
-is-exact Early t = absurd (omega arith)
-is-exact Exact t = refl
-is-exact Now t = absurd (omega arith)
-is-exact (Drive n) t = absurd (omega arith)
-is-exact (Why task) t = absurd (omega arith)
-
-pub is-now : (asked : DeskLine) → OneOf (4 ∷ []) (Declared.tag_of the_type asked) → asked ≡ Now
-is-now (Step entry) t = absurd (omega arith)
-is-now Rule t = absurd (omega arith)
-is-now Early t = absurd (omega arith)
-is-now Exact t = absurd (omega arith)
-is-now Now t = refl
-is-now (Drive n) t = absurd (omega arith)
-is-now (Why task) t = absurd (omega arith)
+pub asks : {r : Result line.DeskLine Fault} {this that : line.DeskLine} → r ≡ Ok this → this ≡ that → asked r ≡ asked (Ok that)
+asks p q = ap asked p ∙ ap (λ (x : line.DeskLine). asked (Ok x)) q
 
 -- ---- the whole line
 

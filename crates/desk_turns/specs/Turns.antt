@@ -6,14 +6,14 @@ use Rattle.book.specs.View.{plan_in}
 use Rattle.book.specs.Open.{opening_of}
 use Rattle.book.specs.declared.Book.{Book}
 use Rattle.book.specs.declared.Rule.TheVariants.{Clash}
-use Rattle.log_read.specs.declared.Entry.{Entry}
+use Rattle.log_read.specs.Said.{Entry}
 use Rattle.log_write.specs.Lines.{refused_line}
 use Rattle.log_write.specs.Answers.{Answered}
 use Rattle.log_run.specs.Log.{told_of}
 use Rattle.log_run.specs.Answers.{entry_log, opening_log}
 use Rattle.desk_read.specs.Lines.{asked_of}
-use Rattle.desk_read.specs.declared.DeskLine.{DeskLine}
-use Rattle.desk_read.specs.declared.DeskLine.TheVariants.{Step, Rule, Early, Exact, Now, Drive, Why}
+use Rattle.desk_read.specs.Asked.{DeskLine}
+use Rattle.desk_read.specs.Asked.DeskLine.{Step, Rule, Early, Exact, Now, Drive, Why}
 use Rattle.desk_answers.specs.Answers.{early_answer, exact_answer, now_answer}
 use Rattle.desk_answers.specs.Questions.{drive_answer, why_answer}
 use Rattle.desk_turns.specs.declared.Morning.{Morning}

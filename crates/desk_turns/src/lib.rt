@@ -3,12 +3,13 @@
 
 ghost use Rattle.std.specs.Prelude.{◌≡◌, ◌+◌, ◌≤◌, leb};
 ghost use Rattle.book.specs.View.{plan_in};
+ghost use Rattle.log_read.specs.Said.{said};
 ghost use Rattle.log_run.specs.Private.Writes.{Short};
 ghost use Rattle.log_write.specs.Lines.{refused_line};
 ghost use Rattle.desk_turns.specs.Turns.{saying, entry_turn, rule_turn, turn_of, Took};
 ghost use Rattle.desk_turns.specs.Private.Taken.{unmoved, taken_or, full_answer};
 
-use book::{Book, Rule, open_book};
+use book::{Book, BookResult, Rule, open_book};
 use desk_answers::chain::answer_why;
 use desk_answers::drive::answer_drive;
 use desk_answers::running::answer_now;
@@ -17,9 +18,11 @@ use desk_read::{DeskLine, read_asked};
 use log_read::Entry;
 use log_run::answers::{log_entry, log_opening};
 use log_run::told::tell_entry;
+use log_run::{LogResult, StepOutcome};
 use log_write::ANSWER_MOST;
 use plan::{Answer, Plan, refuse};
 use text::TEXT_MOST;
+use text_fields::Fault;
 
 // The book, and how many bytes ends.txt has.
 #[derive(Drop)]
@@ -28,7 +31,7 @@ pub struct Morning {
     pub kept: usize,
 }
 
-// The morning after a line, how many bytes its answer has, and whether the line is kept.
+// The morning after a line, how many bytes its answer has, and whether the line is kept: one that is not has all three too.
 #[derive(Drop)]
 pub struct Turn {
     pub morning: Morning,
@@ -89,38 +92,44 @@ fn take_entry(
     morning: Morning,
     number: u32,
     size: usize,
-    entry: Entry,
+    entry: Result<Entry, Fault>,
     out: &mut [u8; ANSWER_MOST],
 ) -> Turn
-    requires { Short entry }
-    ensures { Took out.old (entry_turn morning number size entry) out.new result }
+    requires { Short (said entry) }
+    ensures { Took out.old (entry_turn morning number size (said entry)) out.new result }
 {
-    let book = morning.book;
     if !has_room(morning.kept, size) {
-        let told = tell_entry(number, book, entry);
-        let refusal = told.answer;
-        return full(morning, refusal, out);
+        let StepOutcome { answer, .. } = tell_entry(number, &morning.book, &entry);
+        return full(morning, answer, out);
     }
-    let logged = log_entry(number, book, entry, out);
-    let answer = logged.answer;
-    let after = logged.book;
-    taken(morning, answer, after, size, logged.length)
+    let LogResult {
+        answer,
+        book,
+        length,
+    } = log_entry(number, &morning.book, &entry, out);
+    taken(morning, answer, book, size, length)
 }
 
 // The plan that a book is on.
-fn plan_of(book: Book) -> Plan
-    ensures { result ≡ plan_in book }
+fn plan_of(book: &Book) -> Plan
+    ensures { result ≡ plan_in book.now }
 {
-    let board = book.board;
-    let ready = book.ready;
-    let begin = book.begin;
-    let finish = book.finish;
-    let holds = book.holds;
-    let after = book.after;
+    let Book {
+        edition,
+        boards,
+        tasks,
+        board,
+        ready,
+        begin,
+        finish,
+        holds,
+        after,
+        ..
+    } = *book;
     Plan {
-        edition: book.edition,
-        boards: book.boards,
-        tasks: book.tasks,
+        edition,
+        boards,
+        tasks,
         board,
         ready,
         begin,
@@ -133,17 +142,17 @@ fn plan_of(book: Book) -> Plan
 fn take_rule(morning: Morning, size: usize, out: &mut [u8; ANSWER_MOST]) -> Turn
     ensures { Took out.old (rule_turn morning size) out.new result }
 {
-    let book = morning.book;
-    let plan = plan_of(book);
+    let plan = plan_of(&morning.book);
     if !has_room(morning.kept, size) {
-        let opening = open_book(plan, Rule::Clash);
-        let refusal = opening.answer;
-        return full(morning, refusal, out);
+        let BookResult { answer, .. } = open_book(plan, Rule::Clash);
+        return full(morning, answer, out);
     }
-    let logged = log_opening(plan, Rule::Clash, out);
-    let answer = logged.answer;
-    let after = logged.book;
-    taken(morning, answer, after, size, logged.length)
+    let LogResult {
+        answer,
+        book,
+        length,
+    } = log_opening(plan, Rule::Clash, out);
+    taken(morning, answer, book, size, length)
 }
 
 // Line `number` of standard input without its LF, and whether it had one.
@@ -158,12 +167,13 @@ pub fn take_line(
 {
     let book = morning.book;
     match read_asked(line, ended, morning.kept == 0) {
-        DeskLine::Step(entry) => take_entry(morning, number, line.len(), entry, out),
-        DeskLine::Rule => take_rule(morning, line.len(), out),
-        DeskLine::Early => said(morning, answer_early(book, out)),
-        DeskLine::Exact => said(morning, answer_exact(book, out)),
-        DeskLine::Now => said(morning, answer_now(book, out)),
-        DeskLine::Drive(drive) => said(morning, answer_drive(book, drive, out)),
-        DeskLine::Why(task) => said(morning, answer_why(book, task, out)),
+        Ok(DeskLine::Step(entry)) => take_entry(morning, number, line.len(), Ok(entry), out),
+        Ok(DeskLine::Rule) => take_rule(morning, line.len(), out),
+        Ok(DeskLine::Early) => said(morning, answer_early(book, out)),
+        Ok(DeskLine::Exact) => said(morning, answer_exact(book, out)),
+        Ok(DeskLine::Now) => said(morning, answer_now(book, out)),
+        Ok(DeskLine::Drive(drive)) => said(morning, answer_drive(book, drive, out)),
+        Ok(DeskLine::Why(task)) => said(morning, answer_why(book, task, out)),
+        Err(fault) => take_entry(morning, number, line.len(), Err(fault), out),
     }
 }

@@ -8,6 +8,7 @@ use mathlib.Core.Bool.{Bool, true, false, not, cond, ◌&&◌, ◌||◌}
 use mathlib.Core.List.{List}
 use lib.Bits.{bit_and, bit_or}
 use lib.Dec.{eqb}
+use Rattle.std.specs.Prelude.{None}
 use lib.ListN.{length, set, replicate, length-set}
 use lib.Seq.{get_or-set_same, get_or-set_other}
 use borrow.Author.Tests.{eq-eqb, eqb-true, not-true}
@@ -30,21 +31,6 @@ use Rattle.engine.specs.Private.Worked.{plan_timed, is_free, FreeTask, Solvable}
 module _ (waits : List ℕ) (done tasks : ℕ) where
   abbrev pub NoneTo : ℕ → Type 0
   NoneTo n = (i : ℕ) → i < n → is_free waits done i ≡ false
-
-  pub free_seen :
-      (i : ℕ) {b : Bool} → i < 64 → b ≡ has done (i % 64) → (not b && eqb (bit_and (at waits i) done) (at waits i)) ≡ is_free waits done i
-  free_seen i l e =
-      ap (λ (x : Bool). not x && eqb (bit_and (at waits i) done) (at waits i)) (e ∙ ap (has done) (mod-eq_of_lt l))
-
-  pub free-found : (i : ℕ) → i < tasks → is_free waits done i ≡ true → FreeTask waits done tasks i
-  free-found i l f = record { low = omega arith; free = λ h. f; none = λ e. absurd (omega arith) }
-
-  pub free_more : (n : ℕ) → NoneTo n → is_free waits done n ≡ false → NoneTo (n + 1)
-  free_more n none f i l = by-eq i n (λ e. rw e f) (λ ne. none i (omega arith))
-
-  pub free-none : (n : ℕ) → NoneTo n → tasks ≤ n → FreeTask waits done tasks tasks
-  free-none n none l =
-      record { low = omega arith; free = λ h. absurd (omega arith); none = λ e i li. none i (omega arith) }
 
   -- what a free task is
   pub free-undone : (i : ℕ) → is_free waits done i ≡ true → has done i ≡ false
@@ -174,13 +160,10 @@ module _ (tasks : ℕ) (ready waits lasts dropped : List ℕ) where
         let m = has-least tasks (undone done) good.planned j l (rw n) in
         true-false (first-free m) (none m.who m.below))
 
-    module _ (r : ℕ) (free : FreeTask waits done tasks r) (out : tasks ≤ r) where
-      over : (j : ℕ) → j < tasks → has done j ≡ true
-      over = all_done (free.none (omega (arith, free.low)))
-
+    module _ (none : FreeTask waits done tasks None) where
       pub starts-laid : start ≡ laid tasks (start_time plan (at lasts) (at dropped))
       starts-laid =
-          laid-is tasks _ start good.few timed.start-size (λ j l. timed.starts j l (over j l)) timed.no_start
+          laid-is tasks _ start good.few timed.start-size (λ j l. timed.starts j l (all_done none j l)) timed.no_start
 
       pub ends-laid : end ≡ laid tasks (end_time plan (at lasts) (at dropped))
-      ends-laid = laid-is tasks _ end good.few timed.end-size (λ j l. timed.ends j l (over j l)) timed.no_end
+      ends-laid = laid-is tasks _ end good.few timed.end-size (λ j l. timed.ends j l (all_done none j l)) timed.no_end

@@ -1,27 +1,27 @@
 -- When a length is bad, and the first refusal of 22 and 19.
-use Prim.Native.Nat.{ℕ, ◌-◌, ◌<◌}
+use Prim.Native.Nat.{ℕ, zero, suc, ◌+◌}
 use native.Mathlib.Omega.{arith}
-use mathlib.Core.Bool.{Bool, true, not, ◌&&◌}
+use native.Mathlib.Numerals.{add-one}
+use Rattle.std.specs.Prelude.{None, Some, Result, Ok, Err}
+use mathlib.Core.Bool.{Bool, false, not, ◌&&◌}
 use mathlib.Core.Logic.{◌≢◌}
-use mathlib.Core.Path.{◌≡◌, sym, ◌∙◌}
-use lib.Dec.{leb}
-use borrow.Author.Tests.{leb-true, ne_eqb}
-use Rattle.laws.proofs.Cases.{by_bool, and_l, and_r}
+use mathlib.Core.Path.{◌≡◌, refl, sym, ◌∙◌}
+use lib.Dec.{eqb}
+use borrow.Author.Tests.{eq-eqb, ne_eqb}
+use Rattle.laws.proofs.Cases.{by-eq}
 use Rattle.theory.specs.Times.{lowest}
 use Rattle.plan.specs.Answer.{refuse, granted}
 use Rattle.plan.specs.declared.Answer.{Answer}
 use Rattle.book_view.specs.Faults.{task_fault}
-use Rattle.engine.specs.Codes.{lengths_answer}
+use Rattle.laws.specs.Private.Nonzero.{nonzero}
+use Rattle.engine.specs.Codes.{lengths_answer, unless_refused}
 
--- planned to finish before it starts, no length is right
-pub backwards : (begin finish length : ℕ) → finish < begin → true ≡ not (leb 1 length && leb length (finish - begin))
-backwards begin finish length l =
-    by_bool (leb 1 length && leb length (finish - begin))
-    (λ t.
-    let a = leb-true 1 length (and_l _ _ t) in
-    let b = leb-true length (finish - begin) (and_r (leb 1 length) _ t) in
-    absurd (omega arith))
-    (λ f. rw f)
+-- a task's test, where it is dropped and where it is not
+pub dropped-bad : (dropped : ℕ) (b : Bool) → dropped ≡ 1 → (not (eqb dropped 1) && b) ≡ false
+dropped-bad dropped b e = rw (eq-eqb dropped 1 e)
+
+pub going-bad : (dropped : ℕ) {b outside v : Bool} → dropped ≢ 1 → outside ≡ b → outside ≡ v → (not (eqb dropped 1) && b) ≡ v
+going-bad dropped n e o = rw (ne_eqb dropped 1 n, sym e ∙ o)
 
 -- the refusal of one test
 module _ (code tasks : ℕ) (test : ℕ → Bool) where
@@ -57,21 +57,51 @@ module _ (tasks : ℕ) (bad idle : ℕ → Bool) where
   unfolding lengths_answer
   lengths-same worse idler b e = rw (fault-same 22 tasks bad worse b, fault-same 19 tasks idle idler e)
 
+-- the lowest task, or that there is none
+pub found-is : (i : ℕ) {n : ℕ} → i + 1 ≡ n → Some (i + 1) ≡ nonzero n
+found-is i e = rw (← e, add-one)
+
+nonzero-some : (n : ℕ) {k : ℕ} → Some k ≡ nonzero n → (n ≡ k) × (k ≢ 0)
+nonzero-some zero e = cc
+nonzero-some (suc n) {k} e = let q : k ≡ suc n = cc in (sym q, λ z. absurd (omega arith))
+
+nonzero-none : (n : ℕ) → None ≡ nonzero n → n ≡ 0
+nonzero-none zero e = refl
+nonzero-none (suc n) e = cc
+
 -- the first that is found is said, of as many tasks as there are places
-module _ (bad : ℕ → ℕ → Bool) (idle : ℕ → Bool) {n tasks found : ℕ} (e : n ≡ tasks) (b : found ≡ lowest n (bad n)) where
-  pub said-bad : found ≢ 0 → {r : Answer} → r ≡ refuse 22 found 0 → r ≡ lengths_answer tasks (bad tasks) idle
-  said-bad ne is =
-      let q : found ≡ lowest tasks (bad tasks) = rw e at b in is ∙ sym (lengths-bad tasks (bad tasks) idle (sym q) ne)
+module _ (bad : ℕ → ℕ → Bool) (idle : ℕ → Bool) {n tasks : ℕ} (e : n ≡ tasks) where
+  abbrev Says : Result (Unit {0}) Answer → Type 0
+  Says r = r ≡ unless_refused (lengths_answer tasks (bad tasks) idle)
 
-  module _ (none : found ≡ 0) {other : ℕ} (d : other ≡ lowest n idle) where
-    pub said-idle : other ≢ 0 → {r : Answer} → r ≡ refuse 19 other 0 → r ≡ lengths_answer tasks (bad tasks) idle
-    said-idle ne is =
-        let q : found ≡ lowest tasks (bad tasks) = rw e at b in
-        let p : other ≡ lowest tasks idle = rw e at d in
-        is ∙ sym (lengths-idle tasks (bad tasks) idle (sym q ∙ none) (sym p) ne)
+  pub said-bad : {k : ℕ} → Some k ≡ nonzero (lowest n (bad n)) → {a : Answer} → a ≡ refuse 22 k 0 → Says (Err a)
+  said-bad {k} b is =
+      let f = nonzero-some (lowest tasks (bad tasks)) (rw e at b) in
+      rw (is, lengths-bad tasks (bad tasks) idle f.0 f.1)
 
-    pub said-none : other ≡ 0 → {r : Answer} → r ≡ refuse 0 0 0 → r ≡ lengths_answer tasks (bad tasks) idle
-    said-none z is =
-        let q : found ≡ lowest tasks (bad tasks) = rw e at b in
-        let p : other ≡ lowest tasks idle = rw e at d in
-        is ∙ sym (lengths_none tasks (bad tasks) idle (sym q ∙ none) (sym p ∙ z))
+  module _ (b : None ≡ nonzero (lowest n (bad n))) where
+    none : lowest tasks (bad tasks) ≡ 0
+    none = nonzero-none (lowest tasks (bad tasks)) (rw e at b)
+
+    pub said-idle : {k : ℕ} → Some k ≡ nonzero (lowest n idle) → {a : Answer} → a ≡ refuse 19 k 0 → Says (Err a)
+    said-idle {k} d is =
+        let f = nonzero-some (lowest tasks idle) (rw e at d) in
+        rw (is, lengths-idle tasks (bad tasks) idle none f.0 f.1)
+
+    pub said-none : None ≡ nonzero (lowest n idle) → Says (Ok tt)
+    said-none d = rw (lengths_none tasks (bad tasks) idle none (nonzero-none (lowest tasks idle) (rw e at d)))
+
+-- an answer by the result that it gives
+pub err-is : (answer : Answer) {e : Answer} → Err e ≡ unless_refused answer → (e ≡ answer) × (e.code ≢ 0)
+err-is answer {e} h =
+    by-eq answer.code 0
+    (λ z. let q : ◌≡◌ {A = Result (Unit {0}) Answer} (Err e) (Ok tt) = rw (eq-eqb answer.code 0 z) at h in cc)
+    (λ ne.
+    let q : ◌≡◌ {A = Result (Unit {0}) Answer} (Err e) (Err answer) = rw (ne_eqb answer.code 0 ne) at h in
+    let same : e ≡ answer = cc in
+    (same, rw same ne))
+
+pub ok-is : (answer : Answer) {u : Unit {0}} → Ok u ≡ unless_refused answer → answer.code ≡ 0
+ok-is answer {u} h =
+    by-eq answer.code 0 (λ z. z)
+    (λ ne. let q : ◌≡◌ {A = Result (Unit {0}) Answer} (Ok u) (Err answer) = rw (ne_eqb answer.code 0 ne) at h in cc)

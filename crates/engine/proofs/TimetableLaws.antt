@@ -3,9 +3,10 @@ use Prim.Native.Nat.{ℕ, ◌+◌, ◌≤◌, ◌<◌, min}
 use native.Mathlib.Omega.{arith}
 use mathlib.Core.Path.{◌≡◌, refl, sym, ap, ◌∙◌}
 use mathlib.Core.Logic.{◌≢◌}
-use mathlib.Core.Bool.{Bool, true, false, not, cond, ◌&&◌, and-true}
+use mathlib.Core.Bool.{Bool, true, not, cond, ◌&&◌, and-true}
 use mathlib.Core.List.{List, []}
 use lib.Dec.{eqb}
+use Rattle.std.specs.Prelude.{Ok, Err}
 use borrow.Author.Tests.{eq-eqb, ne_eqb, ltb-true}
 use Rattle.laws.proofs.Cases.{by_bool, by-eq, true-false, and-of, and_l}
 use Rattle.laws.specs.Bits.{has, set_of}
@@ -22,8 +23,8 @@ use Rattle.theory.proofs.Solved.{solves}
 use Rattle.theory.proofs.Bounds.{end_by}
 use Rattle.theory.proofs.TimesAlike.{start-time-alike, end-time-alike}
 use Rattle.theory.proofs.Refused.{fits-of}
-use Rattle.engine.specs.Codes.{lengths_answer}
-use Rattle.engine.proofs.LengthLaws.{lengths-bad, lengths-idle, lengths_none, lengths-same}
+use Rattle.engine.specs.Codes.{lengths_answer, unless_refused}
+use Rattle.engine.proofs.LengthLaws.{lengths-bad, lengths-idle, lengths_none, lengths-same, err-is, ok-is}
 use Rattle.plan.specs.Answer.{refuse}
 use Rattle.plan.specs.Value.{at, is_accepted}
 use Rattle.plan.specs.declared.Answer.{Answer}
@@ -31,9 +32,9 @@ use Rattle.plan.specs.declared.Plan.{Plan}
 use Rattle.book_view.specs.View.{is_rule, plan_for, plan_seen, laid}
 use Rattle.book_view.proofs.Accepted.{plan-facts, plan-lawful}
 use Rattle.book_view.proofs.Laid.{laid_same, laid-at}
-use Rattle.book_waits.specs.Waits.{waits_of}
-use Rattle.book_waits.specs.declared.Waits.{Waits}
-use Rattle.book_sound.proofs.WaitLaws.{known_is, agree}
+use Rattle.std.specs.Prelude.{Some, None}
+use Rattle.book_waits.specs.Waits.{sets_by, waits_of}
+use Rattle.book_sound.proofs.WaitLaws.{none-known, some-known, agree}
 use Rattle.book.specs.Open.{rule_number}
 use Rattle.book.specs.declared.Rule.{Rule}
 use Rattle.engine.specs.Timetable.{timetable_answer, zero_timetable, timetable_of}
@@ -75,35 +76,36 @@ module _ (plan : Plan) (rule : Rule) (given : Lengths) where
   abbrev gone : ℕ → ℕ
   gone = at given.dropped
 
-  module _ {number : ℕ} {waits : Waits} (n : number ≡ rule_number rule) (w : waits ≡ waits_of number plan) where
-    pub accepted-is : waits.known ≡ is_accepted plan
-    accepted-is =
-        known_is number plan w ∙ ap (λ (b : Bool). is_accepted plan && b) (ap is_rule n ∙ rule-is rule) ∙ and-true (is_accepted plan)
+  module _ {number : ℕ} (n : number ≡ rule_number rule) {view : Plan} (v : view ≡ plan) where
+    good-is : (is_accepted plan && is_rule number) ≡ is_accepted plan
+    good-is = ap (λ (b : Bool). is_accepted plan && b) (ap is_rule n ∙ rule-is rule) ∙ and-true (is_accepted plan)
 
     good : is_accepted plan ≡ true → (is_accepted plan && is_rule (rule_number rule)) ≡ true
     good ok = and-of ok (rule-is rule)
 
-    sets-are : waits.sets ≡ (waits_of (rule_number rule) plan).sets
-    sets-are = ap (λ (x : Waits). x.sets) (w ∙ ap (λ (x : ℕ). waits_of x plan) n)
-
-    pub refused_plan : waits.known ≡ false → {r : Timetable} → r ≡ zero_timetable (refuse 9 0 0) → r ≡ timetable_of plan rule given
+    pub refused_plan : None ≡ waits_of number view → {r : Timetable} → r ≡ zero_timetable (refuse 9 0 0) → r ≡ timetable_of plan rule given
     unfolding timetable_of timetable_answer
-    refused_plan f e = let no = sym accepted-is ∙ f in e ∙ rw no
+    refused_plan w e =
+        let no = sym good-is ∙ none-known number plan (sym (w ∙ ap (λ (p : Plan). waits_of number p) v)) in e ∙ rw no
 
-    module _ (known : waits.known ≡ true) where
+    module _ {sets : List ℕ} (w : Some sets ≡ waits_of number view) where
+      known : ((is_accepted plan && is_rule number) ≡ true) × (sets_by number plan ≡ sets)
+      known = some-known number plan (sym (w ∙ ap (λ (p : Plan). waits_of number p) v))
+
       pub ok : is_accepted plan ≡ true
-      ok = sym accepted-is ∙ known
+      ok = sym good-is ∙ known.0
 
       pub few : plan.tasks ≤ 64
       few = (plan-facts plan ok).tasks-to
 
-      set_at : (i : ℕ) → i < plan.tasks → at waits.sets i ≡ set_of plan.tasks (seen.waits i)
-      unfolding waits_of
-      set_at i l =
-          ap (λ (s : List ℕ). at s i) sets-are
-          ∙ rw (good ok) (laid-at plan.tasks (λ k. set_of plan.tasks (seen.waits k)) few i l)
+      sets-are : sets ≡ sets_by (rule_number rule) plan
+      sets-are = sym known.1 ∙ ap (λ (x : ℕ). sets_by x plan) n
 
-      idle-same : (i : ℕ) → i < plan.tasks → (eqb (gone i) 1 && eqb (at waits.sets i) 0) ≡ idle_drop seen gone i
+      set_at : (i : ℕ) → i < plan.tasks → at sets i ≡ set_of plan.tasks (seen.waits i)
+      unfolding sets_by
+      set_at i l = ap (λ (s : List ℕ). at s i) sets-are ∙ laid-at plan.tasks (λ k. set_of plan.tasks (seen.waits k)) few i l
+
+      idle-same : (i : ℕ) → i < plan.tasks → (eqb (gone i) 1 && eqb (at sets i) 0) ≡ idle_drop seen gone i
       idle-same i l =
           ap (λ (b : Bool). eqb (gone i) 1 && b) (ap (λ (s : ℕ). eqb s 0) (set_at i l) ∙ empty-is plan.tasks (seen.waits i))
 
@@ -111,17 +113,17 @@ module _ (plan : Plan) (rule : Rule) (given : Lengths) where
       all-places = let f = few in omega arith
 
       module _ {answer : Answer}
-          (a : answer ≡ lengths_answer (min plan.tasks 64) (bad_length (plan_seen (min plan.tasks 64) [] plan.begin plan.finish []) lasts gone) (λ i. eqb (gone i) 1 && eqb (at waits.sets i) 0)) where
+          (a : answer ≡ lengths_answer (min plan.tasks 64) (bad_length (plan_seen (min plan.tasks 64) [] plan.begin plan.finish []) lasts gone) (λ i. eqb (gone i) 1 && eqb (at sets i) 0)) where
         answer-is : answer ≡ lengths_answer plan.tasks (bad_length seen lasts gone) (idle_drop seen gone)
         answer-is =
             a
             ∙ rw all-places
-            (lengths-same plan.tasks (bad_length seen lasts gone) (λ i. eqb (gone i) 1 && eqb (at waits.sets i) 0) (bad_length seen lasts gone) (idle_drop seen gone) refl
-            (lowest-same plan.tasks (λ i. eqb (gone i) 1 && eqb (at waits.sets i) 0) (idle_drop seen gone) idle-same))
+            (lengths-same plan.tasks (bad_length seen lasts gone) (λ i. eqb (gone i) 1 && eqb (at sets i) 0) (bad_length seen lasts gone) (idle_drop seen gone) refl
+            (lowest-same plan.tasks (λ i. eqb (gone i) 1 && eqb (at sets i) 0) (idle_drop seen gone) idle-same))
 
-        pub refused-lengths : answer.code ≢ 0 → {r : Timetable} → r ≡ zero_timetable answer → r ≡ timetable_of plan rule given
+        refused-by : answer.code ≢ 0 → {r : Timetable} → r ≡ zero_timetable answer → r ≡ timetable_of plan rule given
         unfolding timetable_of timetable_answer
-        refused-lengths ne e = e ∙ rw (ok, sym answer-is, ne_eqb answer.code 0 ne)
+        refused-by ne e = e ∙ rw (ok, sym answer-is, ne_eqb answer.code 0 ne)
 
         module _ (z : answer.code ≡ 0) where
           none-refused : (lowest plan.tasks (bad_length seen lasts gone) ≡ 0) × (lowest plan.tasks (idle_drop seen gone) ≡ 0)
@@ -134,9 +136,9 @@ module _ (plan : Plan) (rule : Rule) (given : Lengths) where
           law = plan-lawful plan ok (rule_number rule)
 
           abbrev timed : theory-plan.Plan
-          timed = plan_timed plan.tasks plan.ready waits.sets
+          timed = plan_timed plan.tasks plan.ready sets
 
-          same : (i j : ℕ) → i < plan.tasks → j < plan.tasks → has (at waits.sets i) j ≡ seen.waits i j
+          same : (i j : ℕ) → i < plan.tasks → j < plan.tasks → has (at sets i) j ≡ seen.waits i j
           same = agree (rule_number rule) plan (good ok) sets-are
 
           start-same : (i : ℕ) → i < plan.tasks → start_time timed lasts gone i ≡ start_time seen lasts gone i
@@ -150,8 +152,8 @@ module _ (plan : Plan) (rule : Rule) (given : Lengths) where
           lines : TwoLines seen lasts gone (start_time seen lasts gone) (end_time seen lasts gone)
           lines = solves seen law lasts gone
 
-          pub solvable : Solvable plan.tasks plan.ready waits.sets given.length given.dropped
-          solvable = record {
+          solvable-by : Solvable plan.tasks plan.ready sets given.length given.dropped
+          solvable-by = record {
             few = few;
             lines = record {
               starts = λ i l. refl;
@@ -168,15 +170,32 @@ module _ (plan : Plan) (rule : Rule) (given : Lengths) where
                 let s = law.before i j l lj (sym (same i j l lj) ∙ h) in let p = law.lasts j lj in omega arith;
           }
             where
-              in-tasks : (i j : ℕ) → i < plan.tasks → has (at waits.sets i) j ≡ true → j < plan.tasks
+              in-tasks : (i j : ℕ) → i < plan.tasks → has (at sets i) j ≡ true → j < plan.tasks
               in-tasks i j l h =
                   let e = sym (ap (λ (s : ℕ). has s j) (set_at i l) ∙ has-set plan.tasks (seen.waits i) j) ∙ h in
                   ltb-true j plan.tasks (and_l _ _ e)
 
-          pub filled :
+          filled-by :
               {start end : List ℕ} → start ≡ laid plan.tasks (start_time timed lasts gone)
               → end ≡ laid plan.tasks (end_time timed lasts gone)
-              → ◌≡◌ {A = Timetable} (record { answer = answer; start = start; end = end }) (timetable_of plan rule given)
+              → ◌≡◌ {A = Timetable} (record { answer = refuse 0 0 0; start = start; end = end }) (timetable_of plan rule given)
           unfolding timetable_of timetable_answer
-          filled s e =
-              rw (answer-is, ok, lengths_none plan.tasks (bad_length seen lasts gone) (idle_drop seen gone) none-refused.0 none-refused.1, s ∙ laid_same plan.tasks _ _ start-same, e ∙ laid_same plan.tasks _ _ end_same)
+          filled-by s e =
+              rw (ok, lengths_none plan.tasks (bad_length seen lasts gone) (idle_drop seen gone) none-refused.0 none-refused.1, s ∙ laid_same plan.tasks _ _ start-same, e ∙ laid_same plan.tasks _ _ end_same)
+
+      abbrev said : Answer
+      said = lengths_answer (min plan.tasks 64) (bad_length (plan_seen (min plan.tasks 64) [] plan.begin plan.finish []) lasts gone) (λ i. eqb (gone i) 1 && eqb (at sets i) 0)
+
+      pub refused-lengths : {e : Answer} → Err e ≡ unless_refused said → {r : Timetable} → r ≡ zero_timetable e → r ≡ timetable_of plan rule given
+      refused-lengths w = let f = err-is said w in refused-by f.0 f.1
+
+      module _ {u : Unit {0}} (fine : Ok u ≡ unless_refused said) where
+        pub solvable : Solvable plan.tasks plan.ready sets given.length given.dropped
+        solvable = solvable-by {answer = said} refl (ok-is said fine)
+
+        pub filled :
+            {answer : Answer} → answer ≡ refuse 0 0 0
+            → {start end : List ℕ} → start ≡ laid plan.tasks (start_time (plan_timed plan.tasks plan.ready sets) lasts gone)
+            → end ≡ laid plan.tasks (end_time (plan_timed plan.tasks plan.ready sets) lasts gone)
+            → ◌≡◌ {A = Timetable} (record { answer = answer; start = start; end = end }) (timetable_of plan rule given)
+        filled a s e = rw a (filled-by {answer = said} refl (ok-is said fine) s e)

@@ -1,5 +1,5 @@
 -- The timetable of a plan by a rule.
-use Rattle.std.specs.Prelude.{cond}
+use Rattle.std.specs.Prelude.{ℕ, cond, List}
 use Rattle.theory.specs.Plan as theory-plan
 use Rattle.theory.specs.Times.{start_time, end_time, bad_length, idle_drop}
 use Rattle.engine.specs.Codes.{lengths_answer}
@@ -28,11 +28,9 @@ zero_timetable answer = record { answer = answer; start = laid 0 (λ i. 0); end 
 
 -- every start and end; places past T hold nothing
 abbrev pub filled_timetable : theory-plan.Plan → Lengths → Timetable
-filled_timetable plan given = record {
-  answer = granted;
-  start = laid plan.tasks (start_time plan (at given.length) (at given.dropped));
-  end = laid plan.tasks (end_time plan (at given.length) (at given.dropped));
-}
+filled_timetable plan given =
+    let all : ((ℕ → ℕ) → (ℕ → ℕ) → ℕ → ℕ) → List ℕ = λ time. laid plan.tasks (time (at given.length) (at given.dropped)) in
+    record { answer = granted; start = all (start_time plan); end = all (end_time plan) }
 
 unfoldable pub timetable_of : Plan → Rule → Lengths → Timetable
 timetable_of plan rule given =

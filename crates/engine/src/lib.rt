@@ -8,77 +8,59 @@ ghost use Rattle.std.specs.Prelude.{◌≡◌, not, ◌&&◌, [], ◌-◌, ◌�
 ghost use Rattle.theory.specs.Times.{lowest, bad_length};
 ghost use Rattle.plan.specs.Value.{at};
 ghost use Rattle.book_view.specs.View.{plan_seen};
-ghost use Rattle.engine.specs.Codes.{lengths_answer};
+ghost use Rattle.laws.specs.Private.Nonzero.{nonzero};
+ghost use Rattle.engine.specs.Codes.{lengths_answer, unless_refused};
 ghost use Rattle.engine.specs.Timetable.{timetable_of, zero_timetable};
 
 use book::{Rule, number_of};
-use book_view::places;
 use book_waits::wait_sets;
-use fill::work_all;
-use plan::{Answer, Plan, refuse};
+use fill::{Times, work_all};
+use plan::{Answer, Plan, few, refuse};
 
 fn is_outside(begin: u32, finish: u32, length: u32) -> bool
     ensures { result ≡ not (leb 1 length && leb length (finish - begin)) }
 {
-    if finish < begin {
-        return true;
-    }
-    !((1 <= length) & (length <= finish - begin))
+    length == 0 || length > finish.saturating_sub(begin)
 }
 
-// The lowest task, from 1, that is not dropped and whose length is outside 1 .. planned length; 0 where there is none.
-fn bad_length<'a>(
-    begin: &'a [u32; 64],
-    finish: &'a [u32; 64],
-    length: &'a [u32; 64],
-    dropped: &'a [u8; 64],
-    tasks: usize,
-) -> u32
+// The lowest task, from 1, that is not dropped and whose length is outside 1 .. planned length.
+fn bad_length(plan: &Plan, given: &Lengths, tasks: usize) -> Option<u32>
     requires { tasks ≤ 64 }
-    ensures { result ≡ lowest tasks (bad_length (plan_seen tasks [] begin.now finish.now []) (at length.now) (at dropped.now)) }
+    ensures { result ≡ nonzero (lowest tasks (bad_length (plan_seen tasks [] plan.now.begin plan.now.finish []) (at given.now.length) (at given.now.dropped))) }
 {
     for i in 0..tasks {
-        if !(dropped[i] == 1) & is_outside(begin[i], finish[i], length[i]) {
-            return (i + 1) as u32;
+        if given.dropped[i] != 1 && is_outside(plan.begin[i], plan.finish[i], given.length[i]) {
+            return Some(i as u32 + 1);
         }
     }
-    0
+    None
 }
 
 // The lowest dropped task whose wait set is empty.
-fn idle_drop<'a>(waits: &'a [u64; 64], dropped: &'a [u8; 64], tasks: usize) -> u32
+fn idle_drop(waits: &[u64; 64], dropped: &[u8; 64], tasks: usize) -> Option<u32>
     requires { tasks ≤ 64 }
-    ensures { result ≡ lowest tasks (λ i. eqb (at dropped.now i) 1 && eqb (at waits.now i) 0) }
+    ensures { result ≡ nonzero (lowest tasks (λ i. eqb (at dropped.now i) 1 && eqb (at waits.now i) 0)) }
 {
     for i in 0..tasks {
-        if (dropped[i] == 1) & (waits[i] == 0) {
-            return (i + 1) as u32;
+        if dropped[i] == 1 && waits[i] == 0 {
+            return Some(i as u32 + 1);
         }
     }
-    0
+    None
 }
 
 // 22 before 19.
-pub fn length_answer<'a>(
-    begin: &'a [u32; 64],
-    finish: &'a [u32; 64],
-    waits: &'a [u64; 64],
-    length: &'a [u32; 64],
-    dropped: &'a [u8; 64],
-    tasks: u8,
-) -> Answer
-    ensures { result ≡ lengths_answer (min tasks 64) (bad_length (plan_seen (min tasks 64) [] begin.now finish.now []) (at length.now) (at dropped.now)) (λ i. eqb (at dropped.now i) 1 && eqb (at waits.now i) 0) }
+pub fn length_answer(plan: &Plan, waits: &[u64; 64], given: &Lengths) -> Result<(), Answer>
+    ensures { result ≡ unless_refused (lengths_answer (min plan.now.tasks 64) (bad_length (plan_seen (min plan.now.tasks 64) [] plan.now.begin plan.now.finish []) (at given.now.length) (at given.now.dropped)) (λ i. eqb (at given.now.dropped i) 1 && eqb (at waits.now i) 0)) }
 {
-    let n = places(tasks, dropped);
-    let bad = bad_length(begin, finish, length, dropped, n);
-    if bad != 0 {
-        return refuse(22, bad, 0);
+    let n = usize::from(few(plan.tasks));
+    if let Some(task) = bad_length(plan, given, n) {
+        return Err(refuse(22, task, 0));
     }
-    let idle = idle_drop(waits, dropped, n);
-    if idle != 0 {
-        return refuse(19, idle, 0);
+    if let Some(task) = idle_drop(waits, &given.dropped, n) {
+        return Err(refuse(19, task, 0));
     }
-    refuse(0, 0, 0)
+    Ok(())
 }
 
 // Each task's actual length; dropped: 1 for a dropped task, any other number for one that is not. Nothing past the last task is read, and no dropped task's length.
@@ -110,41 +92,16 @@ fn refused(answer: Answer) -> Timetable
 pub fn work_out(plan: Plan, rule: Rule, given: Lengths) -> Timetable
     ensures { result ≡ timetable_of plan rule given }
 {
-    let waits = wait_sets(
-        number_of(rule),
-        plan.edition,
-        plan.boards,
-        plan.tasks,
-        &plan.board,
-        &plan.ready,
-        &plan.begin,
-        &plan.finish,
-        &plan.holds,
-        &plan.after,
-    );
-    if !waits.known {
+    let Some(waits) = wait_sets(number_of(rule), &plan.view()) else {
         return refused(refuse(9, 0, 0));
+    };
+    if let Err(refusal) = length_answer(&plan, &waits, &given) {
+        return refused(refusal);
     }
-    let tasks = plan.tasks as usize;
-    let answer = length_answer(
-        &plan.begin,
-        &plan.finish,
-        &waits.sets,
-        &given.length,
-        &given.dropped,
-        plan.tasks,
-    );
-    if answer.code != 0 {
-        return refused(answer);
+    let Times { start, end } = work_all(&plan.ready, &waits, &given, usize::from(plan.tasks));
+    Timetable {
+        answer: refuse(0, 0, 0),
+        start,
+        end,
     }
-    let times = work_all(
-        &plan.ready,
-        &waits.sets,
-        &given.length,
-        &given.dropped,
-        tasks,
-    );
-    let start = times.start;
-    let end = times.end;
-    Timetable { answer, start, end }
 }

@@ -22,8 +22,8 @@ use Rattle.text_fields.proofs.FaultLaws.{is_code, field-is-code, word-is-code, e
 use Rattle.text_fields.proofs.UnlessLaws.{refuses, says}
 use Rattle.engine_read.specs.Lines.{length_codes, drop_codes, task_code, line_said}
 use Rattle.engine_read.specs.Private.Read.{task_read, length_said, drop_said}
-use Rattle.engine_read.specs.declared.LengthLine.{LengthLine}
-use Rattle.engine_read.specs.declared.LengthLine.TheVariants.{Length, Drop, Refused}
+use Rattle.engine_read.specs.Said.{LengthLine}
+use Rattle.engine_read.specs.Said.{Length, Drop, Refused}
 use Rattle.engine_read.proofs.TaskLaws.{task-is-code, task-code, task-value}
 
 zero_in : (codes : List ℕ) → all_of (eqb 0) codes ≡ true → (i : ℕ) → i < length codes → 0 ≡ get_or codes i 0
@@ -59,10 +59,9 @@ module _ (tasks : ℕ) (earlier : ℕ → Bool) (ended : Bool) (line : List ℕ)
 
       module _ {t : Bool} (z : t ≡ all_of (eqb 0) codes) where
         pub length-refused :
-            not t ≡ true → {fault : Fault} → fault ≡ fault_of line codes → {r : LengthLine} → r ≡ Refused fault.code fault.column
-            → r ≡ length_said tasks earlier ended line
-        length-refused n q r =
-            refuses line (length_codes tasks earlier ended line) length-kinds (z ∙ ap (all_of (eqb 0)) codes-are) Refused n (q ∙ ap (fault_of line) codes-are) _ r
+            not t ≡ true → {fault : Fault} → fault ≡ fault_of line codes → Refused fault.code fault.column ≡ length_said tasks earlier ended line
+        length-refused n q =
+            refuses line (length_codes tasks earlier ended line) length-kinds (z ∙ ap (all_of (eqb 0)) codes-are) Refused n (q ∙ ap (fault_of line) codes-are) _ refl
 
         pub length-says : not t ≡ false → Length task.value ticks.value ≡ length_said tasks earlier ended line
         length-says n =
@@ -89,10 +88,9 @@ module _ (tasks : ℕ) (earlier : ℕ → Bool) (ended : Bool) (line : List ℕ)
 
       module _ {t : Bool} (z : t ≡ all_of (eqb 0) drop-codes) where
         pub drop-refused :
-            not t ≡ true → {fault : Fault} → fault ≡ fault_of line drop-codes → {r : LengthLine} → r ≡ Refused fault.code fault.column
-            → r ≡ drop_said tasks earlier ended line
-        drop-refused n q r =
-            refuses line (drop_codes tasks earlier ended line) drop-kinds (z ∙ ap (all_of (eqb 0)) drop-codes-are) Refused n (q ∙ ap (fault_of line) drop-codes-are) _ r
+            not t ≡ true → {fault : Fault} → fault ≡ fault_of line drop-codes → Refused fault.code fault.column ≡ drop_said tasks earlier ended line
+        drop-refused n q =
+            refuses line (drop_codes tasks earlier ended line) drop-kinds (z ∙ ap (all_of (eqb 0)) drop-codes-are) Refused n (q ∙ ap (fault_of line) drop-codes-are) _ refl
 
         pub drop-says : not t ≡ false → Drop task.value ≡ drop_said tasks earlier ended line
         drop-says n =

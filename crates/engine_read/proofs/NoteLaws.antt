@@ -21,8 +21,8 @@ use Rattle.engine_read.specs.Lines.{says_length, says_drop, marked, line_said, n
 use Rattle.engine_read.specs.Whole.{ticks_for, given_of}
 use Rattle.engine_read.specs.Private.Noted.{planned_in, note_of, Names}
 use Rattle.engine_read.specs.declared.LengthNotes.{LengthNotes}
-use Rattle.engine_read.specs.declared.LengthLine.{LengthLine}
-use Rattle.engine_read.specs.declared.LengthLine.TheVariants.{Length, Drop, Refused}
+use Rattle.engine_read.specs.Said.{LengthLine}
+use Rattle.engine_read.specs.Said.{Length, Drop, Refused}
 use Rattle.engine_read.proofs.SaidLaws.{line_same}
 
 -- the arrays by what the lines say

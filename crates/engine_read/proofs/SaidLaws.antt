@@ -1,14 +1,14 @@
 -- What any line says: a task of the plan or a column that an answer can say; and the same by marks that say the same.
 use Prim.Native.Nat.{ℕ, ◌≤◌, ◌<◌}
-use mathlib.Core.Path.{◌≡◌, refl, sym, ap, ◌∙◌}
+use mathlib.Core.Path.{◌≡◌, refl}
+use mathlib.Core.Logic.{◌≢◌}
 use mathlib.Core.Bool.{Bool, true}
-use mathlib.Core.List.{List, [], ◌∷◌}
+use mathlib.Core.List.{List}
 use native.Mathlib.Omega.{arith}
 use lib.Dec.{eqb}
+use borrow.Author.Tests.{eq-eqb, ne_eqb}
 use lib.ListN.{length, length-take}
-use types.Run.{OneOf}
-use denote.Enum.Declared
-use Rattle.laws.proofs.Cases.{by_bool}
+use Rattle.laws.proofs.Cases.{by_bool, by-eq}
 use Rattle.laws.specs.Lists.{all_of, same}
 use Rattle.laws.specs.Split.{index_of, before}
 use Rattle.text.specs.Bytes.{bytes}
@@ -18,17 +18,21 @@ use Rattle.text_fields.specs.Faults.{field_codes, fault_of, unless_fault}
 use Rattle.text_fields.specs.declared.Fault.{Fault}
 use Rattle.text_fields.proofs.FaultLaws.{zero-at, column-most}
 use Rattle.text_fields.proofs.UnlessLaws.{no-fault}
-use Rattle.plan.specs.Answer.{refuse}
-use Rattle.plan.specs.declared.Answer.{Answer}
+use Rattle.plan.specs.Answer.{granted}
 use Rattle.engine_read.specs.Lines.{task_code, length_codes, drop_codes, line_said, said_answer}
 use Rattle.engine_read.specs.Private.Read.{length_said, drop_said}
-use Rattle.engine_read.specs.Private.Noted.{note_of, Names, Short}
-use Rattle.engine_read.specs.declared.LengthNotes.{LengthNotes}
-use Rattle.engine_read.specs.declared.LengthLine.{LengthLine}
-use Rattle.engine_read.specs.declared.LengthLine.TheVariants.{Length, Drop, Refused}
-use Rattle.engine_read.specs.contracts.LengthLine.{the_type}
+use Rattle.engine_read.specs.Private.Noted.{Names}
+use Rattle.engine_read.specs.declared.LengthEntry.{LengthEntry}
+use Rattle.engine_read.specs.Said.{LengthLine, entry_line}
+use Rattle.engine_read.specs.Said.{Length, Drop, Refused}
 use Rattle.engine_read.proofs.TaskLaws.{task-named, task-same}
 use Rattle.engine_read.proofs.LineLaws.{length-kinds, drop-kinds}
+
+-- a column that an answer can say
+abbrev pub Short : LengthLine → Type 0
+Short (Length task ticks) = 0 ≤ ticks
+Short (Drop task) = 0 ≤ task
+Short (Refused code column) = column < 4294967296
 
 -- ---- it names a task of the plan
 
@@ -107,23 +111,26 @@ pub line_same :
 unfolding line_said
 line_same tasks few a b s = rw (length-same tasks few a (has_line s) (before LF s), drop-same tasks few b (has_line s) (before LF s))
 
--- ---- what the code tells apart by a match
+-- ---- what the reader answers
 
-pub answer-fine : (n : ℕ) (said : LengthLine) (k : ℕ) → k < 2 → OneOf (k ∷ []) (Declared.tag_of the_type said) → {a : Answer} → a ≡ refuse 0 0 0 → a ≡ said_answer n said
-answer-fine n (Length task ticks) k h t e = e
-answer-fine n (Drop task) k h t e = e
-answer-fine n (Refused code column) k h t e = absurd (omega arith)
+pub entry-fine : (n : ℕ) (entry : LengthEntry) → said_answer n (entry_line entry) ≡ granted
+entry-fine n (LengthEntry.Length task ticks) = refl
+entry-fine n (LengthEntry.Drop task) = refl
 
-pub answer-refused : (n : ℕ) {said : LengthLine} {code column : ℕ} → said ≡ Refused code column → {a : Answer} → a ≡ refuse code n column → a ≡ said_answer n said
-answer-refused n p e = rw p e
+unless-refused :
+    (fault : Fault) (said : LengthLine) {code column : ℕ} → (Refused code column ≡ said → ⊥) → Refused code column ≡ unless_fault fault Refused said → code ≢ 0
+unless-refused fault said {code} {column} other h =
+    by-eq fault.code 0
+    (λ z. let q : Refused code column ≡ said = rw (eq-eqb fault.code 0 z) at h in absurd (other q))
+    (λ n.
+    let q : Refused code column ≡ Refused fault.code fault.column = rw (ne_eqb fault.code 0 n) at h in
+    let e : code ≡ fault.code = cc in
+    rw e n)
 
-pub short-column : {said : LengthLine} {code column : ℕ} → said ≡ Refused code column → Short said → column < 4294967296
-short-column p h = rw p at h
-
-pub note-as : (noted : LengthNotes) {said this : LengthLine} → said ≡ this → {r : LengthNotes} → r ≡ note_of noted this → r ≡ note_of noted said
-note-as noted p e = e ∙ ap (note_of noted) (sym p)
-
-pub note-none : (noted : LengthNotes) (said : LengthLine) → OneOf (2 ∷ []) (Declared.tag_of the_type said) → noted ≡ note_of noted said
-note-none noted (Length task ticks) t = absurd (omega arith)
-note-none noted (Drop task) t = absurd (omega arith)
-note-none noted (Refused code column) t = refl
+pub refused-code :
+    (tasks : ℕ) (lengthened dropped : ℕ → Bool) (s : List ℕ) {code column : ℕ} → Refused code column ≡ line_said tasks lengthened dropped s → code ≢ 0
+unfolding line_said
+refused-code tasks lengthened dropped s h =
+    by_bool (same (field (before LF s) 0) (bytes "drop"))
+    (λ e. unless-refused _ (Drop _) (λ q. cc) (rw e at h))
+    (λ e. unless-refused _ (Length _ _) (λ q. cc) (rw e at h))

@@ -1,12 +1,11 @@
 -- The task field: its code, its value, and what a code of 0 says.
-use Prim.Native.Nat.{ℕ, ◌≤◌, ◌-◌}
+use Prim.Native.Nat.{ℕ, ◌≤◌}
 use mathlib.Core.Path.{◌≡◌, refl, sym, ap, ◌∙◌}
 use mathlib.Core.Logic.{◌≢◌}
 use mathlib.Core.Bool.{Bool, true, false, ◌&&◌}
 use mathlib.Core.List.{List}
 use native.Mathlib.Omega.{arith}
 use lib.Dec.{eqb}
-use lib.ListN.{length, get_or-eq_default}
 use borrow.Author.Tests.{eq-eqb, ne_eqb}
 use Rattle.laws.proofs.Cases.{by_bool, by-eq, and_no}
 use Rattle.text.specs.Number.{value_of}
@@ -91,7 +90,3 @@ module _ (tasks : ℕ) (marks s : List ℕ) {task : Ranged} (p : task ≡ ranged
       read-new m =
           let c : field_code 1 tasks s ≡ task_code tasks (marked marks) s = rw (marked-is ∙ m, and_no (eqb (field_code 1 tasks s) 0)) in
           λ i. record { code = (ranged-code 1 tasks s p ∙ c) i; value = (ap (λ (r : Ranged). r.value) p) i }
-
--- no task past the end is marked
-pub past-marked : (marks : List ℕ) (task : ℕ) → length marks ≤ task - 1 → false ≡ marked marks task
-past-marked marks task h = rw (get_or-eq_default marks 0 h)

@@ -1,12 +1,10 @@
 -- What the whole text asks, by the tests that lead to it.
 use Prim.Native.Nat.{ℕ, suc, ◌≤◌, ◌<◌, min}
-use mathlib.Core.Path.{◌≡◌, refl, sym, ap, ◌∙◌}
-use mathlib.Core.List.{List, [], ◌∷◌}
+use mathlib.Core.Path.{◌≡◌, sym, ap, ◌∙◌}
+use mathlib.Core.List.{List, []}
 use native.Mathlib.Omega.{arith}
 use lib.Dec.{eqb}
 use lib.ListN.{length, length-drop, length-take}
-use types.Run.{OneOf}
-use denote.Enum.Declared
 use borrow.Author.Tests.{lt-ltb, le-ltb}
 use Rattle.laws.proofs.Cases.{by_bool}
 use Rattle.laws.specs.Split.{index_of, after, before}
@@ -19,9 +17,8 @@ use Rattle.plan.specs.Answer.{refuse}
 use Rattle.plan.specs.declared.Answer.{Answer}
 use Rattle.book.specs.declared.Rule.TheVariants.{EarlyStart, Clash}
 use Rattle.log_read.specs.Rules.{rule_codes, choice_in, choice_of}
-use Rattle.log_read.specs.declared.Choice.{Choice}
-use Rattle.log_read.specs.declared.Choice.TheVariants.{Unsaid, Chosen, Malformed}
-use Rattle.log_read.specs.contracts.Choice.{the_type}
+use Rattle.log_read.specs.Said.{Choice}
+use Rattle.log_read.specs.Said.Choice.{Unsaid, Chosen, Malformed}
 use Rattle.engine_read.specs.Whole.{told_in, asked_not, asked_by, chosen_asked, asked_of}
 use Rattle.engine_read.specs.Private.Noted.{LinesFit}
 use Rattle.engine_read.specs.declared.EngineInput.{EngineInput}
@@ -67,26 +64,16 @@ module _ (tasks : ℕ) (begin finish text : List ℕ) where
         ∙ rw (le-ltb 32768 (length text) short) (ap (λ (x : Choice). chosen_asked x (min tasks 64) begin finish text) (sym c ∙ k))
 
     pub asked-unsaid :
-        OneOf (0 ∷ []) (Declared.tag_of the_type choice) → {r : EngineInput} → r ≡ asked_by EarlyStart n begin finish (told_in n 1 [] text)
+        choice ≡ Unsaid → {r : EngineInput} → r ≡ asked_by EarlyStart n begin finish (told_in n 1 [] text)
         → r ≡ asked_of tasks begin finish text
     unfolding chosen_asked
-    asked-unsaid t e = e ∙ asked_is (is-unsaid choice t)
-      where
-        is-unsaid : (choice : Choice) → OneOf (0 ∷ []) (Declared.tag_of the_type choice) → choice ≡ Unsaid
-        is-unsaid Unsaid t = refl
-        is-unsaid Chosen t = absurd (omega arith)
-        is-unsaid (Malformed column) t = absurd (omega arith)
+    asked-unsaid t e = e ∙ asked_is t
 
     pub asked-chosen :
-        OneOf (1 ∷ []) (Declared.tag_of the_type choice) → {rest : List ℕ} → rest ≡ after LF text → {r : EngineInput}
+        choice ≡ Chosen → {rest : List ℕ} → rest ≡ after LF text → {r : EngineInput}
         → r ≡ asked_by Clash n begin finish (told_in n 2 [] rest) → r ≡ asked_of tasks begin finish text
     unfolding chosen_asked
-    asked-chosen t u e = e ∙ ap (λ (s : List ℕ). asked_by Clash n begin finish (told_in n 2 [] s)) u ∙ asked_is (is-chosen choice t)
-      where
-        is-chosen : (choice : Choice) → OneOf (1 ∷ []) (Declared.tag_of the_type choice) → choice ≡ Chosen
-        is-chosen Unsaid t = absurd (omega arith)
-        is-chosen Chosen t = refl
-        is-chosen (Malformed column) t = absurd (omega arith)
+    asked-chosen t u e = e ∙ ap (λ (s : List ℕ). asked_by Clash n begin finish (told_in n 2 [] s)) u ∙ asked_is t
 
     pub malformed-short : {column : ℕ} → choice ≡ Malformed column → column < 4294967296
     malformed-short {column} c = let r : ShortChoice (Malformed column) = rw (← k, c) at (choice-short text short) in r

@@ -1,3 +1,4 @@
+pub mod Said
 pub mod Lines
 pub mod Private
 pub mod Whole

@@ -9,8 +9,8 @@ use Rattle.text_fields.specs.Faults.{field_code, line_codes, fault_of, unless_fa
 use Rattle.plan.specs.Answer.{refuse, granted}
 use Rattle.plan.specs.Value.{at}
 use Rattle.plan.specs.declared.Answer.{Answer}
-use Rattle.engine_read.specs.declared.LengthLine.{LengthLine}
-use Rattle.engine_read.specs.declared.LengthLine.TheVariants.{Length, Drop, Refused}
+use Rattle.engine_read.specs.Said.{LengthLine}
+use Rattle.engine_read.specs.Said.{Length, Drop, Refused}
 
 -- the line gives a length of that task
 abbrev pub says_length : ℕ → LengthLine → Bool

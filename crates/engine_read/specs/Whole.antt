@@ -11,11 +11,11 @@ use Rattle.book.specs.declared.Rule.{Rule}
 use Rattle.book.specs.declared.Rule.TheVariants.{EarlyStart, Clash}
 use Rattle.engine.specs.declared.Lengths.{Lengths}
 use Rattle.log_read.specs.Rules.{choice_of}
-use Rattle.log_read.specs.declared.Choice.{Choice}
-use Rattle.log_read.specs.declared.Choice.TheVariants.{Unsaid, Chosen, Malformed}
+use Rattle.log_read.specs.Said.{Choice}
+use Rattle.log_read.specs.Said.Choice.{Unsaid, Chosen, Malformed}
 use Rattle.engine_read.specs.Lines.{says_drop, next_said, said_answer}
-use Rattle.engine_read.specs.declared.LengthLine.{LengthLine}
-use Rattle.engine_read.specs.declared.LengthLine.TheVariants.{Length, Drop, Refused}
+use Rattle.engine_read.specs.Said.{LengthLine}
+use Rattle.engine_read.specs.Said.{Length, Drop, Refused}
 use Rattle.engine_read.specs.declared.EngineInput.{EngineInput}
 
 -- what lines say, the last first, and the answer: the first refused line's, or granted

@@ -1,1 +1,1 @@
-mod PathLaws
+pub mod Fronts

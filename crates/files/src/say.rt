@@ -1,5 +1,5 @@
 // What is said on standard error. It is bytes, since the name of a file need not be text.
-ghost use Rattle.std.specs.Prelude.{◌≡◌, is_ok};
+ghost use Rattle.std.specs.Prelude.{◌≡◌, MatchResult, IsErr};
 ghost use Rattle.std.specs.Io.{StartsWith};
 
 use std::fmt::InlineText;
@@ -32,7 +32,7 @@ fn before_number(words: &str) -> &str
 }
 
 // A line: what failed, a colon and what the error says.
-pub(crate) fn fail(rt: &impl Say, what: &[u8], error: Error) {
+fn fail(rt: &impl Say, what: &[u8], error: Error) {
     let words: InlineText<WORDS_MOST> = InlineText::of(error);
     rt.say(what);
     rt.say(b": ");
@@ -40,15 +40,19 @@ pub(crate) fn fail(rt: &impl Say, what: &[u8], error: Error) {
     rt.say(b"\n");
 }
 
-// Whether it was done; where it was not, a line says what failed.
-pub fn is_done(rt: &impl Say, what: &[u8], done: io::Result<()>) -> bool
-    ensures { result ≡ is_ok done }
+// An error that standard error has told already.
+#[derive(Clone, Copy)]
+pub struct Told;
+
+// What was done; where it was not, a line says what failed.
+pub fn or_tell<T>(rt: &impl Say, what: &[u8], done: io::Result<T>) -> Result<T, Told>
+    ensures { MatchResult done (λ value. result ≡ Ok value) (λ _. IsErr result) }
 {
     match done {
-        Ok(()) => true,
+        Ok(value) => Ok(value),
         Err(error) => {
             fail(rt, what, error);
-            false
+            Err(Told)
         }
     }
 }

@@ -2,3 +2,4 @@ pub mod Count
 pub mod Last
 pub mod Rise
 pub mod Noted
+pub mod Nonzero

@@ -5,7 +5,7 @@ use mathlib.Core.Bool.{Bool, true, false, not}
 use mathlib.Core.List.{List, [], ◌∷◌}
 use native.Mathlib.Omega.{arith}
 use lib.Dec.{eqb}
-use borrow.Author.Tests.{not-false, eqb-true}
+use borrow.Author.Tests.{eqb-true}
 use Rattle.laws.proofs.Cases.{and-of}
 use Rattle.laws.specs.Lists.{all_of, same}
 use Rattle.laws.proofs.Lists.{all-at}
@@ -19,8 +19,7 @@ use Rattle.text_fields.proofs.RangedLaws.{ranged-code, ranged-value}
 use Rattle.text_fields.proofs.FaultLaws.{is_code, field-is-code, word-is-code, end-is-code}
 use Rattle.text_fields.proofs.UnlessLaws.{refuses, says}
 use Rattle.log_read.specs.Entries.{end_codes, drop_codes, entry_of}
-use Rattle.log_read.specs.declared.Entry.{Entry}
-use Rattle.log_read.specs.declared.Entry.TheVariants.{End, Drop, Refused}
+use Rattle.log_read.specs.Said.Entry.{End, Drop, Refused}
 
 value-at : (s : List ℕ) {x : Ranged} → x ≡ ranged_read 0 most s → eqb 0 x.code ≡ true → x.value ≡ value_of s
 value-at s {x} p q = ranged-value 0 most s p (sym (eqb-true 0 x.code q ∙ ranged-code 0 most s p))
@@ -51,21 +50,19 @@ module _ (ended : Bool) (line : List ℕ) (other : same (field line 0) (bytes "d
       let w' : word ≡ word_code (bytes "end") (field line 0) = rw f at w in
       λ i. w' i ∷ p1 i ∷ p2 i ∷ e i ∷ []
 
-  module _ {t : Bool} (z : t ≡ all_of (eqb 0) codes) where
-    z' : t ≡ all_of (eqb 0) (end_codes ended line)
-    z' = z ∙ ap (all_of (eqb 0)) codes-are
+  pub end_refused : all_of (eqb 0) codes ≡ false → {fault : Fault} → fault ≡ fault_of line codes → Refused fault.code fault.column ≡ entry_of ended line
+  unfolding entry_of
+  end_refused f q =
+      rw other
+      (refuses line (end_codes ended line) (end-kinds ended line) (ap (all_of (eqb 0)) codes-are) Refused (ap not f) (q ∙ ap (fault_of line) codes-are) _ refl)
 
-    pub end_refused : not t ≡ true → {fault : Fault} → fault ≡ fault_of line codes → {r : Entry} → r ≡ Refused fault.code fault.column → r ≡ entry_of ended line
-    unfolding entry_of
-    end_refused n q r = rw other (refuses line (end_codes ended line) (end-kinds ended line) z' Refused n (q ∙ ap (fault_of line) codes-are) _ r)
-
-    pub end-says : not t ≡ false → End task.value tick.value ≡ entry_of ended line
-    unfolding entry_of
-    end-says n =
-        let all = sym z ∙ not-false t n in
-        let v1 = value-at (field line 1) (rw g at p) (all-at (eqb 0) codes all 1 0 (omega arith)) in
-        let v2 = value-at (field line 2) (rw h at q) (all-at (eqb 0) codes all 2 0 (omega arith)) in
-        rw other (says line (end_codes ended line) (end-kinds ended line) z' Refused n (λ i. End (v1 i) (v2 i)))
+  pub end-says : all_of (eqb 0) codes ≡ true → End task.value tick.value ≡ entry_of ended line
+  unfolding entry_of
+  end-says all =
+      let v1 = value-at (field line 1) (rw g at p) (all-at (eqb 0) codes all 1 0 (omega arith)) in
+      let v2 = value-at (field line 2) (rw h at q) (all-at (eqb 0) codes all 2 0 (omega arith)) in
+      rw other
+      (says line (end_codes ended line) (end-kinds ended line) (ap (all_of (eqb 0)) codes-are) Refused (ap not all) (λ i. End (v1 i) (v2 i)))
 
 -- a `drop` line
 module _ (ended : Bool) (line : List ℕ) (this : same (field line 0) (bytes "drop") ≡ true)
@@ -81,16 +78,15 @@ module _ (ended : Bool) (line : List ℕ) (this : same (field line 0) (bytes "dr
       let w' : word ≡ word_code (bytes "drop") (field line 0) = rw f at w in
       λ i. w' i ∷ p1 i ∷ e i ∷ []
 
-  module _ {t : Bool} (z : t ≡ all_of (eqb 0) drop-codes) where
-    z'' : t ≡ all_of (eqb 0) (drop_codes ended line)
-    z'' = z ∙ ap (all_of (eqb 0)) drop-codes-are
+  pub drop-refused : all_of (eqb 0) drop-codes ≡ false → {fault : Fault} → fault ≡ fault_of line drop-codes → Refused fault.code fault.column ≡ entry_of ended line
+  unfolding entry_of
+  drop-refused f q =
+      rw this
+      (refuses line (drop_codes ended line) (drop-kinds ended line) (ap (all_of (eqb 0)) drop-codes-are) Refused (ap not f) (q ∙ ap (fault_of line) drop-codes-are) _ refl)
 
-    pub drop-refused : not t ≡ true → {fault : Fault} → fault ≡ fault_of line drop-codes → {r : Entry} → r ≡ Refused fault.code fault.column → r ≡ entry_of ended line
-    unfolding entry_of
-    drop-refused n q r = rw this (refuses line (drop_codes ended line) (drop-kinds ended line) z'' Refused n (q ∙ ap (fault_of line) drop-codes-are) _ r)
-
-    pub drop-says : not t ≡ false → Drop task.value ≡ entry_of ended line
-    unfolding entry_of
-    drop-says n =
-        let v1 = value-at (field line 1) (rw g at p) (all-at (eqb 0) drop-codes (sym z ∙ not-false t n) 1 0 (omega arith)) in
-        rw this (says line (drop_codes ended line) (drop-kinds ended line) z'' Refused n (λ i. Drop (v1 i)))
+  pub drop-says : all_of (eqb 0) drop-codes ≡ true → Drop task.value ≡ entry_of ended line
+  unfolding entry_of
+  drop-says all =
+      let v1 = value-at (field line 1) (rw g at p) (all-at (eqb 0) drop-codes all 1 0 (omega arith)) in
+      rw this
+      (says line (drop_codes ended line) (drop-kinds ended line) (ap (all_of (eqb 0)) drop-codes-are) Refused (ap not all) (λ i. Drop (v1 i)))

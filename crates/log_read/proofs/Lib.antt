@@ -1,3 +1,4 @@
+pub mod SaidLaws
 pub mod EntryLaws
 pub mod TextLaws
 pub mod RuleLaws

@@ -16,7 +16,7 @@ use Rattle.text_fields.specs.declared.Fault.{Fault}
 use Rattle.text_fields.proofs.FaultLaws.{is_code, word-is-code, end-is-code}
 use Rattle.text_fields.proofs.UnlessLaws.{clean}
 use Rattle.log_read.specs.Rules.{rule_codes, choice_in, choice_of}
-use Rattle.log_read.specs.declared.Choice.TheVariants.{Unsaid, Chosen, Malformed}
+use Rattle.log_read.specs.Said.Choice.{Unsaid, Chosen, Malformed}
 
 rule-kinds : (ended : Bool) (line : List ℕ) → all_of is_code (rule_codes ended line) ≡ true
 unfolding rule_codes field_codes all_of
@@ -45,17 +45,16 @@ module _ (ended : Bool) (line : List ℕ) {front : List ℕ} (f : front ≡ fiel
         let v' : name ≡ word_code (bytes "clash") (field line 1) = rw h at v in
         λ i. w' i ∷ v' i ∷ e i ∷ []
 
-    module _ {t : Bool} (z : t ≡ all_of (eqb 0) codes) where
-      clean_is : t ≡ eqb (fault_of line (rule_codes ended line)).code 0
-      clean_is = clean line (rule_codes ended line) (rule-kinds ended line) (z ∙ ap (all_of (eqb 0)) codes-are)
+    clean_is : all_of (eqb 0) codes ≡ eqb (fault_of line (rule_codes ended line)).code 0
+    clean_is = clean line (rule_codes ended line) (rule-kinds ended line) (ap (all_of (eqb 0)) codes-are)
 
-      pub choice-malformed : not t ≡ true → {fault : Fault} → fault ≡ fault_of line codes → Malformed fault.column ≡ choice_in ended line
-      unfolding choice_in
-      choice-malformed m q = rw (rule-is ∙ not-false rule n, sym clean_is ∙ not-true t m, q, codes-are)
+    pub choice-malformed : all_of (eqb 0) codes ≡ false → {fault : Fault} → fault ≡ fault_of line codes → Malformed fault.column ≡ choice_in ended line
+    unfolding choice_in
+    choice-malformed m q = rw (rule-is ∙ not-false rule n, sym clean_is ∙ m, q, codes-are)
 
-      pub choice-chosen : not t ≡ false → Chosen ≡ choice_in ended line
-      unfolding choice_in
-      choice-chosen m = rw (rule-is ∙ not-false rule n, sym clean_is ∙ not-false t m)
+    pub choice-chosen : all_of (eqb 0) codes ≡ true → Chosen ≡ choice_in ended line
+    unfolding choice_in
+    choice-chosen m = rw (rule-is ∙ not-false rule n, sym clean_is ∙ m)
 
 pub choice-is : (s : List ℕ) {r : ℕ} → r ≡ index_of LF s → choice_in (ltb r (length s)) (take r s) ≡ choice_of s
 unfolding choice_of

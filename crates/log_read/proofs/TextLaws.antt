@@ -1,7 +1,8 @@
 -- The line that begins a text: what it says, and how many bytes it uses up.
 use Prim.Native.Nat.{ℕ, suc, ◌+◌, ◌≤◌, ◌<◌}
-use mathlib.Core.Path.{◌≡◌, refl, ap, ◌∙◌}
-use mathlib.Core.Bool.{Bool, true}
+use mathlib.Core.Path.{◌≡◌, refl, sym, ap, ◌∙◌}
+use mathlib.Core.Logic.{◌≢◌}
+use mathlib.Core.Bool.{Bool, true, false}
 use mathlib.Core.List.{List, [], ◌∷◌}
 use native.Mathlib.Omega.{arith}
 use lib.Dec.{ltb, eqb}
@@ -15,12 +16,17 @@ use Rattle.laws.proofs.Split.{join-split}
 use Rattle.text.specs.Bytes.{bytes}
 use Rattle.text.specs.Line.{LF, has_line, fields, field}
 use Rattle.text.specs.Number.{is_number, most}
+use Rattle.std.specs.Prelude.{Result, Ok, Err, is_err}
+use Rattle.text.specs.Number.{value_of}
+use Rattle.text_fields.specs.declared.Fault.{Fault}
 use Rattle.text_fields.specs.Faults.{field_codes, worst, fault_of, unless_fault}
 use Rattle.text_fields.proofs.RangedLaws.{field-zero}
 use Rattle.text_fields.proofs.FaultLaws.{is_code, faultless-is, word-zero, end-zero, zero-at}
 use Rattle.log_read.specs.Entries.{end_codes, drop_codes, entry_of, next_entry, entry_code}
-use Rattle.log_read.specs.declared.Entry.{Entry}
-use Rattle.log_read.specs.declared.Entry.TheVariants.{Refused}
+use Rattle.log_read.specs.Said.{Entry, said}
+use Rattle.log_read.specs.Said.Entry.{End, Drop, Refused}
+use Rattle.log_read.specs.declared.Entry as entry
+use Rattle.log_read.specs.declared.Entry.TheVariants as read
 use Rattle.log_read.proofs.EntryLaws.{end-kinds, drop-kinds}
 
 pub next-is : (s : List ℕ) {r : ℕ} → r ≡ index_of LF s → entry_of (ltb r (length s)) (take r s) ≡ next_entry s
@@ -105,3 +111,36 @@ line-used s z =
     let w = whole (has_line s) (before LF s) z in
     let i = ltb-true (index_of LF s) (length s) w.0 in
     omega (arith, w.1, length-take (index_of LF s) s, length-drop (suc (index_of LF s)) s)
+
+-- ---- a line that is refused has a code
+
+unless-code :
+    (fault : Fault) (entry : Entry) {code column : ℕ} → (entry ≡ Refused code column → ⊥) → unless_fault fault Refused entry ≡ Refused code column
+    → code ≢ 0
+unless-code fault entry {code} {column} other e z =
+    by_bool (eqb fault.code 0)
+    (λ t. other (rw t at e))
+    (λ t.
+    let q : Refused fault.code fault.column ≡ Refused code column = rw t at e in
+    let i : fault.code ≡ code = cc in
+    eqb-false fault.code 0 t (i ∙ z))
+
+refused-code : (ended : Bool) (line : List ℕ) {code column : ℕ} → entry_of ended line ≡ Refused code column → code ≢ 0
+unfolding entry_of
+refused-code ended line e =
+    by_bool (same (field line 0) (bytes "drop"))
+    (λ t. unless-code (fault_of line (drop_codes ended line)) (Drop (value_of (field line 1))) (λ x. cc) (rw t at e))
+    (λ t. unless-code (fault_of line (end_codes ended line)) (End (value_of (field line 1)) (value_of (field line 2))) (λ x. cc) (rw t at e))
+
+next-refused : (s : List ℕ) {code column : ℕ} → next_entry s ≡ Refused code column → code ≢ 0
+unfolding next_entry
+next-refused s e = refused-code (has_line s) (before LF s) e
+
+pub stops-code : (s : List ℕ) (r : Result entry.Entry Fault) → said r ≡ next_entry s → is_err r ≡ true → entry_code (next_entry s) ≢ 0
+stops-code s (Ok entry) e h = true-false h refl
+stops-code s (Err fault) e h = λ z. let z' : fault.code ≡ 0 = rw (← e) at z in next-refused s (sym e) z'
+
+pub goes-code : (s : List ℕ) (r : Result entry.Entry Fault) → said r ≡ next_entry s → is_err r ≡ false → entry_code (next_entry s) ≡ 0
+goes-code s (Ok (read.End task tick)) e h = ap entry_code (sym e)
+goes-code s (Ok (read.Drop task)) e h = ap entry_code (sym e)
+goes-code s (Err fault) e h = true-false refl h

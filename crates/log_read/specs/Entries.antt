@@ -6,8 +6,8 @@ use Rattle.text.specs.Bytes.{bytes}
 use Rattle.text.specs.Number.{value_of, most}
 use Rattle.text.specs.Line.{LF, field, has_line}
 use Rattle.text_fields.specs.Faults.{field_code, line_codes, fault_of, unless_fault}
-use Rattle.log_read.specs.declared.Entry.{Entry}
-use Rattle.log_read.specs.declared.Entry.TheVariants.{End, Drop, Refused}
+use Rattle.log_read.specs.Said.{Entry}
+use Rattle.log_read.specs.Said.Entry.{End, Drop, Refused}
 
 -- the refusal number of a line: 0 for one that says an end or a drop
 abbrev pub entry_code : Entry → ℕ

@@ -5,8 +5,8 @@ use Rattle.laws.specs.Split.{before}
 use Rattle.text.specs.Bytes.{bytes}
 use Rattle.text.specs.Line.{LF, field, has_line}
 use Rattle.text_fields.specs.Faults.{word_code, line_codes, fault_of, unless_fault}
-use Rattle.log_read.specs.declared.Choice.{Choice}
-use Rattle.log_read.specs.declared.Choice.TheVariants.{Unsaid, Chosen, Malformed}
+use Rattle.log_read.specs.Said.{Choice}
+use Rattle.log_read.specs.Said.Choice.{Unsaid, Chosen, Malformed}
 
 -- `rule`, `clash`; each of these codes is 0 or 3
 unfoldable pub rule_codes : Bool → List ℕ → List ℕ

@@ -1,32 +1,32 @@
 // The rule that the first line of ends.txt chooses.
 ghost use Rattle.std.specs.Prelude.{◌≡◌};
+ghost use Rattle.log_read.specs.Said.{chosen};
 ghost use Rattle.log_read.specs.Rules.{choice_in, choice_of};
 
-use crate::Choice;
+use crate::{Choice, check};
 use text::part::{LF, field, find, same};
-use text_fields::faults::{end_code, fault_of, is_faultless, word_code};
+use text_fields::faults::{end_code, word_code};
 
-// A line without its LF, and whether it had one.
-pub fn read_choice(line: &[u8], ended: bool) -> Choice
-    ensures { result ≡ choice_in ended line.now }
+// A line without its LF, and whether it had one; or the column at which it is malformed.
+pub fn read_choice(line: &[u8], ended: bool) -> Result<Choice, usize>
+    ensures { chosen result ≡ choice_in ended line.now }
 {
     if !same(field(line, 0), b"rule") {
-        return Choice::Unsaid;
+        return Ok(Choice::Unsaid);
     }
     let codes = [
         word_code(field(line, 0), b"rule"),
         word_code(field(line, 1), b"clash"),
         end_code(line, 2, ended),
     ];
-    if !is_faultless(&codes) {
-        let fault = fault_of(line, &codes);
-        return Choice::Malformed(fault.column);
+    match check(line, &codes) {
+        Ok(()) => Ok(Choice::Chosen),
+        Err(fault) => Err(fault.column),
     }
-    Choice::Chosen
 }
 
-pub fn choose(ends: &[u8]) -> Choice
-    ensures { result ≡ choice_of ends.now }
+pub fn choose(ends: &[u8]) -> Result<Choice, usize>
+    ensures { chosen result ≡ choice_of ends.now }
 {
     let end = find(ends, LF);
     read_choice(&ends[..end], end < ends.len())

@@ -19,7 +19,7 @@ use Rattle.book.specs.declared.Book.{Book}
 use Rattle.book.specs.declared.BookResult.{BookResult}
 use Rattle.book.specs.declared.Rule.{Rule}
 use Rattle.book.proofs.Soundness.{opened-is-sound}
-use Rattle.log_read.specs.declared.Entry.{Entry}
+use Rattle.log_read.specs.Said.{Entry}
 use Rattle.log_write.specs.Lines.{Lined, refused_line}
 use Rattle.log_write.specs.Answers.{Answered}
 use Rattle.log_write.specs.Private.Wrote.{Wrote}

@@ -12,14 +12,15 @@ use Rattle.text.specs.Line.{LF}
 use Rattle.book.specs.declared.Book.{Book}
 use Rattle.book.proofs.Sizes.{Sized}
 use Rattle.log_read.specs.Entries.{next_entry, entry_code}
-use Rattle.log_read.specs.declared.Entry.{Entry}
+use Rattle.log_read.specs.Said.{Entry}
 use Rattle.log_read.proofs.TextLaws.{line-used}
 use Rattle.log_run.specs.Log.{told_of, told_log, ends_log, rest_log}
 use Rattle.log_run.specs.declared.StepOutcome.{StepOutcome}
 use Rattle.log_write.specs.Private.Wrote.{Wrote}
-use Rattle.log_run.specs.Private.Writes.{Short, told_in, told_most}
+use Rattle.log_run.specs.Answers.{within}
+use Rattle.log_run.specs.Private.Writes.{told_in, told_most}
 use Rattle.log_run.specs.Private.Room.{room_for, ends_most}
-use Rattle.log_run.proofs.ShortLaws.{next-short}
+use Rattle.log_run.proofs.ShortLaws.{next-short, short-within}
 use Rattle.log_run.proofs.ReportLaws.{Told, told-sized, told_wrote}
 use Rattle.log_write.proofs.WriteLaws.{Left, left-turn, left-last, nothing, wrote-length}
 
@@ -130,28 +131,24 @@ module _ {out : List ℕ} {from : ℕ} {opened : Book} {first : ℕ} {ends : Lis
                 left = left-turn (first_log book line rest) _ l told.wrote;
               }
 
-      pub walk-short : length ends ≤ 32768 → {entry : Entry} → entry ≡ next_entry rest → Short entry
-      walk-short h n = rw n (next-short rest (omega (arith, w.lines)))
+      -- the line that was read can be answered, since its column is short
+      pub walk-short : length ends ≤ 32768 → {entry : Entry} → entry ≡ next_entry rest → within entry ≡ next_entry rest
+      walk-short h n = ap within n ∙ short-within (next_entry rest) (next-short rest (omega (arith, w.lines)))
 
-      -- the same of what the code has: an entry, its answer, what was written and the entry's code
-      module _ {entry : Entry} (n : entry ≡ next_entry rest) where
-        code_is : {code : ℕ} → code ≡ entry_code entry → code ≡ entry_code (next_entry rest)
-        code_is k = rw n at k
+      pub walk-less : {next : List ℕ} → entry_code (next_entry rest) ≡ 0 → next ≡ after LF rest → length next < length rest
+      walk-less z q = rw q (omega (arith, line-used rest z))
 
-        pub walk-less : {code : ℕ} {next : List ℕ} → code ≡ entry_code entry → code ≡ 0 → next ≡ after LF rest → length next < length rest
-        walk-less k z q = rw q (omega (arith, line-used rest (sym (code_is k) ∙ z)))
+      -- the same of what the code has: an entry, its answer and what was written
+      module _
+          {entry : Entry} (n : entry ≡ next_entry rest) (some : 0 < length rest) {r : StepOutcome} (q : r ≡ told_of line book entry)
+          {m' : List ℕ} {place' : ℕ} (v : Wrote m place (told_in entry book.mark r) (told_most entry book.mark r) m' place')
+        where
+          first-told : Told m place book (first_log book line rest) (first_book book line rest) m' place'
+          first-told = rw n at (told_wrote line book entry w.sized (rw q at v))
 
-        module _
-            (some : 0 < length rest) {r : StepOutcome} (q : r ≡ told_of line book entry) {m' : List ℕ} {place' : ℕ}
-            (v : Wrote m place (told_in entry book.mark r) (told_most entry book.mark r) m' place')
-            {code : ℕ} (k : code ≡ entry_code entry)
-          where
-            first-told : Told m place book (first_log book line rest) (first_book book line rest) m' place'
-            first-told = rw n at (told_wrote line book entry w.sized (rw q at v))
+          pub walk-stops : entry_code (next_entry rest) ≢ 0 → Wrote out from (rest_log opened first ends) (ends_most opened ends) m' place'
+          walk-stops h = walk-stop some first-told h
 
-            pub walk-stops : code ≢ 0 → Wrote out from (rest_log opened first ends) (ends_most opened ends) m' place'
-            walk-stops h = walk-stop some first-told (rw (code_is k) at h)
-
-            pub walk-goes :
-                {next : List ℕ} → code ≡ 0 → next ≡ after LF rest → Walk out from opened first ends m' r.book place' (line + 1) next
-            walk-goes z u = rw (u, q, n) (walk_turn some first-told (sym (code_is k) ∙ z))
+          pub walk-goes :
+              {next : List ℕ} → entry_code (next_entry rest) ≡ 0 → next ≡ after LF rest → Walk out from opened first ends m' r.book place' (line + 1) next
+          walk-goes z u = rw (u, q, n) (walk_turn some first-told z)

@@ -2,6 +2,7 @@ pub mod ShortLaws
 pub mod StartLaws
 pub mod ComeLaws
 pub mod BookLaws
+pub mod ReadLaws
 pub mod ToldLaws
 pub mod ReportLaws
 pub mod AnswerLaws

@@ -23,8 +23,8 @@ use Rattle.book.specs.declared.Rule.{Rule}
 use Rattle.book.specs.declared.Rule.TheVariants.{Clash}
 use Rattle.book.proofs.Sizes.{sized-opened}
 use Rattle.log_read.specs.Rules.{choice_of}
-use Rattle.log_read.specs.declared.Choice.{Choice}
-use Rattle.log_read.specs.declared.Choice.TheVariants.{Unsaid, Chosen, Malformed}
+use Rattle.log_read.specs.Said.{Choice}
+use Rattle.log_read.specs.Said.Choice.{Unsaid, Chosen, Malformed}
 use Rattle.log_run.specs.Log.{shown_after, open_log, rest_log, chosen_log, log_of, log_most, log_in}
 use Rattle.log_write.specs.Lines.{Lined, refused_line}
 use Rattle.log_write.specs.Private.Wrote.{Wrote}

@@ -1,11 +1,9 @@
 -- What an opened book prints, and which of its cases the first line of ends.txt is.
 use Prim.Native.Nat.{ℕ, suc, ◌≤◌}
-use mathlib.Core.Path.{◌≡◌, refl, sym, ap, ◌∙◌}
-use mathlib.Core.List.{List, [], ◌∷◌, ◌++◌}
+use mathlib.Core.Path.{◌≡◌, sym, ap, ◌∙◌}
+use mathlib.Core.List.{List, ◌++◌}
 use native.Mathlib.Omega.{arith}
 use lib.ListN.{length, replicate, length-drop}
-use types.Run.{OneOf}
-use denote.Enum.Declared
 use Rattle.laws.specs.Split.{index_of, after}
 use Rattle.text.specs.Line.{LF}
 use Rattle.plan.specs.Answer.{granted}
@@ -14,9 +12,6 @@ use Rattle.book_view.proofs.Laid.{zeros-laid}
 use Rattle.book.specs.Open.{rule_number, blank_book, opened_on}
 use Rattle.book.specs.View.{lay_out}
 use Rattle.book.specs.declared.Rule.{Rule}
-use Rattle.log_read.specs.declared.Choice.{Choice}
-use Rattle.log_read.specs.declared.Choice.TheVariants.{Unsaid, Chosen, Malformed}
-use Rattle.log_read.specs.contracts.Choice.{the_type}
 use Rattle.log_run.specs.Lines.{run_line, start_lines, early_line}
 use Rattle.log_run.specs.Log.{shown_after, open_log}
 use Rattle.log_run.specs.Private.Writes.{starts_in, opened_in}
@@ -36,17 +31,6 @@ module _ (plan : Plan) (rule : Rule) where
       (ap (λ (m : List ℕ). starts_in m book book.tasks) (sym blank-mark)
       ∙ sym (starts-same (blank_book (rule_number rule) plan) book book.tasks)
       ∙ ap (start_lines (blank_book (rule_number rule) plan) book) (opened-tasks plan rule))
-
--- what the code tells apart by a match
-pub is-unsaid : (choice : Choice) → OneOf (0 ∷ []) (Declared.tag_of the_type choice) → choice ≡ Unsaid
-is-unsaid Unsaid t = refl
-is-unsaid Chosen t = absurd (omega arith)
-is-unsaid (Malformed column) t = absurd (omega arith)
-
-pub is-chosen : (choice : Choice) → OneOf (1 ∷ []) (Declared.tag_of the_type choice) → choice ≡ Chosen
-is-chosen Unsaid t = absurd (omega arith)
-is-chosen Chosen t = refl
-is-chosen (Malformed column) t = absurd (omega arith)
 
 pub rest-less : (s : List ℕ) {rest : List ℕ} → rest ≡ after LF s → length rest ≤ length s
 rest-less s u = rw u (omega (arith, length-drop (suc (index_of LF s)) s))

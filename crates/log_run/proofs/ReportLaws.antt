@@ -23,8 +23,8 @@ use Rattle.book.specs.Report.{reported_of}
 use Rattle.book.specs.Drop.{dropped_of}
 use Rattle.book.specs.declared.Book.{Book}
 use Rattle.book.proofs.Sizes.{Sized}
-use Rattle.log_read.specs.declared.Entry.{Entry}
-use Rattle.log_read.specs.declared.Entry.TheVariants.{End, Drop, Refused}
+use Rattle.log_read.specs.Said.{Entry}
+use Rattle.log_read.specs.Said.Entry.{End, Drop, Refused}
 use Rattle.log_run.specs.Lines.{has_started, start_line, start_lines, end_line, early_line}
 use Rattle.log_run.specs.Log.{told_of, lines_of, told_log}
 use Rattle.log_run.specs.declared.StepOutcome.{StepOutcome}

@@ -1,5 +1,5 @@
 -- The column of a refused line is a number that an answer can say.
-use Prim.Native.Nat.{ℕ, ◌≤◌, ◌<◌, min}
+use Prim.Native.Nat.{ℕ, ◌≤◌, ◌<◌}
 use mathlib.Core.Path.{◌≡◌, refl, ap}
 use mathlib.Core.List.{List}
 use native.Mathlib.Omega.{arith}
@@ -16,10 +16,10 @@ use Rattle.text_fields.specs.declared.Fault.{Fault}
 use Rattle.text_fields.proofs.FaultLaws.{column-most}
 use Rattle.log_read.specs.Entries.{end_codes, drop_codes, entry_of, next_entry}
 use Rattle.log_read.specs.Rules.{rule_codes, choice_in, choice_of}
-use Rattle.log_read.specs.declared.Choice.{Choice}
-use Rattle.log_read.specs.declared.Choice.TheVariants.{Unsaid, Chosen, Malformed}
-use Rattle.log_read.specs.declared.Entry.{Entry}
-use Rattle.log_read.specs.declared.Entry.TheVariants.{End, Drop, Refused}
+use Rattle.log_read.specs.Said.{Choice}
+use Rattle.log_read.specs.Said.Choice.{Unsaid, Chosen, Malformed}
+use Rattle.log_read.specs.Said.{Entry}
+use Rattle.log_read.specs.Said.Entry.{End, Drop, Refused}
 use Rattle.log_run.specs.Answers.{within}
 use Rattle.log_run.specs.Private.Writes.{Short}
 
@@ -56,26 +56,7 @@ choice-short s h =
 pub malformed-short : (s : List ℕ) → length s ≤ 32768 → {choice : Choice} {column : ℕ} → choice ≡ choice_of s → choice ≡ Malformed column → column < 4294967296
 malformed-short s h {column = column} k c = let r : ShortChoice (Malformed column) = rw (← k, c) at (choice-short s (omega arith)) in r
 
--- any entry is short once its column is
-pub within-short : (entry : Entry) → Short (within entry)
-within-short (End task tick) = omega arith
-within-short (Drop task) = omega arith
-within-short (Refused code column) = omega arith
-
 pub short-within : (entry : Entry) → Short entry → within entry ≡ entry
 short-within (End task tick) h = refl
 short-within (Drop task) h = refl
 short-within (Refused code column) h = ap (λ (n : ℕ). Refused code n) (omega (arith, h))
-
--- what is made of an entry of a known kind
-pub made-end : (entry : Entry) {task tick : ℕ} → entry ≡ End task tick → End task tick ≡ within entry
-made-end entry e = rw e refl
-
-pub made-drop : (entry : Entry) {task : ℕ} → entry ≡ Drop task → Drop task ≡ within entry
-made-drop entry e = rw e refl
-
-pub made-refused : (entry : Entry) {code column n : ℕ} → entry ≡ Refused code column → n ≡ min column 4294967295 → Refused code n ≡ within entry
-made-refused entry {code} e q = rw e (ap (λ (x : ℕ). Refused code x) q)
-
-pub short-made : (entry made : Entry) → made ≡ within entry → Short made
-short-made entry made m = rw m (within-short entry)

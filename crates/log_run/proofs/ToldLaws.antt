@@ -4,16 +4,14 @@ use mathlib.Core.Bool.{true, cond}
 use lib.Dec.{eqb}
 use mathlib.Core.Path.{◌≡◌, refl, sym, ap}
 use mathlib.Core.Logic.{◌≢◌}
-use mathlib.Core.List.{List, [], ◌∷◌}
+use mathlib.Core.List.{List, []}
 use native.Mathlib.Omega.{arith}
 use lib.ListN.{length, replicate}
 use borrow.Author.Tests.{eq-eqb, ne_eqb}
-use types.Run.{OneOf}
-use denote.Enum.Declared
 use Rattle.theory.specs.Figure.{minimum_early}
 use Rattle.plan.specs.Answer.{refuse, granted}
 use Rattle.plan.specs.declared.Answer.{Answer}
-use Rattle.book_view.specs.View.{plan_seen, book_seen}
+use Rattle.book.specs.View.{plan_view, book_view}
 use Rattle.book.specs.Early.{figure_of}
 use Rattle.book.specs.Sound.{is_sound}
 use Rattle.book.specs.declared.Figure.{Figure}
@@ -22,17 +20,16 @@ use Rattle.book.specs.Report.{reported_of}
 use Rattle.book.specs.Drop.{dropped_of}
 use Rattle.book.specs.declared.Book.{Book}
 use Rattle.book.specs.declared.BookResult.{BookResult}
-use Rattle.log_read.specs.declared.Entry.{Entry}
-use Rattle.log_read.specs.declared.Entry.TheVariants.{End, Drop, Refused}
-use Rattle.log_read.specs.contracts.Entry.{the_type}
+use Rattle.log_read.specs.Said.{Entry}
+use Rattle.log_read.specs.Said.Entry.{End, Drop, Refused}
 use Rattle.log_run.specs.Log.{shown_after, told_of}
 use Rattle.log_run.specs.declared.StepOutcome.{StepOutcome}
 use Rattle.log_write.specs.Lines.{Lined, refused_line}
 use Rattle.log_write.specs.Private.Wrote.{Wrote}
 use Rattle.log_run.specs.Lines.{run_line, early_line}
-use Rattle.log_run.specs.Private.Writes.{starting, starts_in, started, opened_in, Short, Named, lines_in, lines_most, told_in, told_most}
+use Rattle.log_run.specs.Private.Writes.{starting, starts_in, started, opened_in, Named, lines_in, lines_most, told_in, told_most}
 use Rattle.log_run.proofs.StartLaws.{count-below}
-use Rattle.log_write.proofs.WriteLaws.{also, looser, nothing, wrote-length, wrote-line}
+use Rattle.log_write.proofs.WriteLaws.{also, looser, wrote-length, wrote-line}
 
 -- ---- the figure shown
 
@@ -42,7 +39,7 @@ module _ (code : ℕ) (book : Book) where
 
   pub early-granted :
       code ≡ 0 → is_sound book ≡ true → {early : ℕ}
-      → early ≡ minimum_early (plan_seen book.tasks book.ready book.begin [] []) (book_seen book.mark book.start [] book.dropped book.clock)
+      → early ≡ minimum_early (plan_view book) (book_view book)
       → early ≡ cond (eqb code 0) (figure_of book).early 0
   early-granted z h e =
       let f = ap (λ (x : Figure). x.early) (figure-granted book (sym h) {answer = granted} refl refl e) in
@@ -69,9 +66,6 @@ module _ (n : ℕ) (book : Book) {e : Entry} where
   unfolding told_of
   tell-refused p q = rw (p, q)
 
-pub short-column : {e : Entry} {code column : ℕ} → e ≡ Refused code column → Short e → column < 4294967296
-short-column p h = rw p at h
-
 -- ---- the task that is named
 
 module _ {e : Entry} {task tasks : ℕ} where
@@ -87,13 +81,6 @@ lines-short (Drop task) tasks h n = omega arith
 lines-short (Refused code column) tasks h n = omega arith
 
 -- ---- the lines
-
-pub lines_none :
-    {out : List ℕ} {from : ℕ} (old : List ℕ) (book : Book) (e : Entry) → OneOf (2 ∷ []) (Declared.tag_of the_type e)
-    → Wrote out from (lines_in e old book) (lines_most e (started old book)) out from
-lines_none old book (End task tick) t = absurd (omega arith)
-lines_none old book (Drop task) t = absurd (omega arith)
-lines_none {out} {from} old book (Refused code column) t = nothing out from 0
 
 module _ {out : List ℕ} {from : ℕ} (fits : from + 3432 ≤ length out) (e : Entry) (old : List ℕ) (told : StepOutcome) {m : List ℕ} {p : ℕ} where
   pub told-no : told.answer.code ≢ 0 → Lined out from (refused_line told.answer) 41 m p → Wrote out from (told_in e old told) (told_most e old told) m p

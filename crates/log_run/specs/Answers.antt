@@ -5,8 +5,8 @@ use Rattle.plan.specs.declared.Plan.{Plan}
 use Rattle.book.specs.Open.{opening_of}
 use Rattle.book.specs.declared.Book.{Book}
 use Rattle.book.specs.declared.Rule.{Rule}
-use Rattle.log_read.specs.declared.Entry.{Entry}
-use Rattle.log_read.specs.declared.Entry.TheVariants.{End, Drop, Refused}
+use Rattle.log_read.specs.Said.{Entry}
+use Rattle.log_read.specs.Said.Entry.{End, Drop, Refused}
 use Rattle.log_write.specs.Lines.{refused_line}
 use Rattle.log_run.specs.Log.{open_log, told_of, told_log}
 use Rattle.log_run.specs.declared.LogResult.{LogResult}

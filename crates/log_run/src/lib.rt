@@ -10,6 +10,7 @@ ghost use Rattle.std.specs.Prelude.{◌≡◌, ◌≤◌, length};
 ghost use Rattle.std.proofs.lemmas.List.Edits.{sets};
 ghost use Rattle.plan.specs.Read.{reading_of};
 ghost use Rattle.book.specs.Open.{opening_of};
+ghost use Rattle.log_read.specs.Said.{chosen};
 ghost use Rattle.log_read.specs.Rules.{choice_of};
 ghost use Rattle.log_write.specs.Private.Wrote.{Wrote};
 ghost use Rattle.log_run.specs.Log.{chosen_log, log_most, log_in};
@@ -47,13 +48,12 @@ pub struct LogResult {
 }
 
 // The rule that a book is opened by.
-fn rule_of(choice: Choice) -> Rule
-    ensures { result ≡ rule_of choice }
+fn rule_of(choice: &Result<Choice, usize>) -> Rule
+    ensures { result ≡ rule_of (chosen choice.now) }
 {
     match choice {
-        Choice::Unsaid => Rule::EarlyStart,
-        Choice::Chosen => Rule::Clash,
-        Choice::Malformed(_) => Rule::EarlyStart,
+        Ok(Choice::Chosen) => Rule::Clash,
+        Ok(Choice::Unsaid) | Err(_) => Rule::EarlyStart,
     }
 }
 
@@ -79,14 +79,14 @@ fn run_chosen(plan: &Plan, ends: &[u8], out: &mut [u8]) -> usize
     ensures { Wrote out.old 0 (chosen_log (choice_of ends.now) plan.now ends.now) log_most out.new result }
 {
     let choice = choose(ends);
-    let opening = open(plan, rule_of(choice));
+    let opening = open(plan, rule_of(&choice));
     let said = opening.answer;
     let early = early_after(said.code, &opening.book);
     let at = put_opened(out, &opening.book, early);
     match choice {
-        Choice::Unsaid => put_ends(out, at, &opening.book, 1, ends),
-        Choice::Chosen => put_ends(out, at, &opening.book, 2, part_after(ends, LF)),
-        Choice::Malformed(column) => put_refused(out, at, 3, 1, column as u32),
+        Ok(Choice::Unsaid) => put_ends(out, at, &opening.book, 1, ends),
+        Ok(Choice::Chosen) => put_ends(out, at, &opening.book, 2, part_after(ends, LF)),
+        Err(column) => put_refused(out, at, 3, 1, column as u32),
     }
 }
 

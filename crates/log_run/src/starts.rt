@@ -18,10 +18,7 @@ pub(crate) fn put_starts(out: &mut [u8], at: usize, old: &[u8; 64], book: &Book)
     let begin = book.begin;
     let start = book.start;
     let mut place = at;
-    let mut number = 0;
-    while number < book.tasks as usize {
-        let i = number;
-        number += 1;
+    for i in 0..book.tasks as usize {
         if (old[i] != 0) | (mark[i] == 0) {
             continue;
         }
@@ -29,7 +26,7 @@ pub(crate) fn put_starts(out: &mut [u8], at: usize, old: &[u8; 64], book: &Book)
             out,
             place,
             dropped[i],
-            number as u32,
+            i as u32 + 1,
             board[i],
             begin[i],
             start[i],

@@ -1,23 +1,24 @@
 // What a line of ends.txt is answered, and what it prints; likewise of opening.
 ghost use Rattle.std.specs.Prelude.{◌≡◌, cond, eqb, true, ◌+◌, ◌*◌, ◌<◌, ◌≤◌, min, length};
-ghost use Rattle.book.specs.Drop.{dropped_of};
 ghost use Rattle.book.specs.Early.{figure_of};
 ghost use Rattle.plan.specs.Answer.{refuse};
 ghost use Rattle.book.specs.Sound.{is_sound};
+ghost use Rattle.log_read.specs.Said.{said};
 ghost use Rattle.log_write.specs.Private.Wrote.{Wrote};
 ghost use Rattle.log_run.specs.Answers.{within};
 ghost use Rattle.log_run.specs.Log.{shown_after, told_of};
-ghost use Rattle.log_run.specs.Private.Writes.{started, opened_in, ended_in, Short, Named, lines_in, lines_most, told_in, told_most};
+ghost use Rattle.log_run.specs.Private.Writes.{started, opened_in, ended_in, Named, lines_in, lines_most, told_in, told_most};
 
 use crate::StepOutcome;
 use crate::starts::put_starts;
-use book::{Book, report_in_place};
+use book::{Book, drop_in_place, report_in_place};
 use book_codes::least_early;
 use log_read::Entry;
 use log_write::{put_drop, put_early, put_end, put_refused, put_run};
 use plan::{Answer, refuse};
+use text_fields::Fault;
 
-// Who is answered by 0 hands on a sound book, so it is not judged again for its figure.
+// What is answered by 0 has a sound book, so the book is not judged again for its figure.
 pub(crate) fn early_after(code: u32, book: &Book) -> u32
     requires { code ≡ 0 → is_sound book.now ≡ true }
     ensures { result ≡ cond (eqb code 0) (figure_of book.now).early 0 }
@@ -25,15 +26,7 @@ pub(crate) fn early_after(code: u32, book: &Book) -> u32
     if code != 0 {
         return 0;
     }
-    least_early(
-        &book.ready,
-        &book.begin,
-        &book.start,
-        &book.mark,
-        &book.dropped,
-        book.clock,
-        book.tasks,
-    )
+    least_early(&book.view())
 }
 
 // The answer to a step that is made, beside the book after it.
@@ -46,74 +39,52 @@ fn show(told: &mut StepOutcome, answer: Answer)
     told.early = early;
 }
 
-fn drop_in_place(book: &mut Book, task: u32) -> Answer
-    ensures { dropped_of book.old task ≡ record { answer = result; book = book.new } }
+// The answer to a line with this fault: a column past 32 bits is told as the greatest number.
+fn refused(line: u32, fault: &Fault) -> Answer
+    ensures { result ≡ refuse fault.now.code line (min fault.now.column 4294967295) }
 {
-    let before = *book;
-    let dropped = before.drop(task);
-    *book = dropped.book;
-    dropped.answer
+    let column = fault.column.min(u32::MAX as usize);
+    refuse(u32::from(fault.code), line, column as u32)
 }
 
 // The step is made where the book stands, so that the stack holds one.
-pub(crate) fn tell_in_place(line: u32, told: &mut StepOutcome, entry: Entry)
-    requires { Short entry }
-    ensures { told.new ≡ told_of line told.old.book entry }
+pub(crate) fn tell_in_place(line: u32, told: &mut StepOutcome, entry: &Result<Entry, Fault>)
+    ensures { told.new ≡ told_of line told.old.book (within (said entry.now)) }
 {
     match entry {
-        Entry::End(task, tick) => {
-            let answer = report_in_place(&mut told.book, task, tick);
+        Ok(Entry::End(task, tick)) => {
+            let answer = report_in_place(&mut told.book, *task, *tick);
             show(told, answer);
         }
-        Entry::Drop(task) => {
-            let answer = drop_in_place(&mut told.book, task);
+        Ok(Entry::Drop(task)) => {
+            let answer = drop_in_place(&mut told.book, *task);
             show(told, answer);
         }
-        Entry::Refused(code, column) => {
-            told.answer = refuse(code, line, column as u32);
+        Err(fault) => {
+            told.answer = refused(line, fault);
             told.early = 0;
         }
     }
 }
 
-pub(crate) fn tell(line: u32, book: Book, entry: Entry) -> StepOutcome
-    requires { Short entry }
-    ensures { result ≡ told_of line book entry }
+// A book that was told nothing yet.
+pub(crate) fn untold(book: &Book) -> StepOutcome
+    ensures { result ≡ record { answer = refuse 0 0 0; book = book.now; early = 0 } }
 {
-    let mut told = StepOutcome {
+    StepOutcome {
         answer: refuse(0, 0, 0),
-        book,
+        book: *book,
         early: 0,
-    };
+    }
+}
+
+// What a line is answered.
+pub fn tell_entry(line: u32, book: &Book, entry: &Result<Entry, Fault>) -> StepOutcome
+    ensures { result ≡ told_of line book.now (within (said entry.now)) }
+{
+    let mut told = untold(book);
     tell_in_place(line, &mut told, entry);
     told
-}
-
-fn low(column: usize) -> usize
-    ensures { result ≡ min column 4294967295 }
-{
-    if column < 4294967295 {
-        return column;
-    }
-    4294967295
-}
-
-// An entry that can be answered, whatever its column.
-pub(crate) fn shortened(entry: Entry) -> Entry
-    ensures { result ≡ within entry }
-{
-    match entry {
-        Entry::End(task, tick) => Entry::End(task, tick),
-        Entry::Drop(task) => Entry::Drop(task),
-        Entry::Refused(code, column) => Entry::Refused(code, low(column)),
-    }
-}
-
-// What a line is answered, for any entry.
-pub fn tell_entry(line: u32, book: Book, entry: Entry) -> StepOutcome
-    ensures { result ≡ told_of line book (within entry) }
-{
-    tell(line, book, shortened(entry))
 }
 
 // Opened: the `run` line, the starts that are known then, and an `early` line.
@@ -137,14 +108,20 @@ fn put_ended(out: &mut [u8], at: usize, task: u32, old: &[u8; 64], book: &Book) 
 }
 
 // The lines that an accepted entry causes, but for the last.
-fn put_lines(out: &mut [u8], at: usize, entry: Entry, old: &[u8; 64], book: &Book) -> usize
-    requires { (at + 3380 ≤ length out.old) × Named entry book.now.tasks }
-    ensures { Wrote out.old at (lines_in entry old.now book.now) (lines_most entry (started old.now book.now)) out.new result }
+fn put_lines(
+    out: &mut [u8],
+    at: usize,
+    entry: &Result<Entry, Fault>,
+    old: &[u8; 64],
+    book: &Book,
+) -> usize
+    requires { (at + 3380 ≤ length out.old) × Named (within (said entry.now)) book.now.tasks }
+    ensures { Wrote out.old at (lines_in (within (said entry.now)) old.now book.now) (lines_most (within (said entry.now)) (started old.now book.now)) out.new result }
 {
     match entry {
-        Entry::End(task, _) => put_ended(out, at, task, old, book),
-        Entry::Drop(task) => put_drop(out, at, task, book.board[(task - 1) as usize]),
-        Entry::Refused(_, _) => at,
+        Ok(Entry::End(task, _)) => put_ended(out, at, *task, old, book),
+        Ok(Entry::Drop(task)) => put_drop(out, at, *task, book.board[(*task - 1) as usize]),
+        Err(_) => at,
     }
 }
 
@@ -152,12 +129,12 @@ fn put_lines(out: &mut [u8], at: usize, entry: Entry, old: &[u8; 64], book: &Boo
 pub(crate) fn put_told(
     out: &mut [u8],
     at: usize,
-    entry: Entry,
+    entry: &Result<Entry, Fault>,
     old: &[u8; 64],
     told: &StepOutcome,
 ) -> usize
-    requires { (at + 3432 ≤ length out.old) × (told.now.answer.code ≡ 0 → Named entry told.now.book.tasks) }
-    ensures { Wrote out.old at (told_in entry old.now told.now) (told_most entry old.now told.now) out.new result }
+    requires { (at + 3432 ≤ length out.old) × (told.now.answer.code ≡ 0 → Named (within (said entry.now)) told.now.book.tasks) }
+    ensures { Wrote out.old at (told_in (within (said entry.now)) old.now told.now) (told_most (within (said entry.now)) old.now told.now) out.new result }
 {
     let answer = told.answer;
     if answer.code != 0 {

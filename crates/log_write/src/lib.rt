@@ -8,7 +8,6 @@ ghost use Rattle.log_write.specs.Lines.{numbers_line, run_by, task_line, start_w
 ghost use Rattle.log_write.specs.Private.Wrote.{Wrote};
 ghost use Rattle.log_write.specs.Short.{line_to, short_to, short_line};
 
-use text::decimal::wide;
 use text::part::TAB;
 use text::put::{put_byte, put_number, put_text};
 
@@ -18,25 +17,15 @@ pub const LINE_MOST: usize = 52;
 // No answer to one line is longer: 64 lines, and some.
 pub const ANSWER_MOST: usize = 3432;
 
-// Ticks early against plan: no task of a sound book is late.
-fn early_by(planned: u32, actual: u32) -> u32
-    ensures { result ≡ planned - actual }
-{
-    if planned <= actual {
-        return 0;
-    }
-    planned - actual
-}
-
 // A word and numbers, a tab before each number, and the end of the line.
 fn put_within(out: &mut [u8], at: usize, word: &[u8], numbers: &[u32], end: &[u8]) -> usize
     requires { (length word.now ≤ 7) × (length end.now + 11 * length numbers.now ≤ 45) × (at + 52 ≤ length out.old) }
     ensures { Wrote out.old at (line_to end.now word.now numbers.now) (7 + length end.now + 11 * length numbers.now) out.new result }
 {
     let mut place = put_text(out, at, word);
-    for i in 0..numbers.len() {
+    for number in numbers {
         let after_tab = put_byte(out, place, TAB);
-        place = put_number(out, after_tab, numbers[i]);
+        place = put_number(out, after_tab, *number);
     }
     put_text(out, place, end)
 }
@@ -45,13 +34,7 @@ fn put_within(out: &mut [u8], at: usize, word: &[u8], numbers: &[u32], end: &[u8
 fn is_short(end: usize, numbers: usize) -> bool
     ensures { result ≡ leb (end + 11 * numbers) 45 }
 {
-    if 45 < end {
-        return false;
-    }
-    if 4 < numbers {
-        return false;
-    }
-    end + 11 * numbers <= 45
+    end <= 45 && numbers <= 4 && end + 11 * numbers <= 45
 }
 
 // A line that ends in `end`; nothing is written of one that could be longer than LINE_MOST.
@@ -59,16 +42,10 @@ fn is_short(end: usize, numbers: usize) -> bool
 pub fn put_line_to(out: &mut [u8], at: usize, word: &[u8], numbers: &[u32], end: &[u8]) -> usize
     ensures { Lined out.old at (short_to end.now word.now numbers.now) (7 + length end.now + 11 * length numbers.now) out.new result }
 {
-    if 7 < word.len() {
+    if word.len() > 7 || !is_short(end.len(), numbers.len()) {
         return at;
     }
-    if !is_short(end.len(), numbers.len()) {
-        return at;
-    }
-    if out.len() < LINE_MOST {
-        return at;
-    }
-    if out.len() - LINE_MOST < at {
+    if out.len() < LINE_MOST || out.len() - LINE_MOST < at {
         return at;
     }
     put_within(out, at, word, numbers, end)
@@ -87,18 +64,18 @@ pub fn put_refused(out: &mut [u8], at: usize, code: u32, first: u32, second: u32
     put_line(out, at, b"refused", &[code, first, second])
 }
 
-// By the clash rule the line names it last.
+// By the clash rule the line names it last. The rule is a book's byte, which may be any (C interface).
 pub fn put_run(out: &mut [u8], at: usize, rule: u8, boards: u8, tasks: u8) -> usize
     ensures { Lined out.old at (run_by rule boards tasks) 47 out.new result }
 {
     if rule == 0 {
-        return put_line(out, at, b"run", &[1, wide(boards), wide(tasks)]);
+        return put_line(out, at, b"run", &[1, u32::from(boards), u32::from(tasks)]);
     }
     put_line_to(
         out,
         at,
         b"run",
-        &[2, wide(boards), wide(tasks)],
+        &[2, u32::from(boards), u32::from(tasks)],
         b"\tclash\n",
     )
 }
@@ -112,7 +89,7 @@ pub fn put_early(out: &mut [u8], at: usize, clock: u32, early: u32) -> usize
 pub fn put_drop(out: &mut [u8], at: usize, task: u32, board: u8) -> usize
     ensures { Lined out.old at (numbers_line (bytes "drop") (task ∷ board ∷ [])) 30 out.new result }
 {
-    put_line(out, at, b"drop", &[task, wide(board)])
+    put_line(out, at, b"drop", &[task, u32::from(board)])
 }
 
 // A `start`, `skip` or `end` line.
@@ -128,8 +105,9 @@ fn put_task(
     requires { length word.now ≤ 7 }
     ensures { Lined out.old at (task_line word.now task board planned actual) 52 out.new result }
 {
-    let early = early_by(planned, actual);
-    put_line(out, at, word, &[task, wide(board), actual, early])
+    // No task of a sound book is late.
+    let early = planned.saturating_sub(actual);
+    put_line(out, at, word, &[task, u32::from(board), actual, early])
 }
 
 pub fn put_end(out: &mut [u8], at: usize, task: u32, board: u8, planned: u32, actual: u32) -> usize
@@ -138,7 +116,7 @@ pub fn put_end(out: &mut [u8], at: usize, task: u32, board: u8, planned: u32, ac
     put_task(out, at, b"end", task, board, planned, actual)
 }
 
-// A dropped task's start is its skip.
+// A dropped task's start is its skip. `dropped` is a book's byte, which may be any (C interface).
 pub fn put_start(
     out: &mut [u8],
     at: usize,

@@ -8,3 +8,4 @@ pub mod Write
 pub mod Convert
 pub mod Words
 pub mod Private
+pub mod View

@@ -1,8 +1,10 @@
 // A plan as a value, and what reading and writing it answer.
 #![tactic(auto)]
 
-ghost use Rattle.std.specs.Prelude.{◌≡◌, min};
+ghost use Rattle.std.specs.Prelude.{◌≡◌, ◌+◌, ◌*◌, ◌<◌, ◌≤◌, min, length};
 ghost use Rattle.plan.specs.Answer.{refuse};
+ghost use Rattle.plan.specs.Value.{row};
+ghost use Rattle.plan.specs.View.{viewed};
 
 // The refusal number and the table's two numbers; all 0 where nothing is refused.
 #[repr(C)]
@@ -61,4 +63,68 @@ pub struct Reading {
 pub struct WriteResult {
     pub answer: Answer,
     pub length: u32,
+}
+
+// A plan where it stands, in a plan or in a book, so that asking about it copies nothing.
+#[derive(Clone, Copy)]
+pub struct PlanView<'a> {
+    pub edition: u8,
+    pub boards: u8,
+    pub tasks: u8,
+    pub board: &'a [u8; 64],
+    pub ready: &'a [u32; 64],
+    pub begin: &'a [u32; 64],
+    pub finish: &'a [u32; 64],
+    pub holds: &'a [u8; 2048],
+    pub after: &'a [u8; 4096],
+}
+
+// The places of one row; none where the list has no such row.
+fn row_of<'a>(width: usize, list: &'a [u8], k: usize) -> &'a [u8]
+    requires { (width ≤ 64) × (k < 64) × (width * k + width ≤ length list.now) }
+    ensures { result.now ≡ row width list.now k }
+{
+    &list[width * k..width * k + width]
+}
+
+impl PlanView<'_> {
+    // The places of task k's holds; none past the 64th task.
+    pub fn holds_of(&self, k: usize) -> &[u8]
+        ensures { result.now ≡ row 32 self.now.holds.now k }
+    {
+        let holds = self.holds;
+        if k < 64 {
+            return row_of(32, holds, k);
+        }
+        &holds[2048..]
+    }
+
+    // The places of the tasks that task k comes after.
+    pub fn after_of(&self, k: usize) -> &[u8]
+        ensures { result.now ≡ row 64 self.now.after.now k }
+    {
+        let after = self.after;
+        if k < 64 {
+            return row_of(64, after, k);
+        }
+        &after[4096..]
+    }
+}
+
+impl Plan {
+    pub fn view(&self) -> PlanView<'_>
+        ensures { viewed result ≡ self.now }
+    {
+        PlanView {
+            edition: self.edition,
+            boards: self.boards,
+            tasks: self.tasks,
+            board: &self.board,
+            ready: &self.ready,
+            begin: &self.begin,
+            finish: &self.finish,
+            holds: &self.holds,
+            after: &self.after,
+        }
+    }
 }

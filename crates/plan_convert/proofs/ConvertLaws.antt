@@ -2,13 +2,13 @@
 use Prim.Native.Nat.{ℕ, ◌≤◌, ◌<◌}
 use mathlib.Core.Path.{◌≡◌, sym, ap, ◌∙◌}
 use mathlib.Core.Logic.{◌≢◌}
-use mathlib.Core.Bool.{Bool, true, false, not, ◌&&◌}
+use mathlib.Core.Bool.{Bool, true, false, ◌&&◌}
 use mathlib.Core.List.{List, map}
 use native.Mathlib.Omega.{arith}
 use lib.Dec.{eqb}
 use lib.ListN.{length}
 use lib.Seq.{sets}
-use borrow.Author.Tests.{eq-eqb, ne_eqb, not-true, not-false, lt-leb, le-leb, le-ltb}
+use borrow.Author.Tests.{eq-eqb, ne_eqb, lt-leb, le-leb, le-ltb}
 use Rattle.laws.proofs.Cases.{by_bool, by-eq}
 use Rattle.laws.specs.Lists.{same}
 use Rattle.laws.specs.Split.{before, skip_on}
@@ -34,14 +34,14 @@ use Rattle.plan_convert.specs.Renewed.{renewed_text, text_most, renewed_in}
 -- ---- the converter
 
 module _ (plan : Plan) {accepted : Bool} (a : accepted ≡ is_accepted plan) where
-  pub convert-not : not (accepted && eqb plan.edition 1) ≡ true → {r : Reading} → r ≡ record { answer = refuse 9 0 0; plan = zero_plan } → r ≡ converted_of plan
+  pub convert-not : (accepted && eqb plan.edition 1) ≡ false → {r : Reading} → r ≡ record { answer = refuse 9 0 0; plan = zero_plan } → r ≡ converted_of plan
   convert-not h e =
-      let n : may plan ≡ false = rw a at (not-true (accepted && eqb plan.edition 1) h) in e ∙ sym (converted-refused plan n)
+      let n : may plan ≡ false = rw a at h in e ∙ sym (converted-refused plan n)
 
-  module _ (h : not (accepted && eqb plan.edition 1) ≡ false) {holds : List ℕ} (m : holds ≡ map exclusive plan.holds) {said : Answer}
+  module _ (h : (accepted && eqb plan.edition 1) ≡ true) {holds : List ℕ} (m : holds ≡ map exclusive plan.holds) {said : Answer}
       (j : said ≡ judged_answer (plan_with 2 plan.boards plan.tasks plan.board plan.ready plan.begin plan.finish holds plan.after)) where
     yes : may plan ≡ true
-    yes = rw a at (not-false (accepted && eqb plan.edition 1) h)
+    yes = rw a at h
 
     plan-made : ◌≡◌ {A = Plan} (plan_with 2 plan.boards plan.tasks plan.board plan.ready plan.begin plan.finish holds plan.after) (exclusive_plan plan)
     unfolding exclusive_plan
@@ -70,23 +70,23 @@ module _ (s : List ℕ) {first : Bool} (f : first ≡ same (field (before LF s) 
   unfolding skip_on
   its-first = f
 
-  pub renew-mended : not first ≡ true → {mended : Reading} → mended ≡ mended_of s → mended ≡ renewed_of s
+  pub renew-mended : first ≡ false → {mended : Reading} → mended ≡ mended_of s → mended ≡ renewed_of s
   unfolding renewed_of
-  renew-mended n m = m ∙ rw (sym its-first ∙ not-true first n)
+  renew-mended n m = m ∙ rw (sym its-first ∙ n)
 
-  module _ (one : not first ≡ false) {read : Reading} (r : read ≡ reading_of s) where
+  module _ (one : first ≡ true) {read : Reading} (r : read ≡ reading_of s) where
     pub renew-refused : read.answer.code ≢ 0 → read ≡ renewed_of s
     unfolding renewed_of
     renew-refused n =
         let n' : (reading_of s).answer.code ≢ 0 = rw r at n in
-        r ∙ rw (sym its-first ∙ not-false first one, ne_eqb (reading_of s).answer.code 0 n')
+        r ∙ rw (sym its-first ∙ one, ne_eqb (reading_of s).answer.code 0 n')
 
     pub renew-converted : read.answer.code ≡ 0 → {made : Reading} → made ≡ converted_of read.plan → made ≡ renewed_of s
     unfolding renewed_of
     renew-converted z e =
         let z' : (reading_of s).answer.code ≡ 0 = rw r at z in
         e ∙ ap (λ (x : Reading). converted_of x.plan) r
-        ∙ rw (sym its-first ∙ not-false first one, eq-eqb (reading_of s).answer.code 0 z')
+        ∙ rw (sym its-first ∙ one, eq-eqb (reading_of s).answer.code 0 z')
 
 -- what it gives is accepted
 pub renewed-accepted : (s : List ℕ) → (renewed_of s).answer.code ≡ 0 → is_accepted (renewed_of s).plan ≡ true

@@ -20,42 +20,17 @@ use text_fields::list::make_exclusive;
 pub fn convert(mut plan: Plan) -> Reading
     ensures { result ≡ converted_of plan }
 {
-    let accepted = is_accepted(
-        plan.edition,
-        plan.boards,
-        plan.tasks,
-        &plan.board,
-        &plan.ready,
-        &plan.begin,
-        &plan.finish,
-        &plan.holds,
-        &plan.after,
-    );
+    let accepted = is_accepted(&plan.view());
     if !(accepted & (plan.edition == 1)) {
         return refused(refuse(9, 0, 0));
     }
-    let mut holds = plan.holds;
-    make_exclusive(&mut holds);
     plan.edition = 2;
-    plan.holds = holds;
-    let judged = judge_plan(
-        2,
-        plan.boards,
-        plan.tasks,
-        &plan.board,
-        &plan.ready,
-        &plan.begin,
-        &plan.finish,
-        &plan.holds,
-        &plan.after,
-    );
-    if judged.code != 0 {
-        return refused(judged);
+    make_exclusive(&mut plan.holds);
+    let answer = judge_plan(&plan.view());
+    if answer.code != 0 {
+        return refused(answer);
     }
-    Reading {
-        answer: judged,
-        plan,
-    }
+    Reading { answer, plan }
 }
 
 // The first line says which of the two calls is the text's.
@@ -66,8 +41,7 @@ fn renew(text: &[u8]) -> Reading
         return read_exclusive(text);
     }
     let read = read_plan(text);
-    let first = read.answer;
-    if first.code != 0 {
+    if read.answer.code != 0 {
         return read;
     }
     convert(read.plan)
@@ -85,6 +59,5 @@ pub fn convert_text(text: &[u8], out: &mut [u8]) -> usize
     if said.code != 0 {
         return put_refused(out, 0, said.code, said.first, said.second);
     }
-    let written = write_plan(renewed.plan, out);
-    written.length as usize
+    write_plan(renewed.plan, out).length as usize
 }

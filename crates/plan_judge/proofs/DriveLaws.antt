@@ -4,7 +4,7 @@ use native.Mathlib.Nat.{one-mul}
 use mathlib.Core.Path.{◌≡◌, refl, sym, ap, ◌∙◌}
 use mathlib.Core.Bool.{Bool, true, false, not, cond, ◌&&◌, ◌||◌, and-true, and-false}
 use mathlib.Core.List.{List, [], ◌∷◌}
-use mathlib.Core.Logic.{⊎_elim}
+use mathlib.Core.Logic.{◌≢◌, ⊎_elim}
 use native.Mathlib.Omega.{arith}
 use lib.Bits.{bit_and}
 use lib.Pow.{pow_pos, pow-lt, shl_exact}
@@ -170,15 +170,16 @@ module _ (x : ℕ) {bit : ℕ} (e : bit ≡ cond (is_drive x) (2 ^ (drive_of x -
   pub held-bit : ItsBit 32 (on_drive is_any) x bit
   held-bit = record { small = small-bit; bits = λ d l. its-bits d l ∙ sym (and-true (eqb (drive_of x) (d + 1))) }
 
-  -- the bit that is kept where the hold is exclusive
-  pub exclusive-bit : {own : ℕ} → own ≡ cond (is_exclusive x) bit 0 → ItsBit 32 (on_drive is_exclusive) x own
-  exclusive-bit f =
-      by_bool (is_exclusive x)
-      (λ t. record {
-        small = rw (f, t) small-bit;
-        bits = λ d l. rw (f, t) (its-bits d l ∙ sym (and-true (eqb (drive_of x) (d + 1))));
-      })
-      (λ t. record {
-        small = rw (f, t) (pow_pos 32);
-        bits = λ d l. rw (f, t) (has-none d ∙ sym (and-false (eqb (drive_of x) (d + 1))));
-      })
+  -- the bit of an exclusive hold
+  pub kept-bit : x % 2 ≢ 1 → ItsBit 32 (on_drive is_exclusive) x bit
+  kept-bit n = record {
+    small = small-bit;
+    bits = λ d l. rw (ne_eqb (x % 2) 1 n) (its-bits d l ∙ sym (and-true (eqb (drive_of x) (d + 1))));
+  }
+
+  -- a shared hold has none
+  pub no-bit : x % 2 ≡ 1 → ItsBit 32 (on_drive is_exclusive) x 0
+  no-bit s = record {
+    small = pow_pos 32;
+    bits = λ d l. rw (eq-eqb (x % 2) 1 s) (has-none d ∙ sym (and-false (eqb (drive_of x) (d + 1))));
+  }

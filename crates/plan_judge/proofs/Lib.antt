@@ -1,4 +1,5 @@
 pub mod DriveLaws
+pub mod FaultLaws
 pub mod ItemLaws
 pub mod OrderLaws
 pub mod PairLaws

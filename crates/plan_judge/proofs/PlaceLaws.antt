@@ -1,22 +1,22 @@
 -- Places that have nothing or one of the 32 drives.
 use Prim.Native.Nat.{ℕ, ◌+◌, ◌*◌, ◌≤◌, ◌<◌}
 use mathlib.Core.Path.{◌≡◌, refl, sym, ◌∙◌}
-use mathlib.Core.Bool.{Bool, true, false, not, ◌&&◌}
+use mathlib.Core.Bool.{Bool, true, false, ◌&&◌}
 use mathlib.Core.List.{List, [], ◌∷◌}
 use lib.Dec.{eqb}
 use lib.ListN.{length, get_or, drop}
-use borrow.Author.Tests.{not-true, not-false}
 use Rattle.laws.specs.Lists.{all_of}
 use Rattle.laws.specs.Split.{index_of, before}
 use Rattle.laws.proofs.Cases.{by_bool, and_l, and_r, and-of}
 use Rattle.laws.proofs.Lists.{all-turn, all_end, all_drop, all_take}
 use Rattle.text_fields.specs.Items.{between}
 use Rattle.plan.specs.Answer.{refuse}
-use Rattle.plan.specs.Judged.{tasks_answer}
 use Rattle.plan.specs.declared.Answer.{Answer}
 use Rattle.plan.specs.Private.Drives.{is_drive, RowsInRange}
 use Rattle.plan.proofs.PlanTasks.{between-facts}
-use Rattle.plan_judge.specs.Tasks.{tasks_in, is_place, tasks_judged}
+use Rattle.plan.specs.declared.Plan.{Plan}
+use Rattle.plan_judge.specs.Tasks.{is_place, tasks_judged, judged_alone}
+use Rattle.plan_judge.proofs.ValueLaws.{judged_in}
 
 -- what is gathered so far and the rest make the whole
 abbrev pub PlacesRest : List ℕ → ℕ → Bool → Type 0
@@ -49,25 +49,25 @@ items-drives (x ∷ l) h =
     rw z
     (and-of (let own = and_l (is_place x) (all_of is_place l) h in rw z at own) (items-drives l (and_r (is_place x) (all_of is_place l) h))))
 
-module _ (board begin finish holds after : List ℕ) (tasks : ℕ) {ok : Bool} (e : ok ≡ (between 1 64 tasks && all_of is_place holds)) where
-  pub tasks-nine : not ok ≡ true → refuse 9 0 0 ≡ tasks_judged tasks board begin finish holds after
+module _ (plan : Plan) {ok : Bool} (e : ok ≡ (between 1 64 plan.tasks && all_of is_place plan.holds)) where
+  pub tasks-nine : ok ≡ false → refuse 9 0 0 ≡ judged_alone plan
   unfolding tasks_judged
-  tasks-nine h = rw (sym e ∙ not-true ok h)
+  tasks-nine h = rw (sym e ∙ h)
 
-  module _ (yes : not ok ≡ false) where
-    fine : (between 1 64 tasks && all_of is_place holds) ≡ true
-    fine = sym e ∙ not-false ok yes
+  module _ (yes : ok ≡ true) where
+    fine : (between 1 64 plan.tasks && all_of is_place plan.holds) ≡ true
+    fine = sym e ∙ yes
 
-    pub tasks-in-range : (0 < tasks) × RowsInRange holds tasks
+    pub tasks-in-range : (0 < plan.tasks) × RowsInRange plan.holds plan.tasks
     tasks-in-range =
-        let few = between-facts 1 64 tasks (and_l (between 1 64 tasks) (all_of is_place holds) fine) in (
+        let few = between-facts 1 64 plan.tasks (and_l (between 1 64 plan.tasks) (all_of is_place plan.holds) fine) in (
           few.0,
           record {
             few = few.1;
-            range = λ k l. items-drives _ (all_take is_place 32 (drop (32 * k) holds) (all_drop is_place (32 * k) holds (and_r (between 1 64 tasks) (all_of is_place holds) fine)));
+            range = λ k l. items-drives _ (all_take is_place 32 (drop (32 * k) plan.holds) (all_drop is_place (32 * k) plan.holds (and_r (between 1 64 plan.tasks) (all_of is_place plan.holds) fine)));
           },
         )
 
-    pub tasks-judged : {r : Answer} → r ≡ tasks_answer tasks (tasks_in board begin finish holds after) → r ≡ tasks_judged tasks board begin finish holds after
+    pub tasks-judged : {r : Answer} → r ≡ judged_in plan → r ≡ judged_alone plan
     unfolding tasks_judged
     tasks-judged q = q ∙ rw fine

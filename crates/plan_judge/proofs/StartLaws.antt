@@ -11,9 +11,10 @@ use Rattle.plan.specs.Answer.{refuse}
 use Rattle.plan.specs.Pairs.{first_fault}
 use Rattle.plan.specs.Judged.{tasks_answer}
 use Rattle.plan.specs.Value.{at}
-use Rattle.plan_judge.specs.Tasks.{tasks_in}
+use Rattle.plan.specs.declared.Plan.{Plan}
 use Rattle.plan.specs.declared.Answer.{Answer}
 use Rattle.plan.proofs.Judged.{start-zero, start-late, tasks-late, tasks-pairs}
+use Rattle.plan_judge.specs.Private.Arrays.{tasks_of}
 use Rattle.plan_judge.specs.Private.Starts.{least_in}
 
 -- v is the least of the first k
@@ -31,17 +32,15 @@ least-next begin k v h e = rw (add-one, h, e)
 pub least-out : (begin : List ℕ) (n k v : ℕ) → LeastTo begin k v → k ≡ n → v ≡ least_in begin n
 least-out begin n k v h e = rw (sym e, h)
 
-module _ (board begin finish holds after : List ℕ) (tasks : ℕ) {first : ℕ} (f : first ≡ least_in begin tasks) where
+module _ (plan : Plan) {first : ℕ} (f : first ≡ least_in plan.begin plan.tasks) where
   -- 17 where the least planned start is not 0
-  pub answered-late : first ≢ 0 → refuse 17 first 0 ≡ tasks_answer tasks (tasks_in board begin finish holds after)
+  pub answered-late : first ≢ 0 → refuse 17 first 0 ≡ tasks_answer plan.tasks (tasks_of plan)
   answered-late n =
-      let task = tasks_in board begin finish holds after in
-      ap (λ (x : ℕ). refuse 17 x 0) f ∙ sym (tasks-late tasks task (start-late tasks task (λ z. n (f ∙ z))))
+      ap (λ (x : ℕ). refuse 17 x 0) f ∙ sym (tasks-late plan.tasks (tasks_of plan) (start-late plan.tasks (tasks_of plan) (λ z. n (f ∙ z))))
 
   -- else the first faulty pair
   pub answered-pairs :
-      0 < tasks → first ≡ 0 → {r : Answer} → r ≡ first_fault tasks (tasks_in board begin finish holds after)
-      → r ≡ tasks_answer tasks (tasks_in board begin finish holds after)
+      0 < plan.tasks → first ≡ 0 → {r : Answer} → r ≡ first_fault plan.tasks (tasks_of plan)
+      → r ≡ tasks_answer plan.tasks (tasks_of plan)
   answered-pairs some-task z e =
-      let task = tasks_in board begin finish holds after in
-      e ∙ sym (tasks-pairs tasks task (start-zero tasks task some-task (sym f ∙ z)))
+      e ∙ sym (tasks-pairs plan.tasks (tasks_of plan) (start-zero plan.tasks (tasks_of plan) some-task (sym f ∙ z)))

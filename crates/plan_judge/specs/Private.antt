@@ -1,3 +1,4 @@
 pub mod Arrays
 pub mod Drives
+pub mod Faults
 pub mod Starts

@@ -7,6 +7,7 @@ use Rattle.plan.specs.Judged.{tasks_answer}
 use Rattle.plan.specs.Task.{Task, task_of}
 use Rattle.plan.specs.Value.{at, row, items}
 use Rattle.plan.specs.declared.Answer.{Answer}
+use Rattle.plan.specs.declared.Plan.{Plan}
 
 -- the tasks that arrays hold, whose ready ticks no pair looks at
 abbrev pub tasks_in : List ℕ → List ℕ → List ℕ → List ℕ → List ℕ → ℕ → Task
@@ -21,3 +22,7 @@ is_place h = eqb h 0 || between 1 32 (drive_of h)
 unfoldable pub tasks_judged : ℕ → List ℕ → List ℕ → List ℕ → List ℕ → List ℕ → Answer
 tasks_judged tasks board begin finish holds after =
     cond (between 1 64 tasks && all_of is_place holds) (tasks_answer tasks (tasks_in board begin finish holds after)) (refuse 9 0 0)
+
+-- the tasks of a plan, whose ranges are not looked at
+abbrev pub judged_alone : Plan → Answer
+judged_alone plan = tasks_judged plan.tasks plan.board plan.begin plan.finish plan.holds plan.after

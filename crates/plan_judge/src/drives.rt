@@ -6,6 +6,7 @@ ghost use Rattle.plan.specs.Value.{row, items};
 ghost use Rattle.plan_judge.specs.Private.Drives.{sets_of, PairInRange};
 
 use crate::Sets;
+use plan::PlanView;
 
 // The bit of the hold's drive; a drive that is not of the 32 has none. The test is of the hold: one comparison.
 fn drive_bit(hold: u8) -> u32
@@ -17,44 +18,31 @@ fn drive_bit(hold: u8) -> u32
     0
 }
 
-fn bit_if(kept: bool, bit: u32) -> u32
-    ensures { result ≡ cond kept bit 0 }
-{
-    if kept {
-        return bit;
-    }
-    0
-}
-
 // Both sets of a list, in one walk up to its first 0.
 fn gather(list: &[u8]) -> Sets
     ensures { result ≡ sets_of (items list.now) }
 {
     let mut exclusive: u32 = 0;
     let mut held: u32 = 0;
-    let mut i = 0;
-    while i < list.len() {
-        let h = list[i];
-        if h == 0 {
+    for h in list {
+        if *h == 0 {
             return Sets { exclusive, held };
         }
-        let bit = drive_bit(h);
-        exclusive = exclusive | bit_if(!(h % 2 == 1), bit);
-        held = held | bit;
-        i += 1;
+        let bit = drive_bit(*h);
+        held |= bit;
+        if *h % 2 != 1 {
+            exclusive |= bit;
+        }
     }
     Sets { exclusive, held }
 }
 
 // Do two tasks hold a common drive, at least one of them exclusively?
-pub(crate) fn clash_by_drive(holds: &[u8; 2048], a: usize, b: usize) -> bool
-    requires { PairInRange holds.now a b }
-    ensures { result ≡ clash_by_drive (items (row 32 holds.now a)) (items (row 32 holds.now b)) }
+pub(crate) fn clash_by_drive(plan: &PlanView<'_>, a: usize, b: usize) -> bool
+    requires { PairInRange plan.now.holds.now a b }
+    ensures { result ≡ clash_by_drive (items (row 32 plan.now.holds.now a)) (items (row 32 plan.now.holds.now b)) }
 {
-    let all = &holds[..];
-    let s = 32 * a;
-    let t = 32 * b;
-    let these = gather(&all[s..s + 32]);
-    let those = gather(&all[t..t + 32]);
+    let these = gather(plan.holds_of(a));
+    let those = gather(plan.holds_of(b));
     (these.exclusive & those.held != 0) | (these.held & those.exclusive != 0)
 }

@@ -3,7 +3,10 @@ ghost use Rattle.std.specs.Prelude.{◌≡◌, ◌<◌, ◌≤◌};
 ghost use Rattle.laws.specs.Every.{every};
 ghost use Rattle.laws.specs.Lists.{any_of};
 ghost use Rattle.plan.specs.Value.{items};
+ghost use Rattle.plan.specs.View.{viewed};
 ghost use Rattle.plan_judge.specs.Private.Arrays.{is_late, row_in_order};
+
+use plan::PlanView;
 
 // A number past 64 names no task: the pairs are then searched in full.
 fn is_late(finish: &[u32; 64], tick: u32, number: u8) -> bool
@@ -17,49 +20,33 @@ fn is_late(finish: &[u32; 64], tick: u32, number: u8) -> bool
 }
 
 // Is one of the listed tasks planned to finish past the tick?
-fn lists_late<'a>(list: &'a [u8], finish: &'a [u32; 64], tick: u32) -> bool
+fn lists_late(list: &[u8], finish: &[u32; 64], tick: u32) -> bool
     ensures { result ≡ any_of (is_late finish.now tick) (items list.now) }
 {
-    let mut i = 0;
-    while i < list.len() {
-        let n = list[i];
-        if n == 0 {
+    for n in list {
+        if *n == 0 {
             return false;
         }
-        if is_late(finish, tick, n) {
+        if is_late(finish, tick, *n) {
             return true;
         }
-        i += 1;
     }
     false
 }
 
-fn row_in_order<'a>(
-    begin: &'a [u32; 64],
-    finish: &'a [u32; 64],
-    after: &'a [u8; 4096],
-    k: usize,
-) -> bool
+fn row_in_order(plan: &PlanView<'_>, k: usize) -> bool
     requires { k < 64 }
-    ensures { result ≡ row_in_order begin.now finish.now after.now k }
+    ensures { result ≡ row_in_order (viewed plan.now) k }
 {
-    let all = &after[..];
-    let s = 64 * k;
-    let tick = begin[k];
-    !lists_late(&all[s..s + 64], finish, tick)
+    !lists_late(plan.after_of(k), plan.finish, plan.begin[k])
 }
 
-pub(crate) fn in_order<'a>(
-    begin: &'a [u32; 64],
-    finish: &'a [u32; 64],
-    after: &'a [u8; 4096],
-    tasks: usize,
-) -> bool
-    requires { tasks ≤ 64 }
-    ensures { result ≡ every tasks (row_in_order begin.now finish.now after.now) }
+pub(crate) fn in_order(plan: &PlanView<'_>) -> bool
+    requires { plan.now.tasks ≤ 64 }
+    ensures { result ≡ every plan.now.tasks (row_in_order (viewed plan.now)) }
 {
-    for k in 0..tasks {
-        if !row_in_order(begin, finish, after, k) {
+    for k in 0..plan.tasks as usize {
+        if !row_in_order(plan, k) {
             return false;
         }
     }

@@ -17,7 +17,7 @@ use Rattle.laws.specs.Every.{every}
 use Rattle.text_fields.specs.Items.{between, drive_of, is_shared, has_shared, holds_ok, after_ok}
 use Rattle.text_fields.specs.Private.Lettered.{key_of}
 use Rattle.plan.specs.Task.{numbers_ok}
-use Rattle.plan.specs.Value.{at, row, items, plan_with, blank_from, is_trimmed, kept_ok, past_blank, ranges_ok, task_at}
+use Rattle.plan.specs.Value.{at, row, items, blank_from, is_trimmed, kept_ok, past_blank, ranges_ok, task_at}
 use Rattle.plan.specs.declared.Plan.{Plan}
 use Rattle.plan_ranges.specs.Private.Kept.{numbers_in, list_in, shared_in, holds_in}
 
@@ -73,25 +73,22 @@ untrimmed edition rises l =
     (λ t. rw (trimmed-shared l t))
     (λ t. rw (t, and_no rises))
 
-pub kept-is :
-    (edition boards tasks : ℕ) (board ready begin finish holds after : List ℕ) (k : ℕ)
-    → kept_ok (plan_with edition boards tasks board ready begin finish holds after) k
-    ≡ (numbers_in edition boards board ready begin finish k && lists_in edition tasks holds after k)
+pub kept-is : (plan : Plan) (k : ℕ) → kept_ok plan k ≡ (numbers_in plan k && lists_in plan.edition plan.tasks plan.holds plan.after k)
 unfolding kept_ok holds_ok after_ok key_of
-kept-is edition boards tasks board ready begin finish holds after k =
-    let row_of : List ℕ = row 32 holds k in
-    rw (rises-is drive_of 32 (items row_of), rises-is (λ n. n) tasks (items (row 64 after k)))
+kept-is plan k =
+    let row_of : List ℕ = row 32 plan.holds k in
+    rw (rises-is drive_of 32 (items row_of), rises-is (λ n. n) plan.tasks (items (row 64 plan.after k)))
     (regroup
-    (numbers_ok boards (task_at (plan_with edition boards tasks board ready begin finish holds after) k))
+    (numbers_ok plan.boards (task_at plan k))
     (rises_from drive_of 32 0 (items row_of))
-    (rises_from (λ n. n) tasks 0 (items (row 64 after k)))
-    (eqb edition 2)
+    (rises_from (λ n. n) plan.tasks 0 (items (row 64 plan.after k)))
+    (eqb plan.edition 2)
     (has_shared (items row_of))
-    (eqb (at ready k) 0)
+    (eqb (at plan.ready k) 0)
     (is_trimmed row_of)
-    (is_trimmed (row 64 after k)))
-    ∙ ap (λ (b : Bool). numbers_in edition boards board ready begin finish k && (b && list_in false tasks (row 64 after k)))
-    (untrimmed edition (rises_from drive_of 32 0 (items row_of)) row_of)
+    (is_trimmed (row 64 plan.after k)))
+    ∙ ap (λ (b : Bool). numbers_in plan k && (b && list_in false plan.tasks (row 64 plan.after k)))
+    (untrimmed plan.edition (rises_from drive_of 32 0 (items row_of)) row_of)
 
 -- the sizes that are tested first
 abbrev sizes_in : ℕ → ℕ → ℕ → Bool

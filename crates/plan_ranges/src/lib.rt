@@ -1,38 +1,27 @@
 // The ranges and rules that the numbers and lists of a plan keep that is handed in as a value, whatever its arrays hold.
 #![tactic(auto)]
 
-ghost use Rattle.std.specs.Prelude.{◌≡◌, true, false, ◌&&◌, ◌<◌, ◌≤◌};
+ghost use Rattle.std.specs.Prelude.{◌≡◌, true, false, ◌&&◌, ◌<◌, ◌≤◌, drop};
 ghost use Rattle.laws.specs.Every.{every};
+ghost use Rattle.laws.specs.Lists.{all_of};
 ghost use Rattle.laws.specs.Private.Rise.{rises_from};
 ghost use Rattle.text_fields.specs.Private.Lettered.{key_of};
-ghost use Rattle.plan.specs.Value.{row, items, blank_from, is_trimmed, plan_with, kept_ok, past_blank, ranges_ok};
+ghost use Rattle.plan.specs.Value.{row, items, blank_from, is_trimmed, kept_ok, past_blank, ranges_ok};
+ghost use Rattle.plan.specs.View.{viewed};
 ghost use Rattle.plan_ranges.specs.Private.Kept.{numbers_in, list_in, shared_in, holds_in};
 
+use plan::PlanView;
 use text::decimal::NUMBER_MOST;
 use text::part::find;
 use text_fields::list::has_shared;
 
-// Nothing is kept from place n on. A walk that gathers to its end can use wide instructions.
-pub fn blank_bytes(list: &[u8], n: usize) -> bool
-    ensures { result ≡ blank_from n list.now }
+// From place n on a list keeps nothing else. A walk that gathers to its end can use wide instructions.
+pub fn is_blank<T: Copy + PartialEq>(nothing: T, list: &[T], n: usize) -> bool
+    ensures { result ≡ all_of (T.eq nothing) (drop n list.now) }
 {
     let mut all = true;
-    let mut i = n;
-    while i < list.len() {
-        all = (list[i] == 0) & all;
-        i += 1;
-    }
-    all
-}
-
-pub fn blank_ticks(list: &[u32], n: usize) -> bool
-    ensures { result ≡ blank_from n list.now }
-{
-    let mut all = true;
-    let mut i = n;
-    while i < list.len() {
-        all = (list[i] == 0) & all;
-        i += 1;
+    for i in n..list.len() {
+        all = (nothing == list[i]) & all;
     }
     all
 }
@@ -51,9 +40,7 @@ fn rises(list: &[u8], drives: bool, high: u8) -> bool
     ensures { result ≡ rises_from (key_of drives) high 0 (items list.now) }
 {
     let mut last: u8 = 0;
-    let mut i = 0;
-    while i < list.len() {
-        let x = list[i];
+    for &x in list {
         if x == 0 {
             return true;
         }
@@ -62,7 +49,6 @@ fn rises(list: &[u8], drives: bool, high: u8) -> bool
             return false;
         }
         last = k;
-        i += 1;
     }
     true
 }
@@ -71,24 +57,17 @@ fn rises(list: &[u8], drives: bool, high: u8) -> bool
 fn list_ok(list: &[u8], drives: bool, high: u8) -> bool
     ensures { result ≡ (rises_from (key_of drives) high 0 (items list.now) && is_trimmed list.now) }
 {
-    rises(list, drives, high) & blank_bytes(list, find(list, 0))
+    rises(list, drives, high) & is_blank(0, list, find(list, 0))
 }
 
-fn numbers_ok<'a>(
-    edition: u8,
-    boards: u8,
-    board: &'a [u8; 64],
-    ready: &'a [u32; 64],
-    begin: &'a [u32; 64],
-    finish: &'a [u32; 64],
-    k: usize,
-) -> bool
+fn numbers_ok(plan: &PlanView<'_>, k: usize) -> bool
     requires { k < 64 }
-    ensures { result ≡ numbers_in edition boards board.now ready.now begin.now finish.now k }
+    ensures { result ≡ numbers_in (viewed plan.now) k }
 {
-    let times = (begin[k] < finish[k]) & (finish[k] <= NUMBER_MOST);
-    let board_ok = (1 <= board[k]) & (board[k] <= boards);
-    (board_ok & ((ready[k] <= begin[k]) & times)) & ((edition == 2) | (ready[k] == 0))
+    let times = (plan.begin[k] < plan.finish[k]) & (plan.finish[k] <= NUMBER_MOST);
+    let board_ok = (1 <= plan.board[k]) & (plan.board[k] <= plan.boards);
+    let ready_ok = (plan.edition == 2) | (plan.ready[k] == 0);
+    (board_ok & ((plan.ready[k] <= plan.begin[k]) & times)) & ready_ok
 }
 
 // Edition 2 no longer takes a shared hold.
@@ -98,106 +77,60 @@ fn shared_ok(edition: u8, list: &[u8]) -> bool
     (edition != 2) | !has_shared(list)
 }
 
-fn holds_ok(edition: u8, holds: &[u8; 2048], k: usize) -> bool
+fn holds_ok(plan: &PlanView<'_>, k: usize) -> bool
     requires { k < 64 }
-    ensures { result ≡ holds_in edition (row 32 holds.now k) }
+    ensures { result ≡ holds_in plan.now.edition (row 32 plan.now.holds.now k) }
 {
-    let all = &holds[..];
-    let s = 32 * k;
-    let list = &all[s..s + 32];
-    list_ok(list, true, 32) & shared_ok(edition, list)
+    let list = plan.holds_of(k);
+    list_ok(list, true, 32) & shared_ok(plan.edition, list)
 }
 
-fn after_ok(tasks: u8, after: &[u8; 4096], k: usize) -> bool
+fn after_ok(plan: &PlanView<'_>, k: usize) -> bool
     requires { k < 64 }
-    ensures { result ≡ list_in false tasks (row 64 after.now k) }
+    ensures { result ≡ list_in false plan.now.tasks (row 64 plan.now.after.now k) }
 {
-    let all = &after[..];
-    let s = 64 * k;
-    list_ok(&all[s..s + 64], false, tasks)
+    list_ok(plan.after_of(k), false, plan.tasks)
 }
 
-fn task_ok<'a>(
-    edition: u8,
-    boards: u8,
-    tasks: u8,
-    board: &'a [u8; 64],
-    ready: &'a [u32; 64],
-    begin: &'a [u32; 64],
-    finish: &'a [u32; 64],
-    holds: &'a [u8; 2048],
-    after: &'a [u8; 4096],
-    k: usize,
-) -> bool
+fn task_ok(plan: &PlanView<'_>, k: usize) -> bool
     requires { k < 64 }
-    ensures { result ≡ kept_ok (plan_with edition boards tasks board.now ready.now begin.now finish.now holds.now after.now) k }
+    ensures { result ≡ kept_ok (viewed plan.now) k }
 {
-    numbers_ok(edition, boards, board, ready, begin, finish, k)
-        & (holds_ok(edition, holds, k) & after_ok(tasks, after, k))
+    numbers_ok(plan, k) & (holds_ok(plan, k) & after_ok(plan, k))
 }
 
-fn all_kept<'a>(
-    edition: u8,
-    boards: u8,
-    tasks: u8,
-    board: &'a [u8; 64],
-    ready: &'a [u32; 64],
-    begin: &'a [u32; 64],
-    finish: &'a [u32; 64],
-    holds: &'a [u8; 2048],
-    after: &'a [u8; 4096],
-) -> bool
-    requires { tasks ≤ 64 }
-    ensures { result ≡ every tasks (kept_ok (plan_with edition boards tasks board.now ready.now begin.now finish.now holds.now after.now)) }
+fn all_kept(plan: &PlanView<'_>) -> bool
+    requires { plan.now.tasks ≤ 64 }
+    ensures { result ≡ every plan.now.tasks (kept_ok (viewed plan.now)) }
 {
-    let n = tasks as usize;
-    for k in 0..n {
-        if !task_ok(
-            edition, boards, tasks, board, ready, begin, finish, holds, after, k,
-        ) {
+    for k in 0..plan.tasks as usize {
+        if !task_ok(plan, k) {
             return false;
         }
     }
     true
 }
 
-fn past_blank<'a>(
-    tasks: u8,
-    board: &'a [u8; 64],
-    ready: &'a [u32; 64],
-    begin: &'a [u32; 64],
-    finish: &'a [u32; 64],
-    holds: &'a [u8; 2048],
-    after: &'a [u8; 4096],
-) -> bool
-    requires { tasks ≤ 64 }
-    ensures { result ≡ past_blank (plan_with 0 0 tasks board.now ready.now begin.now finish.now holds.now after.now) }
+fn past_blank(plan: &PlanView<'_>) -> bool
+    requires { plan.now.tasks ≤ 64 }
+    ensures { result ≡ past_blank (viewed plan.now) }
 {
-    let n = tasks as usize;
-    let lists = blank_bytes(holds, 32 * n) & blank_bytes(after, 64 * n);
-    let planned = blank_ticks(begin, n) & (blank_ticks(finish, n) & lists);
-    blank_bytes(board, n) & (blank_ticks(ready, n) & planned)
+    let n = plan.tasks as usize;
+    let (board, ready, begin) = (plan.board, plan.ready, plan.begin);
+    let (finish, holds, after) = (plan.finish, plan.holds, plan.after);
+    let lists = is_blank(0, holds, 32 * n) & is_blank(0, after, 64 * n);
+    let planned = is_blank(0, begin, n) & (is_blank(0, finish, n) & lists);
+    is_blank(0, board, n) & (is_blank(0, ready, n) & planned)
 }
 
-// The test of ranges of a plan, by its parts.
-pub fn keeps_ranges<'a>(
-    edition: u8,
-    boards: u8,
-    tasks: u8,
-    board: &'a [u8; 64],
-    ready: &'a [u32; 64],
-    begin: &'a [u32; 64],
-    finish: &'a [u32; 64],
-    holds: &'a [u8; 2048],
-    after: &'a [u8; 4096],
-) -> bool
-    ensures { result ≡ ranges_ok (plan_with edition boards tasks board.now ready.now begin.now finish.now holds.now after.now) }
+// The test of ranges of a plan, where it stands.
+pub fn keeps_ranges(plan: &PlanView<'_>) -> bool
+    ensures { result ≡ ranges_ok (viewed plan.now) }
 {
-    let sizes = ((1 <= boards) & (boards <= 8)) & ((1 <= tasks) & (tasks <= 64));
-    if !(((1 <= edition) & (edition <= 2)) & sizes) {
+    let sizes = ((1 <= plan.boards) & (plan.boards <= 8))
+        & ((1 <= plan.tasks) & (plan.tasks <= 64));
+    if !(((1 <= plan.edition) & (plan.edition <= 2)) & sizes) {
         return false;
     }
-    all_kept(
-        edition, boards, tasks, board, ready, begin, finish, holds, after,
-    ) & past_blank(tasks, board, ready, begin, finish, holds, after)
+    all_kept(plan) & past_blank(plan)
 }

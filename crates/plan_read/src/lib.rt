@@ -52,14 +52,7 @@ fn read_in(text: &[u8], mends: bool) -> Reading
     if said.code != 0 {
         return lines;
     }
-    let fault = judge_tasks(
-        &lines.plan.board,
-        &lines.plan.begin,
-        &lines.plan.finish,
-        &lines.plan.holds,
-        &lines.plan.after,
-        lines.plan.tasks,
-    );
+    let fault = judge_tasks(&lines.plan.view());
     if fault.code != 0 {
         return refused(fault);
     }

@@ -1,14 +1,14 @@
 -- The parts of a plan text, measured and written.
-use Prim.Native.Nat.{ℕ, zero, suc, ◌+◌, ◌-◌, ◌*◌, ◌/◌, ◌≤◌, ◌<◌}
+use Prim.Native.Nat.{ℕ, zero, suc, ◌+◌, ◌*◌, ◌/◌, ◌≤◌, ◌<◌}
 use mathlib.Core.Path.{◌≡◌, refl, sym, ap, ◌∙◌}
-use mathlib.Core.Bool.{Bool, true, false, not, cond}
+use mathlib.Core.Bool.{Bool, true, false, cond}
 use mathlib.Core.List.{List, [], ◌∷◌, ◌++◌, map, append_assoc, append-nil}
 use native.Mathlib.Omega.{arith}
 use native.Mathlib.Numerals.{add-one}
-use lib.ListN.{length, get_or, take, drop, drop_of_length-le, length-append, length-take}
+use lib.ListN.{length, get_or, drop, drop_of_length-le, length-append, length-take}
 use lib.Seq.{length-sets, drop-cons}
 use lib.Dec.{eqb}
-use borrow.Author.Tests.{eq-eqb, ne_eqb, le-ltb, lt-ltb, not-true, not-false}
+use borrow.Author.Tests.{eq-eqb, ne_eqb, le-ltb, lt-ltb}
 use Rattle.laws.proofs.Cases.{by-eq}
 use Rattle.laws.specs.Digits.{digits_of}
 use Rattle.laws.specs.Split.{index_of, join_on}
@@ -21,27 +21,34 @@ use Rattle.plan.specs.Value.{row, items, task_at, is_accepted}
 use Rattle.plan.proofs.Judged.{accepted-ranges}
 use Rattle.plan.proofs.PlanTasks.{ranges-kept}
 use Rattle.plan.specs.Write.{sizes_text, fields_from, task_text, task_texts, text_of, write_answer, written_of, buffer_after}
-use Rattle.plan_write.specs.Private.WriteParts.{item_text, number_field, list_field, ready_field, numbers_text, Measured, Room, Wrote, answered, Answered}
+use Rattle.plan.specs.Answer.{refuse}
+use Rattle.plan_write.specs.Private.WriteParts.{item_text, number_field, list_field, ready_field, numbers_text, Measured, Room, Wrote, Answered}
 use Rattle.plan.specs.declared.Plan.{Plan}
 use Rattle.plan.specs.declared.WriteResult.{WriteResult}
+use Rattle.plan_write.specs.declared.Listed.{Listed}
+use Rattle.plan_write.specs.declared.Listed.TheVariants.{Holds, Tasks}
 use Rattle.plan_write.proofs.RunLaws.{nothing, Left, joined, two, all_left, next-room, turn, parted, done}
+
+-- the writer's answer, and the length of what it wrote
+abbrev answered : ℕ → ℕ → ℕ → WriteResult
+answered code first size = record { answer = refuse code first 0; length = size }
 
 -- ---- the items of a list
 
-module _ (lettered : Bool) (x : ℕ) where
+module _ (listed : Listed) (x : ℕ) where
   pub letter-item :
-      {b d : ℕ} → lettered ≡ true → b ≡ cond (is_shared x) 115 101 → d ≡ x / 2
-      → item_text lettered x ≡ joined ((b ∷ []) ∷ digits_of d ∷ [])
+      {b d : ℕ} → listed ≡ Holds → b ≡ cond (is_shared x) 115 101 → d ≡ x / 2
+      → item_text listed x ≡ joined ((b ∷ []) ∷ digits_of d ∷ [])
   unfolding joined
   letter-item {b} {d} e p q = rw (e, p, q) (simp append-nil)
 
-  pub letter-length : {d : ℕ} → lettered ≡ true → d ≡ x / 2 → length (item_text lettered x) ≡ 1 + length (digits_of d)
+  pub letter-length : {d : ℕ} → listed ≡ Holds → d ≡ x / 2 → length (item_text listed x) ≡ 1 + length (digits_of d)
   letter-length e q = rw (e, q) (omega arith)
 
-  pub plain-length : {n : ℕ} → lettered ≡ false → n ≡ x → length (item_text lettered x) ≡ length (digits_of n)
+  pub plain-length : {n : ℕ} → listed ≡ Tasks → n ≡ x → length (item_text listed x) ≡ length (digits_of n)
   plain-length e p = rw (e, p)
 
-  pub plain-item : {n : ℕ} → lettered ≡ false → n ≡ x → item_text lettered x ≡ joined (digits_of n ∷ [])
+  pub plain-item : {n : ℕ} → listed ≡ Tasks → n ≡ x → item_text listed x ≡ joined (digits_of n ∷ [])
   unfolding joined
   plain-item e p = rw (e, p) (simp append-nil)
 
@@ -99,10 +106,6 @@ module _ (text : ℕ → List ℕ) where
       pub len-end : length l ≤ i → n ≡ x
       len-end h = omega (arith, rest, ap length (later-end l i h))
 
-pub part-items :
-    (start width : ℕ) (l : List ℕ) → items (take (start + width - start) (drop start l)) ≡ items (take width (drop start l))
-part-items start width l = let e : start + width - start ≡ width = omega arith in rw e
-
 pub few-items : (width k : ℕ) (l : List ℕ) → width ≤ 64 → length (items (row width l k)) ≤ 64
 few-items width k l h =
     omega
@@ -111,18 +114,24 @@ few-items width k l h =
 -- ---- lines
 
 pub numbers-text :
-    (edition number board ready begin finish : ℕ)
-    → numbers_text edition number board ready begin finish
-    ≡ joined (number_field number TAB ∷ number_field board TAB ∷ ready_field edition ready ∷ number_field begin TAB ∷ number_field finish TAB ∷ [])
+    (edition number : ℕ) (task : Task)
+    → numbers_text edition number task
+    ≡ joined
+    (number_field number TAB
+    ∷ number_field task.board TAB
+    ∷ ready_field edition task.ready
+    ∷ number_field task.begin TAB
+    ∷ number_field task.finish TAB
+    ∷ [])
 unfolding numbers_text joined
-numbers-text edition number board ready begin finish = simp append-nil
+numbers-text edition number task = simp append-nil
 
 abbrev task_parts : ℕ → ℕ → Task → List (List ℕ)
 task_parts edition number task =
     (116 ∷ 97 ∷ 115 ∷ 107 ∷ 9 ∷ [])
-    ∷ numbers_text edition number task.board task.ready task.begin task.finish
-    ∷ list_field true task.holds TAB
-    ∷ list_field false task.after LF
+    ∷ numbers_text edition number task
+    ∷ list_field Holds task.holds TAB
+    ∷ list_field Tasks task.after LF
     ∷ []
 
 pub task-text : (edition number : ℕ) (task : Task) → task_text edition number task ≡ joined (task_parts edition number task)
@@ -139,8 +148,8 @@ task-text edition number task = go (eqb edition 2)
         ∷ (number_field number TAB
         ++ (number_field task.board TAB
         ++ (cond stands (number_field task.ready TAB) [] ++ (number_field task.begin TAB ++ number_field task.finish TAB))))
-        ∷ list_field true task.holds TAB
-        ∷ list_field false task.after LF
+        ∷ list_field Holds task.holds TAB
+        ∷ list_field Tasks task.after LF
         ∷ [])
     go true = simp (append_assoc, append-nil)
     go false = simp (append_assoc, append-nil)
@@ -165,16 +174,16 @@ module _ (edition ready : ℕ) where
   ready-none n = rw (ne_eqb edition 2 n)
 
 pub numbers-length :
-    (edition number board ready begin finish : ℕ)
-    → length (numbers_text edition number board ready begin finish)
+    (edition number : ℕ) (task : Task)
+    → length (numbers_text edition number task)
     ≡ length (digits_of number)
-    + length (digits_of board)
-    + length (ready_field edition ready)
-    + length (digits_of begin)
-    + length (digits_of finish)
+    + length (digits_of task.board)
+    + length (ready_field edition task.ready)
+    + length (digits_of task.begin)
+    + length (digits_of task.finish)
     + 4
 unfolding numbers_text
-numbers-length edition number board ready begin finish = simp length-append (omega arith)
+numbers-length edition number task = simp length-append (omega arith)
 
 pub sizes-length :
     (edition boards tasks : ℕ) {e b t : ℕ} → e ≡ edition → b ≡ boards → t ≡ tasks
@@ -186,7 +195,7 @@ pub task-length :
     (edition number : ℕ) (task : Task)
     → length (task_text edition number task)
     ≡ 7
-    + length (numbers_text edition number task.board task.ready task.begin task.finish)
+    + length (numbers_text edition number task)
     + length (holds_text task.holds)
     + length (after_text task.after)
 unfolding joined
@@ -249,18 +258,18 @@ module _ (plan : Plan) where
   unfolding text_of
   text-length = length-append head body
 
-  pub yes-accepted : {accepted : Bool} → accepted ≡ is_accepted plan → not accepted ≡ false → is_accepted plan ≡ true
-  yes-accepted {accepted} e h = sym e ∙ not-false accepted h
+  pub yes-accepted : {accepted : Bool} → accepted ≡ is_accepted plan → accepted ≡ true → is_accepted plan ≡ true
+  yes-accepted e h = sym e ∙ h
 
   pub few_tasks : is_accepted plan ≡ true → plan.tasks ≤ 64
   few_tasks ok = (ranges-kept plan (accepted-ranges plan ok)).tasks.1
 
   module _ (out : List ℕ) where
     pub nine :
-        {accepted : Bool} {r : WriteResult} → accepted ≡ is_accepted plan → not accepted ≡ true → r ≡ answered 9 0 0
+        {accepted : Bool} {r : WriteResult} → accepted ≡ is_accepted plan → accepted ≡ false → r ≡ answered 9 0 0
         → Answered plan out r out
     unfolding written_of buffer_after write_answer
-    nine {accepted} e h q = let f : is_accepted plan ≡ false = sym e ∙ not-true accepted h in (q ∙ rw f, rw f)
+    nine {accepted} e h q = let f : is_accepted plan ≡ false = sym e ∙ h in (q ∙ rw f, rw f)
 
     module _ (ok : is_accepted plan ≡ true) {x y m n : ℕ} (p : Measured head x m) (q : Measured body y n) where
       pub sixteen : {r : WriteResult} → length out < m + n → r ≡ answered 16 (m + n) 0 → Answered plan out r out

@@ -1,13 +1,14 @@
 // The parts of a plan text written, where the caller has seen that there is room. Each answers the place after its text.
-ghost use Rattle.std.specs.Prelude.{◌≡◌, true, false, cond, ◌∷◌, ◌+◌, ◌*◌, ◌<◌, ◌≤◌};
+ghost use Rattle.std.specs.Prelude.{◌≡◌, cond, ◌∷◌, ◌+◌, ◌<◌, ◌≤◌};
 ghost use Rattle.text_fields.specs.Items.{COMMA, is_shared, list_text};
-ghost use Rattle.plan.specs.Value.{items};
+ghost use Rattle.plan.specs.Value.{task_at};
+ghost use Rattle.plan.specs.View.{viewed};
 ghost use Rattle.plan.specs.Write.{sizes_text, task_text, task_texts};
-ghost use Rattle.plan_write.specs.Private.WriteParts.{tasks_in, item_text, number_field, list_field, ready_field, numbers_text, Room, Wrote};
+ghost use Rattle.plan_write.specs.Private.WriteParts.{item_text, number_field, list_field, ready_field, numbers_text, Room, Wrote};
 
-use crate::measure::items_at;
-use text::decimal::wide;
-use text::part::{LF, TAB};
+use crate::Listed;
+use plan::PlanView;
+use text::part::{LF, TAB, part_before};
 use text::put::{put_byte, put_number, put_text};
 
 const COMMA: u8 = b',';
@@ -29,45 +30,47 @@ fn letter(hold: u8) -> u8
     b'e'
 }
 
-fn put_item(out: &mut [u8], at: usize, lettered: bool, x: u8) -> usize
-    requires { Room out.old at (item_text lettered x) }
-    ensures { Wrote out.old at (item_text lettered x) out.new result }
+fn put_item(out: &mut [u8], at: usize, listed: Listed, x: u8) -> usize
+    requires { Room out.old at (item_text listed x) }
+    ensures { Wrote out.old at (item_text listed x) out.new result }
 {
-    if lettered {
-        let next = put_byte(out, at, letter(x));
-        return put_number(out, next, wide(x / 2));
+    match listed {
+        Listed::Holds => {
+            let next = put_byte(out, at, letter(x));
+            put_number(out, next, u32::from(x / 2))
+        }
+        Listed::Tasks => put_number(out, at, u32::from(x)),
     }
-    put_number(out, at, wide(x))
 }
 
 // An item that is not the first stands after a comma.
-fn put_next_item(out: &mut [u8], at: usize, lettered: bool, x: u8) -> usize
-    requires { Room out.old at (COMMA ∷ item_text lettered x) }
-    ensures { Wrote out.old at (COMMA ∷ item_text lettered x) out.new result }
+fn put_next_item(out: &mut [u8], at: usize, listed: Listed, x: u8) -> usize
+    requires { Room out.old at (COMMA ∷ item_text listed x) }
+    ensures { Wrote out.old at (COMMA ∷ item_text listed x) out.new result }
 {
     let next = put_byte(out, at, COMMA);
-    put_item(out, next, lettered, x)
+    put_item(out, next, listed, x)
 }
 
-fn put_items(out: &mut [u8], at: usize, items: &[u8], lettered: bool) -> usize
-    requires { Room out.old at (list_text (item_text lettered) items.now) }
-    ensures { Wrote out.old at (list_text (item_text lettered) items.now) out.new result }
+fn put_items(out: &mut [u8], at: usize, items: &[u8], listed: Listed) -> usize
+    requires { Room out.old at (list_text (item_text listed) items.now) }
+    ensures { Wrote out.old at (list_text (item_text listed) items.now) out.new result }
 {
     if items.len() == 0 {
         return put_byte(out, at, b'-');
     }
-    let mut place = put_item(out, at, lettered, items[0]);
+    let mut place = put_item(out, at, listed, items[0]);
     for i in 1..items.len() {
-        place = put_next_item(out, place, lettered, items[i]);
+        place = put_next_item(out, place, listed, items[i]);
     }
     place
 }
 
-fn put_list_field(out: &mut [u8], at: usize, items: &[u8], lettered: bool, end: u8) -> usize
-    requires { Room out.old at (list_field lettered items.now end) }
-    ensures { Wrote out.old at (list_field lettered items.now end) out.new result }
+fn put_list_field(out: &mut [u8], at: usize, items: &[u8], listed: Listed, end: u8) -> usize
+    requires { Room out.old at (list_field listed items.now end) }
+    ensures { Wrote out.old at (list_field listed items.now end) out.new result }
 {
-    let next = put_items(out, at, items, lettered);
+    let next = put_items(out, at, items, listed);
     put_byte(out, next, end)
 }
 
@@ -81,87 +84,46 @@ fn put_ready(out: &mut [u8], at: usize, edition: u8, ready: u32) -> usize
     at
 }
 
-fn put_numbers(
-    out: &mut [u8],
-    at: usize,
-    edition: u8,
-    number: u32,
-    board: u32,
-    ready: u32,
-    begin: u32,
-    finish: u32,
-) -> usize
-    requires { Room out.old at (numbers_text edition number board ready begin finish) }
-    ensures { Wrote out.old at (numbers_text edition number board ready begin finish) out.new result }
+fn put_numbers(out: &mut [u8], at: usize, plan: &PlanView<'_>, k: usize) -> usize
+    requires { (k < 64) × Room out.old at (numbers_text plan.now.edition (k + 1) (task_at (viewed plan.now) k)) }
+    ensures { Wrote out.old at (numbers_text plan.now.edition (k + 1) (task_at (viewed plan.now) k)) out.new result }
 {
-    let first = put_number_field(out, at, number, TAB);
-    let second = put_number_field(out, first, board, TAB);
-    let third = put_ready(out, second, edition, ready);
-    let fourth = put_number_field(out, third, begin, TAB);
-    put_number_field(out, fourth, finish, TAB)
+    let first = put_number_field(out, at, (k + 1) as u32, TAB);
+    let second = put_number_field(out, first, u32::from(plan.board[k]), TAB);
+    let third = put_ready(out, second, plan.edition, plan.ready[k]);
+    let fourth = put_number_field(out, third, plan.begin[k], TAB);
+    put_number_field(out, fourth, plan.finish[k], TAB)
 }
 
-fn put_task<'a>(
-    out: &mut [u8],
-    at: usize,
-    edition: u8,
-    board: &'a [u8; 64],
-    ready: &'a [u32; 64],
-    begin: &'a [u32; 64],
-    finish: &'a [u32; 64],
-    holds: &'a [u8; 2048],
-    after: &'a [u8; 4096],
-    k: usize,
-) -> usize
-    requires { (k < 64) × Room out.old at (task_text edition (k + 1) (tasks_in board.now ready.now begin.now finish.now holds.now after.now k)) }
-    ensures { Wrote out.old at (task_text edition (k + 1) (tasks_in board.now ready.now begin.now finish.now holds.now after.now k)) out.new result }
+fn put_task(out: &mut [u8], at: usize, plan: &PlanView<'_>, k: usize) -> usize
+    requires { (k < 64) × Room out.old at (task_text plan.now.edition (k + 1) (task_at (viewed plan.now) k)) }
+    ensures { Wrote out.old at (task_text plan.now.edition (k + 1) (task_at (viewed plan.now) k)) out.new result }
 {
     let word = put_text(out, at, b"task\t");
-    let number = (k + 1) as u32;
-    let numbers = put_numbers(
-        out,
-        word,
-        edition,
-        number,
-        wide(board[k]),
-        ready[k],
-        begin[k],
-        finish[k],
-    );
-    let held = put_list_field(out, numbers, items_at(holds, 32 * k, 32), true, TAB);
-    put_list_field(out, held, items_at(after, 64 * k, 64), false, LF)
+    let numbers = put_numbers(out, word, plan, k);
+    let held = part_before(plan.holds_of(k), 0);
+    let next = put_list_field(out, numbers, held, Listed::Holds, TAB);
+    let after = part_before(plan.after_of(k), 0);
+    put_list_field(out, next, after, Listed::Tasks, LF)
 }
 
-pub(crate) fn put_tasks<'a>(
-    out: &mut [u8],
-    at: usize,
-    edition: u8,
-    tasks: usize,
-    board: &'a [u8; 64],
-    ready: &'a [u32; 64],
-    begin: &'a [u32; 64],
-    finish: &'a [u32; 64],
-    holds: &'a [u8; 2048],
-    after: &'a [u8; 4096],
-) -> usize
-    requires { (tasks ≤ 64) × Room out.old at (task_texts edition (tasks_in board.now ready.now begin.now finish.now holds.now after.now) tasks) }
-    ensures { Wrote out.old at (task_texts edition (tasks_in board.now ready.now begin.now finish.now holds.now after.now) tasks) out.new result }
+pub(crate) fn put_tasks(out: &mut [u8], at: usize, plan: &PlanView<'_>) -> usize
+    requires { (plan.now.tasks ≤ 64) × Room out.old at (task_texts plan.now.edition (task_at (viewed plan.now)) plan.now.tasks) }
+    ensures { Wrote out.old at (task_texts plan.now.edition (task_at (viewed plan.now)) plan.now.tasks) out.new result }
 {
     let mut place = at;
-    for k in 0..tasks {
-        place = put_task(
-            out, place, edition, board, ready, begin, finish, holds, after, k,
-        );
+    for k in 0..plan.tasks as usize {
+        place = put_task(out, place, plan, k);
     }
     place
 }
 
-pub(crate) fn put_sizes(out: &mut [u8], at: usize, edition: u8, boards: u8, tasks: u8) -> usize
-    requires { Room out.old at (sizes_text edition boards tasks) }
-    ensures { Wrote out.old at (sizes_text edition boards tasks) out.new result }
+pub(crate) fn put_sizes(out: &mut [u8], at: usize, plan: &PlanView<'_>) -> usize
+    requires { Room out.old at (sizes_text plan.now.edition plan.now.boards plan.now.tasks) }
+    ensures { Wrote out.old at (sizes_text plan.now.edition plan.now.boards plan.now.tasks) out.new result }
 {
     let word = put_text(out, at, b"plan\t");
-    let first = put_number_field(out, word, wide(edition), TAB);
-    let second = put_number_field(out, first, wide(boards), TAB);
-    put_number_field(out, second, wide(tasks), LF)
+    let first = put_number_field(out, word, u32::from(plan.edition), TAB);
+    let second = put_number_field(out, first, u32::from(plan.boards), TAB);
+    put_number_field(out, second, u32::from(plan.tasks), LF)
 }

@@ -18,7 +18,7 @@ use Rattle.book.specs.Words.Event.{answer_to}
 use Rattle.book.specs.declared.Rule.{Rule}
 use Rattle.book.specs.declared.Rule.TheVariants.{EarlyStart}
 use Rattle.log_read.specs.Rules.{choice_of}
-use Rattle.log_read.specs.declared.Choice.TheVariants.{Chosen}
+use Rattle.log_read.specs.Said.Choice.{Chosen}
 use Rattle.plan_convert.specs.Renewed.{renewed_text}
 use Rattle.log_run.specs.Log.{log_of}
 use Rattle.promises.specs.Runs.{SizedPlan, run_of}

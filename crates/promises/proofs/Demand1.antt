@@ -21,8 +21,8 @@ use Rattle.book.specs.declared.Book.{Book}
 use Rattle.book.specs.declared.Rule.{Rule}
 use Rattle.book.specs.declared.Rule.TheVariants.{EarlyStart}
 use Rattle.log_read.specs.Entries.{entry_code, next_entry}
-use Rattle.log_read.specs.declared.Choice.{Choice}
-use Rattle.log_read.specs.declared.Entry.{Entry}
+use Rattle.log_read.specs.Said.{Choice}
+use Rattle.log_read.specs.Said.{Entry}
 use Rattle.log_read.specs.Rules.{choice_of}
 use Rattle.log_write.specs.Lines.{refused_line}
 use Rattle.log_run.specs.Log.{open_log, told_of, chosen_log, log_of}

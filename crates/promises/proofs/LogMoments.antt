@@ -14,8 +14,8 @@ use Rattle.theory.specs.Words.Events.{Event}
 use Rattle.book.specs.Words.Event.{book_told}
 use Rattle.book.specs.declared.Book.{Book}
 use Rattle.log_read.specs.Entries.{next_entry, entry_code}
-use Rattle.log_read.specs.declared.Entry.{Entry}
-use Rattle.log_read.specs.declared.Entry.TheVariants.{End, Drop, Refused}
+use Rattle.log_read.specs.Said.{Entry}
+use Rattle.log_read.specs.Said.Entry.{End, Drop, Refused}
 use Rattle.log_run.specs.Log.{told_of, told_log, ends_log, rest_log}
 use Rattle.promises.specs.Runs.{book_after}
 use Rattle.promises.specs.Logs.{said_before, said_in}

@@ -30,8 +30,8 @@ use Rattle.book.specs.Words.Sized.{SizedPlan}
 use Rattle.book.specs.Sound.{is_sound}
 use Rattle.book.specs.declared.Book.{Book}
 use Rattle.log_read.specs.Entries.{entry_code, next_entry}
-use Rattle.log_read.specs.declared.Entry.{Entry}
-use Rattle.log_read.specs.declared.Entry.TheVariants.{End, Drop, Refused}
+use Rattle.log_read.specs.Said.{Entry}
+use Rattle.log_read.specs.Said.Entry.{End, Drop, Refused}
 use Rattle.log_write.specs.Lines.{refused_line}
 use Rattle.log_run.specs.Lines.{early_line}
 use Rattle.log_run.specs.Log.{shown_after, open_log, told_of, lines_of, told_log, ends_log}

@@ -24,11 +24,11 @@ use Rattle.laws.specs.Lists.{same}
 use Rattle.laws.specs.Split.{before, begin_of}
 use Rattle.text.specs.Bytes.{bytes}
 use Rattle.log_read.specs.Entries.{end_codes, drop_codes}
-use Rattle.log_read.specs.declared.Entry.{Entry}
-use Rattle.log_read.specs.declared.Entry.TheVariants.{End, Drop, Refused}
+use Rattle.log_read.specs.Said.{Entry}
+use Rattle.log_read.specs.Said.Entry.{End, Drop, Refused}
 use Rattle.log_read.specs.Rules.{rule_codes}
-use Rattle.log_read.specs.declared.Choice.{Choice}
-use Rattle.log_read.specs.declared.Choice.TheVariants.{Unsaid, Chosen, Malformed}
+use Rattle.log_read.specs.Said.{Choice}
+use Rattle.log_read.specs.Said.Choice.{Unsaid, Chosen, Malformed}
 use Rattle.promises.specs.Checks.{FirstFaulty}
 use Rattle.promises.specs.Columns.{ColumnSays}
 

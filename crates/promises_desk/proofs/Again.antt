@@ -26,14 +26,14 @@ use Rattle.book.proofs.Sizes.{plan-opened}
 use Rattle.book.proofs.Soundness.{opened-is-sound}
 use Rattle.log_read.specs.Entries.{entry_of, next_entry, entry_code}
 use Rattle.log_read.specs.Rules.{choice_in, choice_of}
-use Rattle.log_read.specs.declared.Choice.{Choice}
-use Rattle.log_read.specs.declared.Choice.TheVariants.{Unsaid, Chosen, Malformed}
-use Rattle.log_read.specs.declared.Entry.{Entry}
-use Rattle.log_read.specs.declared.Entry.TheVariants as said
+use Rattle.log_read.specs.Said.{Choice}
+use Rattle.log_read.specs.Said.Choice.{Unsaid, Chosen, Malformed}
+use Rattle.log_read.specs.Said.{Entry}
+use Rattle.log_read.specs.Said.{Entry as said}
 use Rattle.log_run.specs.Log.{told_of}
 use Rattle.log_run.specs.Answers.{entry_log, opening_log}
 use Rattle.log_run.proofs.BookLaws.{opening-book, report-refused, drop-refused}
-use Rattle.desk_read.specs.declared.DeskLine.TheVariants as asked
+use Rattle.desk_read.specs.Asked.{DeskLine as asked}
 use Rattle.desk_turns.specs.Turns.{Turned, entry_turn, turn_of}
 use Rattle.desk_turns.specs.declared.Morning.{Morning}
 use Rattle.desk_start.specs.Start.{line_end, whole_lines, text_in, going, walk_from, walk_in, walked_by, walked_of, way_of, begun_of}

@@ -27,15 +27,15 @@ use Rattle.book.specs.declared.Book.{Book}
 use Rattle.book.specs.declared.Rule.TheVariants.{EarlyStart}
 use Rattle.log_read.specs.Entries.{entry_of, next_entry, entry_code}
 use Rattle.log_read.specs.Rules.{choice_in, choice_of}
-use Rattle.log_read.specs.declared.Choice.{Choice}
-use Rattle.log_read.specs.declared.Choice.TheVariants.{Unsaid}
-use Rattle.log_read.specs.declared.Entry.{Entry}
-use Rattle.log_read.specs.declared.Entry.TheVariants as said
+use Rattle.log_read.specs.Said.{Choice}
+use Rattle.log_read.specs.Said.Choice.{Unsaid}
+use Rattle.log_read.specs.Said.{Entry}
+use Rattle.log_read.specs.Said.{Entry as said}
 use Rattle.log_run.specs.Log.{told_of, told_log, open_log, ends_log, chosen_log, log_of}
 use Rattle.log_run.specs.Answers.{entry_log}
 use Rattle.log_run.proofs.BookLaws.{report-refused, drop-refused, opening-book}
 use Rattle.desk_read.specs.Lines.{word_asked, asked_of}
-use Rattle.desk_read.specs.declared.DeskLine.TheVariants.{Step}
+use Rattle.desk_read.specs.Asked.DeskLine.{Step}
 use Rattle.desk_turns.specs.Turns.{Turned, entry_turn, turn_of}
 use Rattle.desk_turns.specs.declared.Morning.{Morning}
 use Rattle.desk_start.specs.Start.{line_end, text_in, walk_from, walked_by, walked_of, start_log, begun_of}

@@ -16,13 +16,13 @@ use Rattle.text_fields.specs.Faults.{field_code, line_codes, fault_of, unless_fa
 use Rattle.text_fields.specs.declared.Fault.{Fault}
 use Rattle.log_read.specs.Entries.{entry_of}
 use Rattle.log_read.specs.Rules.{choice_in}
-use Rattle.log_read.specs.declared.Choice.{Choice}
-use Rattle.log_read.specs.declared.Choice.TheVariants.{Unsaid, Chosen, Malformed}
-use Rattle.log_read.specs.declared.Entry.{Entry}
-use Rattle.log_read.specs.declared.Entry.TheVariants as said
+use Rattle.log_read.specs.Said.{Choice}
+use Rattle.log_read.specs.Said.Choice.{Unsaid, Chosen, Malformed}
+use Rattle.log_read.specs.Said.{Entry}
+use Rattle.log_read.specs.Said.{Entry as said}
 use Rattle.desk_read.specs.Lines.{refused_by, choice_asked, word_asked, asked_of}
-use Rattle.desk_read.specs.declared.DeskLine.{DeskLine}
-use Rattle.desk_read.specs.declared.DeskLine.TheVariants.{Step, Rule, Early, Exact, Now, Drive, Why}
+use Rattle.desk_read.specs.Asked.{DeskLine}
+use Rattle.desk_read.specs.Asked.DeskLine.{Step, Rule, Early, Exact, Now, Drive, Why}
 
 abbrev pub kind : DeskLine → ℕ
 kind (Step (said.End task tick)) = 0

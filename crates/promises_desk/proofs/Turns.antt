@@ -14,14 +14,14 @@ use Rattle.book.specs.View.{plan_in}
 use Rattle.book.specs.Sound.{is_sound}
 use Rattle.book.specs.declared.Book.{Book}
 use Rattle.book.specs.declared.Rule.TheVariants.{Clash}
-use Rattle.log_read.specs.declared.Entry.{Entry}
-use Rattle.log_read.specs.declared.Entry.TheVariants as said
+use Rattle.log_read.specs.Said.{Entry}
+use Rattle.log_read.specs.Said.{Entry as said}
 use Rattle.log_write.specs.Lines.{refused_line}
 use Rattle.log_run.specs.Log.{told_of, told_log}
 use Rattle.log_run.proofs.BookLaws.{report-stays, drop-stays}
 use Rattle.log_run.proofs.AnswerLaws.{opening-sound}
-use Rattle.desk_read.specs.declared.DeskLine.{DeskLine}
-use Rattle.desk_read.specs.declared.DeskLine.TheVariants.{Step, Rule, Early, Exact, Now, Drive, Why}
+use Rattle.desk_read.specs.Asked.{DeskLine}
+use Rattle.desk_read.specs.Asked.DeskLine.{Step, Rule, Early, Exact, Now, Drive, Why}
 use Rattle.desk_read.proofs.ReadLaws.{step-near}
 use Rattle.desk_turns.specs.Turns.{Turned, saying, taking, entry_turn, rule_turn, turn_by, turn_of}
 use Rattle.desk_turns.specs.declared.Morning.{Morning}

@@ -8,10 +8,10 @@ use Rattle.book.specs.Report.{reported_of}
 use Rattle.book.specs.Drop.{dropped_of}
 use Rattle.book.specs.declared.Rule.TheVariants.{Clash}
 use Rattle.log_read.specs.Entries.{next_entry, entry_code}
-use Rattle.log_read.specs.declared.Entry.TheVariants.{End, Drop}
+use Rattle.log_read.specs.Said.Entry.{End, Drop}
 use Rattle.desk_read.specs.Lines.{asked_of}
-use Rattle.desk_read.specs.declared.DeskLine.{DeskLine}
-use Rattle.desk_read.specs.declared.DeskLine.TheVariants.{Step, Rule, Early, Exact, Now, Drive, Why}
+use Rattle.desk_read.specs.Asked.{DeskLine}
+use Rattle.desk_read.specs.Asked.DeskLine.{Step, Rule, Early, Exact, Now, Drive, Why}
 use Rattle.desk_turns.specs.Turns.{turn_of}
 use Rattle.desk_turns.specs.declared.Morning.{Morning}
 

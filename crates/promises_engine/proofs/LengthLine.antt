@@ -26,8 +26,8 @@ use Rattle.text_fields.proofs.RangedLaws.{field-code, field-zero}
 use Rattle.text_fields.proofs.Alike.{Plain, field_plain}
 use Rattle.plan.specs.Value.{at}
 use Rattle.engine_read.specs.Lines.{task_code, length_codes, drop_codes, line_said, next_said, said_answer}
-use Rattle.engine_read.specs.declared.LengthLine.{LengthLine}
-use Rattle.engine_read.specs.declared.LengthLine.TheVariants.{Length, Drop, Refused}
+use Rattle.engine_read.specs.Said.{LengthLine}
+use Rattle.engine_read.specs.Said.{Length, Drop, Refused}
 use Rattle.engine_read.proofs.TaskLaws.{task-zero}
 use Rattle.engine_read.proofs.LineLaws.{length-kinds, drop-kinds}
 use Rattle.promises.specs.Columns.{ColumnSays}

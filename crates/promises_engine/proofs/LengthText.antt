@@ -11,11 +11,11 @@ use Rattle.text.specs.Line.{LF}
 use Rattle.plan.specs.Read.{reading_of}
 use Rattle.book.specs.declared.Rule.TheVariants.{EarlyStart, Clash}
 use Rattle.log_read.specs.Rules.{choice_of}
-use Rattle.log_read.specs.declared.Choice.{Choice}
-use Rattle.log_read.specs.declared.Choice.TheVariants.{Unsaid, Chosen, Malformed}
+use Rattle.log_read.specs.Said.{Choice}
+use Rattle.log_read.specs.Said.Choice.{Unsaid, Chosen, Malformed}
 use Rattle.engine_read.specs.Lines.{next_said, said_answer}
 use Rattle.engine_read.specs.Whole.{told_in, chosen_asked, asked_of}
-use Rattle.engine_read.specs.declared.LengthLine.{LengthLine}
+use Rattle.engine_read.specs.Said.{LengthLine}
 use Rattle.engine_read.proofs.WalkLaws.{after_less, in-none, in-stop, in-turn}
 use Rattle.engine_write.specs.Table.{times_text, asked_text, table_of}
 use Rattle.promises_engine.specs.LengthsSays.{LinesSay, Begins, AskedSays, asked_in, table_for, TableSays}

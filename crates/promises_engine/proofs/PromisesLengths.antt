@@ -5,7 +5,7 @@ use mathlib.Core.Bool.{Bool}
 use mathlib.Core.List.{List}
 use Rattle.engine_read.specs.Lines.{task_code, next_said}
 use Rattle.engine_read.specs.Whole.{told_in, asked_of}
-use Rattle.engine_read.specs.declared.LengthLine.{LengthLine}
+use Rattle.engine_read.specs.Said.{LengthLine}
 use Rattle.engine_write.specs.Table.{table_of}
 use Rattle.promises_engine.specs.LengthsSays.{LengthLineSays, TaskFour, LinesSay, AskedSays, TableSays}
 use Rattle.promises_engine.proofs.LengthLine as length-line

@@ -14,13 +14,13 @@ use Rattle.book.specs.declared.Rule.TheVariants.{EarlyStart, Clash}
 use Rattle.engine.specs.Timetable.{timetable_of}
 use Rattle.engine.specs.declared.Timetable.{Timetable}
 use Rattle.log_read.specs.Rules.{choice_of}
-use Rattle.log_read.specs.declared.Choice.TheVariants.{Unsaid, Chosen, Malformed}
+use Rattle.log_read.specs.Said.Choice.{Unsaid, Chosen, Malformed}
 use Rattle.log_write.specs.Lines.{refused_line}
 use Rattle.engine_read.specs.Lines.{says_length, says_drop, length_codes, drop_codes, next_said, said_answer}
 use Rattle.engine_read.specs.Whole.{Told, asked_not, asked_by, asked_of}
 use Rattle.engine_read.specs.declared.EngineInput.{EngineInput}
-use Rattle.engine_read.specs.declared.LengthLine.{LengthLine}
-use Rattle.engine_read.specs.declared.LengthLine.TheVariants.{Length, Drop}
+use Rattle.engine_read.specs.Said.{LengthLine}
+use Rattle.engine_read.specs.Said.{Length, Drop}
 use Rattle.engine_write.specs.Rows.{row_lines}
 use Rattle.promises.specs.Columns.{ColumnSays}
 

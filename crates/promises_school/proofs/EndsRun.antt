@@ -16,7 +16,7 @@ use Rattle.plan.specs.declared.Plan.{Plan}
 use Rattle.book.specs.declared.Book.{Book}
 use Rattle.book.specs.declared.Rule.{Rule}
 use Rattle.log_read.specs.Entries.{next_entry, entry_code}
-use Rattle.log_read.specs.declared.Entry.{Entry}
+use Rattle.log_read.specs.Said.{Entry}
 use Rattle.log_run.specs.Log.{told_of, told_log, ends_log}
 use Rattle.promises.specs.Runs.{SizedPlan, Dropped}
 use Rattle.promises.proofs.SoundRun.{OnPlan}

@@ -29,8 +29,8 @@ use Rattle.book.specs.declared.Book.{Book}
 use Rattle.book.specs.declared.Rule.{Rule}
 use Rattle.book.specs.declared.Rule.TheVariants.{EarlyStart, Clash}
 use Rattle.log_read.specs.Rules.{choice_of}
-use Rattle.log_read.specs.declared.Choice.{Choice}
-use Rattle.log_read.specs.declared.Choice.TheVariants.{Unsaid, Chosen, Malformed}
+use Rattle.log_read.specs.Said.{Choice}
+use Rattle.log_read.specs.Said.Choice.{Unsaid, Chosen, Malformed}
 use Rattle.log_write.specs.Lines.{run_by, numbers_line, refused_line}
 use Rattle.log_run.specs.Lines.{start_lines}
 use Rattle.log_run.specs.Log.{open_log, rest_log, chosen_log, log_of}

@@ -36,8 +36,8 @@ use Rattle.book.specs.declared.Rule.{Rule}
 use Rattle.book.proofs.ReportLaws.{code-zero}
 use Rattle.book.proofs.Reports.{event-plan, event-rule}
 use Rattle.log_read.specs.Entries.{next_entry}
-use Rattle.log_read.specs.declared.Entry.{Entry}
-use Rattle.log_read.specs.declared.Entry.TheVariants.{End, Drop, Refused}
+use Rattle.log_read.specs.Said.{Entry}
+use Rattle.log_read.specs.Said.Entry.{End, Drop, Refused}
 use Rattle.log_write.specs.Lines.{numbers_line, refused_line}
 use Rattle.log_run.specs.Lines.{end_line, drop_line, start_lines}
 use Rattle.log_run.specs.Log.{told_of, told_log}

@@ -19,7 +19,8 @@ use Rattle.year_rules.specs.Figures.{sum_of, best_of}
 use Rattle.year_rules.specs.Totals.{boards}
 use Rattle.year_rules.proofs.FigureLaws.{Picks, max-picks, min-picks, sum-append, best-next, after-append, after-than}
 use Rattle.year_rules.proofs.BoardLaws.{boards-at, boards-sum, add_to, add-last}
-use Rattle.year_write.specs.Report.{board_tally, bests_below, all_tally}
+use Rattle.year_rules.specs.Totals.{board_tally}
+use Rattle.year_write.specs.Report.{bests_below, all_tally}
 use Rattle.promises_year.specs.Year.{Morning, is_taken, lines_of, on_board, on_any, is_end_line, ends_of, figures_of, tallied, year_of}
 use Rattle.promises_year.proofs.Perms.{length-perm, sum-perm, best-perm}
 use Rattle.promises_year.proofs.Accepted.{end_ok, ends-of-plan, log-taken}

@@ -15,7 +15,8 @@ use Rattle.log_write.specs.Lines.{refused_line}
 use Rattle.year_rules.specs.Figures.{best_of}
 use Rattle.year_rules.specs.Totals.{totals_ok, not_added, added_of}
 use Rattle.year_rules.specs.declared.Totals.{Totals}
-use Rattle.year_write.specs.Report.{board_tally, all_tally, report_of, year_text}
+use Rattle.year_rules.specs.Totals.{board_tally}
+use Rattle.year_write.specs.Report.{all_tally, report_of, year_text}
 use Rattle.promises.specs.Ladder.{Ladder}
 use Rattle.promises_year.specs.Says.{add_checks, AddedSays}
 use Rattle.promises_year.specs.Year.{Morning, is_taken, lines_of, on_board, on_any, is_end_line, figures_of, tallied, year_of, fed}

@@ -48,22 +48,14 @@ abbrev pub says_none : Bool → LogLine
 says_none formed = record { formed = formed; start = 0; end = 0; board = 0; tick = 0 }
 
 abbrev pub says_start : List ℕ → LogLine
-says_start line = record {
-  formed = true;
-  start = value_of (field line 1);
-  end = 0;
-  board = value_of (field line 2);
-  tick = value_of (field line 3);
-}
+says_start line =
+    let says : ℕ → ℕ = λ n. value_of (field line n) in
+    record { formed = true; start = says 1; end = 0; board = says 2; tick = says 3 }
 
 abbrev pub says_end : List ℕ → LogLine
-says_end line = record {
-  formed = true;
-  start = 0;
-  end = value_of (field line 1);
-  board = value_of (field line 2);
-  tick = value_of (field line 3);
-}
+says_end line =
+    let says : ℕ → ℕ = λ n. value_of (field line n) in
+    record { formed = true; start = 0; end = says 1; board = says 2; tick = says 3 }
 
 -- a line after the first, without its LF
 unfoldable pub later_said : ℕ → ℕ → List ℕ → LogLine

@@ -62,13 +62,8 @@ unread answer = record { answer = answer; known = laid 0 (λ i. 0); start = laid
 -- an answer, and the start and end of each task that has one of each
 abbrev pub found_in : ℕ → Answer → List LogLine → JudgedLog
 found_in tasks answer lines =
-    let known : (ℕ → ℕ) → ℕ → ℕ = λ tick i. cond (is_known lines i) (tick i) 0 in
-    record {
-      answer = answer;
-      known = laid tasks (known (λ i. 1));
-      start = laid tasks (known (start_in lines));
-      end = laid tasks (known (end_in lines));
-    }
+    let all : (ℕ → ℕ) → List ℕ = λ tick. laid tasks (λ i. cond (is_known lines i) (tick i) 0) in
+    record { answer = answer; known = all (λ i. 1); start = all (start_in lines); end = all (end_in lines) }
 
 -- 23, with the lowest line that has not its form; then 24 to 27
 unfoldable pub lines_judged : Plan → List LogLine → JudgedLog

@@ -5,7 +5,8 @@ use mathlib.Core.Bool.{Bool, true, false, not, cond, ◌&&◌}
 use mathlib.Core.List.{List}
 use mathlib.Core.Path.{◌≡◌, refl, sym, ap, ◌∙◌}
 use lib.Dec.{eqb}
-use borrow.Author.Tests.{not-false}
+use borrow.Author.Tests.{not-false, eq-eqb, ne_eqb}
+use mir.Val.{bool_byte}
 use Rattle.laws.proofs.Cases.{by_bool, and_l}
 use Rattle.plan.specs.Value.{at}
 use Rattle.book_view.specs.View.{laid}
@@ -20,6 +21,16 @@ use Rattle.school_judge.specs.Private.Laid.{known_in, right_in, tick_in}
 
 marked : (b : Bool) → eqb (cond b 1 0) 1 ≡ b
 marked b = by_bool b (λ t. rw t) (λ f. rw f)
+
+pub byte-of : (b : Bool) → bool_byte b ≡ cond b 1 0
+byte-of true = refl
+byte-of false = refl
+
+pub tick-is : {known tick r : ℕ} → known ≡ 1 → r ≡ tick → r ≡ cond (eqb known 1) tick 0
+tick-is {known} h e = e ∙ sym (rw (eq-eqb known 1 h))
+
+pub tick-none : {known r : ℕ} (tick : ℕ) → (known ≡ 1 → ⊥) → r ≡ 0 → r ≡ cond (eqb known 1) tick 0
+tick-none {known} tick h e = e ∙ sym (rw (ne_eqb known 1 h))
 
 -- all places of the tasks are filled
 pub laid_out : (n k : ℕ) (f : ℕ → ℕ) {l : List ℕ} → l ≡ laid k f → k ≤ n → n ≤ k → l ≡ laid n f

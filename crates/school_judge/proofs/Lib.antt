@@ -1,4 +1,4 @@
-pub mod LengthLaws
+pub mod ToldLaws
 pub mod PairLaws
 pub mod TestLaws
 pub mod FoundLaws

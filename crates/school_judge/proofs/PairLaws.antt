@@ -4,8 +4,8 @@ use native.Mathlib.Nat.{mod-eq_of_lt}
 use native.Mathlib.Omega.{arith}
 use mathlib.Core.Bool.{Bool, true, false, not, ◌&&◌, ◌||◌}
 use mathlib.Core.Path.{◌≡◌, refl, sym, ap, ◌∙◌}
-use mathlib.Core.Logic.{◌≢◌}
-use borrow.Author.Tests.{eq-eqb, ne_eqb, not-true}
+use borrow.Author.Tests.{not-true}
+use Rattle.std.specs.Prelude.{Ok, Err}
 use Rattle.laws.specs.Bits.{has}
 use Rattle.laws.specs.Every.{every, any}
 use Rattle.laws.proofs.Every.{every-at, any-not, any-turn}
@@ -15,6 +15,8 @@ use Rattle.plan.specs.Answer.{refuse, granted, is_refused}
 use Rattle.plan.specs.declared.Answer.{Answer}
 use Rattle.plan.specs.Pairs.{pairs_fault}
 use Rattle.school.specs.Tests.{pair_fault, against_fault}
+use Rattle.school_judge.specs.Told.{told}
+use Rattle.school_judge.proofs.ToldLaws.{told-granted, told-refused, is-granted, is-refused}
 
 -- the pairs of one a
 abbrev pub row_fault : ℕ → (ℕ → ℕ → Bool) → ℕ → Answer
@@ -40,13 +42,16 @@ module _ (tasks : ℕ) (test : ℕ → ℕ → Bool) where
     pub row-turn : b < tasks → test a b ≡ false → RowRest a (b + 1)
     row-turn l t = sym (scan-turn is_refused granted (pair_fault test a) b tasks l (rw t)) ∙ rest
 
-    pub row-hit : b < tasks → test a b ≡ true → {r : Answer} → r ≡ refuse 26 (a + 1) (b + 1) → r ≡ row_fault tasks test a
+    pub row-hit : b < tasks → test a b ≡ true → {r : Answer} → r ≡ refuse 26 (a + 1) (b + 1) → Err r ≡ told (row_fault tasks test a)
     row-hit l t e =
-        let q : pair_fault test a b ≡ refuse 26 (a + 1) (b + 1) = rw t in
-        e ∙ sym q ∙ sym (scan-hit is_refused granted (pair_fault test a) b tasks l (rw t)) ∙ rest
+        let found = refuse 26 (a + 1) (b + 1) in
+        let q : pair_fault test a b ≡ found = rw t in
+        ap Err e ∙ sym (told-refused found refl)
+        ∙ ap told (sym q ∙ sym (scan-hit is_refused granted (pair_fault test a) b tasks l (rw t)) ∙ rest)
 
-    pub row_out : tasks ≤ b → {r : Answer} → r ≡ granted → r ≡ row_fault tasks test a
-    row_out l e = e ∙ sym (scan-end is_refused granted (pair_fault test a) b tasks l) ∙ rest
+    pub row_out : tasks ≤ b → Ok tt ≡ told (row_fault tasks test a)
+    row_out l =
+        sym (told-granted granted refl) ∙ ap told (sym (scan-end is_refused granted (pair_fault test a) b tasks l) ∙ rest)
 
   -- the rows
   abbrev pub Rest : ℕ → Type 0
@@ -57,15 +62,17 @@ module _ (tasks : ℕ) (test : ℕ → ℕ → Bool) where
   rows-first = refl
 
   module _ (a : ℕ) (rest : Rest a) where
-    module _ (l : a < tasks) {r : Answer} (e : r ≡ row_fault tasks test a) where
-      pub rows-turn : r.code ≡ 0 → Rest (a + 1)
-      rows-turn z = sym (scan-turn is_refused granted (row_fault tasks test) a tasks l (rw (sym e, eq-eqb r.code 0 z))) ∙ rest
+    module _ (l : a < tasks) where
+      pub rows-turn : Ok tt ≡ told (row_fault tasks test a) → Rest (a + 1)
+      rows-turn e = sym (scan-turn is_refused granted (row_fault tasks test) a tasks l (ap not (is-granted _ e))) ∙ rest
 
-      pub rows-hit : r.code ≢ 0 → r ≡ against_fault tasks test
-      rows-hit n = e ∙ sym (scan-hit is_refused granted (row_fault tasks test) a tasks l (rw (sym e, ne_eqb r.code 0 n))) ∙ rest
+      pub rows-hit : {x : Answer} → Err x ≡ told (row_fault tasks test a) → Err x ≡ told (against_fault tasks test)
+      rows-hit e =
+          e ∙ ap told (sym (scan-hit is_refused granted (row_fault tasks test) a tasks l (ap not (is-refused _ e))) ∙ rest)
 
-    pub rows_out : tasks ≤ a → {r : Answer} → r ≡ granted → r ≡ against_fault tasks test
-    rows_out l e = e ∙ sym (scan-end is_refused granted (row_fault tasks test) a tasks l) ∙ rest
+    pub rows_out : tasks ≤ a → Ok tt ≡ told (against_fault tasks test)
+    rows_out l =
+        sym (told-granted granted refl) ∙ ap told (sym (scan-end is_refused granted (row_fault tasks test) a tasks l) ∙ rest)
 
 pub every-none : (p : ℕ → Bool) → every 0 p ≡ true
 unfolding every
@@ -96,7 +103,8 @@ module _ (tasks : ℕ) (sooner : ℕ → ℕ → Bool) (clean : every tasks (λ 
       scan-none is_refused granted (pair_fault either a) (a + 1) tasks
       (λ b h lb. let p = in_time a b l lb in let q = in_time b a lb l in rw (p, q))
 
-  pub clean-none : {r : Answer} → r ≡ granted → r ≡ against_fault tasks either
+  pub clean-none : Ok tt ≡ told (against_fault tasks either)
   unfolding against_fault pairs_fault
-  clean-none e =
-      e ∙ sym (scan-none is_refused granted (row_fault tasks either) 0 tasks (λ a h l. let q = row-clean a l in rw q))
+  clean-none =
+      sym (told-granted granted refl)
+      ∙ ap told (sym (scan-none is_refused granted (row_fault tasks either) 0 tasks (λ a h l. let q = row-clean a l in rw q)))

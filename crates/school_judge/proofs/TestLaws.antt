@@ -1,52 +1,77 @@
 -- The codes in their order.
 use Prim.Native.Nat.{ℕ, ◌+◌, ◌<◌}
-use mathlib.Core.Bool.{Bool, false, cond}
-use mathlib.Core.Path.{◌≡◌, ◌∙◌}
+use mathlib.Core.Bool.{Bool, false}
+use mathlib.Core.Path.{◌≡◌, sym, ap, ◌∙◌}
 use mathlib.Core.Logic.{◌≢◌}
-use lib.Dec.{eqb}
-use borrow.Author.Tests.{eq-eqb, ne_eqb}
+use borrow.Author.Tests.{ne_eqb}
 use Rattle.laws.proofs.Cases.{by-eq}
 use Rattle.laws.proofs.Scan.{scan-same}
 use Rattle.theory.specs.Times.{lowest}
 use Rattle.theory.proofs.Lowest.{lowest-none, lowest-same}
-use Rattle.plan.specs.Answer.{refuse, granted, is_refused}
+use native.Mathlib.Omega.{arith}
+use Rattle.std.specs.Prelude.{Result, Ok, Err}
+use Rattle.plan.specs.Answer.{refuse, granted, is_refused, or_else}
 use Rattle.plan.specs.declared.Answer.{Answer}
 use Rattle.plan.specs.Pairs.{pairs_fault}
 use Rattle.book_view.specs.Faults.{task_fault}
 use Rattle.school.specs.Tests.{pair_fault, against_fault}
 use Rattle.school_judge.proofs.PairLaws.{row_fault}
 use Rattle.school_judge.specs.Tests.{tests_answer}
-
-pub fault-is :
-    (code tasks : ℕ) (test : ℕ → Bool) {found : ℕ} {r : Answer} → found ≡ lowest tasks test
-    → r ≡ cond (eqb found 0) granted (refuse code found 0) → r ≡ task_fault code tasks test
-unfolding task_fault
-fault-is code tasks test e q = q ∙ rw e
+use Rattle.school_judge.specs.Told.{told}
+use Rattle.school_judge.proofs.ToldLaws.{told-stop, told-go, is-granted, its-refusal, Plain, plain-or, plain-fault}
 
 module _ (wrong mislong : ℕ → Bool) (against : ℕ → ℕ → Bool) (untimely : ℕ → Bool) {n tasks : ℕ} (same : n ≡ tasks) where
-  abbrev whole : ℕ → Answer
-  whole k = tests_answer k wrong mislong against untimely
+  abbrev whole : Result (Unit {0}) Answer
+  whole = told (tests_answer tasks wrong mislong against untimely)
 
-  module _ {a : Answer} (ea : a ≡ task_fault 24 n wrong) where
-    pub said-wrong : a.code ≢ 0 → a ≡ whole tasks
-    unfolding tests_answer
-    said-wrong ne = rw (← same, ← ea, ne_eqb a.code 0 ne)
+  abbrev third : Answer
+  third = or_else (against_fault n against) (task_fault 27 n untimely)
 
-    module _ (za : a.code ≡ 0) {b : Answer} (eb : b ≡ task_fault 25 n mislong) where
-      pub said-mislong : b.code ≢ 0 → b ≡ whole tasks
-      unfolding tests_answer
-      said-mislong ne = rw (← same, ← ea, eq-eqb a.code 0 za, ← eb, ne_eqb b.code 0 ne)
+  abbrev second : Answer
+  second = or_else (task_fault 25 n mislong) third
 
-      module _ (zb : b.code ≡ 0) {d : Answer} (ed : d ≡ against_fault n against) where
-        pub said-against : d.code ≢ 0 → d ≡ whole tasks
-        unfolding tests_answer
-        said-against ne =
-            rw (← same, ← ea, eq-eqb a.code 0 za, ← eb, eq-eqb b.code 0 zb, ← ed, ne_eqb d.code 0 ne)
+  all-is : told (or_else (task_fault 24 n wrong) second) ≡ whole
+  unfolding tests_answer
+  all-is = ap (λ (k : ℕ). told (tests_answer k wrong mislong against untimely)) same
 
-        pub said-last : d.code ≡ 0 → {r : Answer} → r ≡ task_fault 27 n untimely → r ≡ whole tasks
-        unfolding tests_answer
-        said-last zd e =
-            e ∙ rw (← same, ← ea, eq-eqb a.code 0 za, ← eb, eq-eqb b.code 0 zb, ← ed, eq-eqb d.code 0 zd)
+  pub stop-wrong : {x : Answer} → Err x ≡ told (task_fault 24 n wrong) → Err x ≡ whole
+  stop-wrong e = told-stop (task_fault 24 n wrong) second e ∙ all-is
+
+  module _ (a : Ok tt ≡ told (task_fault 24 n wrong)) where
+    second-is : told second ≡ whole
+    second-is = told-go (task_fault 24 n wrong) second a ∙ all-is
+
+    pub stop-mislong : {x : Answer} → Err x ≡ told (task_fault 25 n mislong) → Err x ≡ whole
+    stop-mislong e = told-stop (task_fault 25 n mislong) third e ∙ second-is
+
+    module _ (b : Ok tt ≡ told (task_fault 25 n mislong)) where
+      third-is : told third ≡ whole
+      third-is = told-go (task_fault 25 n mislong) third b ∙ second-is
+
+      pub stop-against : {x : Answer} → Err x ≡ told (against_fault n against) → Err x ≡ whole
+      stop-against e = told-stop (against_fault n against) (task_fault 27 n untimely) e ∙ third-is
+
+      pub last_told : Ok tt ≡ told (against_fault n against) → told (task_fault 27 n untimely) ≡ whole
+      last_told d = told-go (against_fault n against) (task_fault 27 n untimely) d ∙ third-is
+
+pub plain-tests : (tasks : ℕ) (wrong mislong : ℕ → Bool) (against : ℕ → ℕ → Bool) (untimely : ℕ → Bool) → Plain (tests_answer tasks wrong mislong against untimely)
+unfolding tests_answer
+plain-tests tasks wrong mislong against untimely =
+    let last = task_fault 27 tasks untimely in
+    let third = or_else (against_fault tasks against) last in
+    let second = or_else (task_fault 25 tasks mislong) third in
+    plain-or (task_fault 24 tasks wrong) second
+    (plain-or (task_fault 25 tasks mislong) third
+    (plain-or (against_fault tasks against) last (plain-fault 27 tasks untimely (λ e. omega arith))))
+
+module _ (tasks : ℕ) (wrong mislong : ℕ → Bool) (against : ℕ → ℕ → Bool) (untimely : ℕ → Bool) {tested : Result (Unit {0}) Answer}
+    (e : tested ≡ told (tests_answer tasks wrong mislong against untimely)) where
+  pub granted-is : tested ≡ Ok tt → {answer : Answer} → answer ≡ granted → answer ≡ tests_answer tasks wrong mislong against untimely
+  granted-is t a =
+      a ∙ sym (plain-tests tasks wrong mislong against untimely (is-granted (tests_answer tasks wrong mislong against untimely) (sym t ∙ e)))
+
+  pub refused-is : {answer : Answer} → tested ≡ Err answer → answer ≡ tests_answer tasks wrong mislong against untimely
+  refused-is t = its-refusal (tests_answer tasks wrong mislong against untimely) (sym t ∙ e)
 
 -- ---- tests that say the same of the tasks give one answer
 

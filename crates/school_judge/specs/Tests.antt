@@ -1,20 +1,15 @@
 -- The tests of a log by lent arrays.
-use Rattle.std.specs.Prelude.{ℕ, Bool, not, ◌&&◌, ◌||◌, List, [], ltb, eqb}
+use Rattle.std.specs.Prelude.{ℕ, Bool, not, ◌&&◌, ◌||◌, List, ltb, eqb}
 use Rattle.laws.specs.Bits.{has}
 use Rattle.plan.specs.Answer.{or_else}
-use Rattle.plan.specs.Value.{at, plan_with}
+use Rattle.plan.specs.Value.{at}
 use Rattle.plan.specs.declared.Answer.{Answer}
-use Rattle.plan.specs.declared.Plan.{Plan}
 use Rattle.book_view.specs.Faults.{task_fault}
 use Rattle.school.specs.Tests.{against_fault}
 
 -- a task that is not marked right
 abbrev pub is_amiss : List ℕ → ℕ → Bool
 is_amiss right i = not (eqb (at right i) 1)
-
--- the planned times of tasks
-abbrev pub times_of : List ℕ → List ℕ → List ℕ → Plan
-times_of ready begin finish = plan_with 0 0 0 [] ready begin finish [] []
 
 -- b waits for a, and starts before a has ended
 abbrev pub is_sooner_by : List ℕ → (ℕ → ℕ) → (ℕ → ℕ) → ℕ → ℕ → Bool

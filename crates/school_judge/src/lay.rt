@@ -1,27 +1,7 @@
 // What is found in a log, laid out task by task: task i has place i + 1 of what is found.
-ghost use Rattle.std.specs.Prelude.{◌≡◌, cond, ◌≤◌};
+ghost use Rattle.std.specs.Prelude.{◌≡◌, ◌≤◌};
 ghost use Rattle.book_view.specs.View.{laid};
 ghost use Rattle.school_judge.specs.Private.Laid.{known_in, right_in, tick_in};
-
-use text::decimal::wide;
-
-fn mark(stands: bool) -> u8
-    ensures { result ≡ cond stands 1 0 }
-{
-    if stands {
-        return 1;
-    }
-    0
-}
-
-fn tick_if(picked: bool, tick: u32) -> u32
-    ensures { result ≡ cond picked tick 0 }
-{
-    if picked {
-        return tick;
-    }
-    0
-}
 
 // 1 for each task with one start and one end.
 pub(crate) fn known_tasks<'a>(starts: &'a [u8; 65], ends: &'a [u8; 65], tasks: usize) -> [u8; 64]
@@ -31,7 +11,7 @@ pub(crate) fn known_tasks<'a>(starts: &'a [u8; 65], ends: &'a [u8; 65], tasks: u
     let mut known = [0u8; 64];
     for i in 0..tasks {
         let t = i + 1;
-        known[i] = mark((starts[t] == 1) & (ends[t] == 1));
+        known[i] = u8::from((starts[t] == 1) & (ends[t] == 1));
     }
     known
 }
@@ -50,8 +30,8 @@ pub(crate) fn right_tasks<'a>(
     let mut right = [0u8; 64];
     for i in 0..tasks {
         let t = i + 1;
-        let own = wide(board[i]);
-        right[i] = mark((known[i] == 1) & ((first[t] == own) & (last[t] == own)));
+        let own = u32::from(board[i]);
+        right[i] = u8::from((known[i] == 1) & ((first[t] == own) & (last[t] == own)));
     }
     right
 }
@@ -63,7 +43,7 @@ pub(crate) fn known_ticks<'a>(known: &'a [u8; 64], tick: &'a [u32; 65], tasks: u
 {
     let mut ticks = [0u32; 64];
     for i in 0..tasks {
-        ticks[i] = tick_if(known[i] == 1, tick[i + 1]);
+        ticks[i] = if known[i] == 1 { tick[i + 1] } else { 0 };
     }
     ticks
 }

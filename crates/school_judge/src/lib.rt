@@ -8,14 +8,15 @@ mod tasks;
 
 ghost use Rattle.std.specs.Prelude.{◌≡◌, min};
 ghost use Rattle.plan.specs.Value.{at};
+ghost use Rattle.plan.specs.View.{viewed};
 ghost use Rattle.school.specs.Tests.{is_mislong, is_untimely, unread, judged_of};
-ghost use Rattle.school_judge.specs.Tests.{tests_answer, times_of, is_amiss, is_against_by};
+ghost use Rattle.school_judge.specs.Told.{told};
+ghost use Rattle.school_judge.specs.Tests.{tests_answer, is_amiss, is_against_by};
 
-use book_view::places;
 use book_waits::wait_sets;
 use lay::{known_tasks, known_ticks, right_tasks};
-use pairs::pairs_fault;
-use plan::{Answer, Plan, refuse};
+use pairs::Moments;
+use plan::{Answer, Plan, PlanView, few, refuse};
 use school::JudgedLog;
 use school_read::read_log;
 use tasks::{amiss, mislong, task_fault, untimely};
@@ -25,32 +26,26 @@ use text::TEXT_MOST;
 const CLASH: u8 = 1;
 
 // right is 1 for each task with one start and one end, both on its board; bit j of wait set i stands where task i waits for task j by the clash rule.
-pub fn test_log<'a>(
-    right: &'a [u8; 64],
-    ready: &'a [u32; 64],
-    begin: &'a [u32; 64],
-    finish: &'a [u32; 64],
-    waits: &'a [u64; 64],
-    start: &'a [u32; 64],
-    end: &'a [u32; 64],
-    tasks: u8,
-) -> Answer
-    ensures { result ≡ tests_answer (min tasks 64) (is_amiss right.now) (is_mislong (times_of ready.now begin.now finish.now) (at start.now) (at end.now)) (is_against_by waits.now (at start.now) (at end.now)) (is_untimely (times_of ready.now begin.now finish.now) (at start.now)) }
+pub fn test_log(
+    plan: &PlanView<'_>,
+    right: &[u8; 64],
+    waits: &[u64; 64],
+    start: &[u32; 64],
+    end: &[u32; 64],
+) -> Result<(), Answer>
+    ensures { result ≡ told (tests_answer (min plan.now.tasks 64) (is_amiss right.now) (is_mislong (viewed plan.now) (at start.now) (at end.now)) (is_against_by waits.now (at start.now) (at end.now)) (is_untimely (viewed plan.now) (at start.now))) }
 {
-    let n = places(tasks, right);
-    let wrong = task_fault(24, amiss(right, n));
-    if wrong.code != 0 {
-        return wrong;
-    }
-    let long = task_fault(25, mislong(begin, finish, start, end, n));
-    if long.code != 0 {
-        return long;
-    }
-    let against = pairs_fault(waits, start, end, n);
-    if against.code != 0 {
-        return against;
-    }
-    task_fault(27, untimely(ready, begin, start, n))
+    let tasks = usize::from(few(plan.tasks));
+    let moments = Moments {
+        waits,
+        start,
+        end,
+        tasks,
+    };
+    task_fault(24, amiss(right, tasks))?;
+    task_fault(25, mislong(plan, start, end, tasks))?;
+    moments.fault()?;
+    task_fault(27, untimely(plan, start, tasks))
 }
 
 // Nothing is found of a log that is not read.
@@ -69,29 +64,18 @@ pub fn not_read(answer: Answer) -> JudgedLog
 pub fn judge_log(plan: Plan, log: &[u8]) -> JudgedLog
     ensures { result ≡ judged_of plan log.now }
 {
-    let waits = wait_sets(
-        CLASH,
-        plan.edition,
-        plan.boards,
-        plan.tasks,
-        &plan.board,
-        &plan.ready,
-        &plan.begin,
-        &plan.finish,
-        &plan.holds,
-        &plan.after,
-    );
-    if !waits.known {
+    let view = plan.view();
+    let Some(waits) = wait_sets(CLASH, &view) else {
         return not_read(refuse(9, 0, 0));
-    }
+    };
     if TEXT_MOST < log.len() {
         return not_read(refuse(1, 0, 0));
     }
-    let found = read_log(plan.boards, plan.tasks, log);
-    if found.line != 0 {
-        return not_read(refuse(23, found.line as u32, 0));
-    }
-    let tasks = plan.tasks as usize;
+    let found = match read_log(plan.boards, plan.tasks, log) {
+        Ok(found) => found,
+        Err(line) => return not_read(refuse(23, line as u32, 0)),
+    };
+    let tasks = usize::from(plan.tasks);
     let known = known_tasks(&found.starts, &found.ends, tasks);
     let right = right_tasks(
         &known,
@@ -102,16 +86,10 @@ pub fn judge_log(plan: Plan, log: &[u8]) -> JudgedLog
     );
     let start = known_ticks(&known, &found.start, tasks);
     let end = known_ticks(&known, &found.end, tasks);
-    let answer = test_log(
-        &right,
-        &plan.ready,
-        &plan.begin,
-        &plan.finish,
-        &waits.sets,
-        &start,
-        &end,
-        plan.tasks,
-    );
+    let answer = match test_log(&view, &right, &waits, &start, &end) {
+        Ok(()) => refuse(0, 0, 0),
+        Err(answer) => answer,
+    };
     JudgedLog {
         answer,
         known,

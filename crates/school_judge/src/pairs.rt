@@ -6,97 +6,78 @@ ghost use Rattle.laws.specs.Scan.{scan_to};
 ghost use Rattle.plan.specs.Answer.{granted, is_refused};
 ghost use Rattle.plan.specs.Value.{at};
 ghost use Rattle.school.specs.Tests.{pair_fault, against_fault};
-ghost use Rattle.school_judge.specs.Tests.{is_sooner_by, is_against_by};
+ghost use Rattle.school_judge.specs.Private.Moments.{is_sooner_in, is_against_in};
+ghost use Rattle.school_judge.specs.Told.{told};
 
 use book_view::is_in;
 use plan::{Answer, refuse};
 
-// Does a task that waits for task j start before it has ended, at the tick? A walk that gathers to its end, so that it can use wide instructions.
-fn is_preceded<'a>(
-    waits: &'a [u64; 64],
-    start: &'a [u32; 64],
-    tick: u32,
-    j: usize,
-    tasks: usize,
-) -> bool
-    requires { (j < 64) × (tasks ≤ 64) }
-    ensures { result ≡ any tasks (λ i. has (at waits.now i) j && ltb (at start.now i) tick) }
-{
-    let mut some = false;
-    for i in 0..tasks {
-        some = (is_in(waits[i], j) & (start[i] < tick)) | some;
-    }
-    some
+// Who waits for whom, and when each task starts and ends.
+#[derive(Clone, Copy)]
+pub(crate) struct Moments<'a> {
+    pub(crate) waits: &'a [u64; 64],
+    pub(crate) start: &'a [u32; 64],
+    pub(crate) end: &'a [u32; 64],
+    pub(crate) tasks: usize,
 }
 
-// Where no task is preceded, no pair need be searched.
-fn are_clean<'a>(
-    waits: &'a [u64; 64],
-    start: &'a [u32; 64],
-    end: &'a [u32; 64],
-    tasks: usize,
-) -> bool
-    requires { tasks ≤ 64 }
-    ensures { result ≡ every tasks (λ j. not (any tasks (λ i. is_sooner_by waits.now (at start.now) (at end.now) i j))) }
-{
-    for j in 0..tasks {
-        if is_preceded(waits, start, end[j], j, tasks) {
-            return false;
+impl Moments<'_> {
+    // Does a task that waits for task j start before it has ended, at the tick? A walk that gathers to its end, so that it can use wide instructions.
+    fn is_preceded(&self, tick: u32, j: usize) -> bool
+        requires { (j < 64) × (self.now.tasks ≤ 64) }
+        ensures { result ≡ any self.now.tasks (λ i. has (at self.now.waits.now i) j && ltb (at self.now.start.now i) tick) }
+    {
+        let mut some = false;
+        for i in 0..self.tasks {
+            some = (is_in(self.waits[i], j) & (self.start[i] < tick)) | some;
         }
+        some
     }
-    true
-}
 
-// Task b starts before task a has ended, for which it waits.
-fn is_sooner<'a>(
-    waits: &'a [u64; 64],
-    start: &'a [u32; 64],
-    end: &'a [u32; 64],
-    b: usize,
-    a: usize,
-) -> bool
-    requires { (a < 64) × (b < 64) }
-    ensures { result ≡ is_sooner_by waits.now (at start.now) (at end.now) b a }
-{
-    is_in(waits[b], a) & (start[b] < end[a])
-}
-
-// The first pair of task a with a later one.
-fn row_fault<'a>(
-    waits: &'a [u64; 64],
-    start: &'a [u32; 64],
-    end: &'a [u32; 64],
-    a: usize,
-    tasks: usize,
-) -> Answer
-    requires { (a < tasks) × (tasks ≤ 64) }
-    ensures { result ≡ scan_to is_refused granted (pair_fault (is_against_by waits.now (at start.now) (at end.now)) a) (a + 1) tasks }
-{
-    for b in a + 1..tasks {
-        if is_sooner(waits, start, end, a, b) | is_sooner(waits, start, end, b, a) {
-            return refuse(26, (a + 1) as u32, (b + 1) as u32);
+    // Where no task is preceded, no pair need be searched.
+    fn are_clean(&self) -> bool
+        requires { self.now.tasks ≤ 64 }
+        ensures { result ≡ every self.now.tasks (λ j. not (any self.now.tasks (λ i. is_sooner_in self.now i j))) }
+    {
+        for j in 0..self.tasks {
+            if self.is_preceded(self.end[j], j) {
+                return false;
+            }
         }
+        true
     }
-    refuse(0, 0, 0)
-}
 
-pub(crate) fn pairs_fault<'a>(
-    waits: &'a [u64; 64],
-    start: &'a [u32; 64],
-    end: &'a [u32; 64],
-    tasks: usize,
-) -> Answer
-    requires { tasks ≤ 64 }
-    ensures { result ≡ against_fault tasks (is_against_by waits.now (at start.now) (at end.now)) }
-{
-    if are_clean(waits, start, end, tasks) {
-        return refuse(0, 0, 0);
+    // Task b starts before task a has ended, for which it waits.
+    fn is_sooner(&self, b: usize, a: usize) -> bool
+        requires { (a < 64) × (b < 64) }
+        ensures { result ≡ is_sooner_in self.now b a }
+    {
+        is_in(self.waits[b], a) & (self.start[b] < self.end[a])
     }
-    for a in 0..tasks {
-        let found = row_fault(waits, start, end, a, tasks);
-        if found.code != 0 {
-            return found;
+
+    // The first pair of task a with a later one.
+    fn row_fault(&self, a: usize) -> Result<(), Answer>
+        requires { (a < self.now.tasks) × (self.now.tasks ≤ 64) }
+        ensures { result ≡ told (scan_to is_refused granted (pair_fault (is_against_in self.now) a) (a + 1) self.now.tasks) }
+    {
+        for b in a + 1..self.tasks {
+            if self.is_sooner(a, b) | self.is_sooner(b, a) {
+                return Err(refuse(26, (a + 1) as u32, (b + 1) as u32));
+            }
         }
+        Ok(())
     }
-    refuse(0, 0, 0)
+
+    pub(crate) fn fault(&self) -> Result<(), Answer>
+        requires { self.now.tasks ≤ 64 }
+        ensures { result ≡ told (against_fault self.now.tasks (is_against_in self.now)) }
+    {
+        if self.are_clean() {
+            return Ok(());
+        }
+        for a in 0..self.tasks {
+            self.row_fault(a)?;
+        }
+        Ok(())
+    }
 }

@@ -1,84 +1,75 @@
-// The lowest task of which a test holds, from 1; 0 where there is none.
-ghost use Rattle.std.specs.Prelude.{◌≡◌, not, cond, [], ◌-◌, ◌≤◌, eqb};
+// The lowest task of which a test holds, from 1.
+ghost use Rattle.std.specs.Prelude.{ℕ, Bool, ◌≡◌, not, ◌-◌, ◌<◌, ◌≤◌};
+ghost use Rattle.laws.specs.Private.Nonzero.{nonzero};
 ghost use Rattle.text_fields.specs.Items.{between};
 ghost use Rattle.theory.specs.Times.{lowest};
-ghost use Rattle.plan.specs.Answer.{refuse, granted};
 ghost use Rattle.plan.specs.Value.{at};
+ghost use Rattle.plan.specs.View.{viewed};
 ghost use Rattle.school.specs.Tests.{is_mislong, is_untimely};
-ghost use Rattle.school_judge.specs.Tests.{times_of, is_amiss};
+ghost use Rattle.school_judge.specs.Tests.{is_amiss};
+ghost use Rattle.school_judge.specs.Private.ToldOf.{told_of};
 
-use plan::{Answer, refuse};
+use plan::{Answer, PlanView, refuse};
 
 // Its refusal, where there is such a task.
-pub(crate) fn task_fault(code: u32, task: u32) -> Answer
-    ensures { result ≡ cond (eqb task 0) granted (refuse code task 0) }
+pub(crate) fn task_fault(code: u32, task: Option<u32>) -> Result<(), Answer>
+    ensures { result ≡ told_of code task }
 {
-    if task == 0 {
-        return refuse(0, 0, 0);
+    match task {
+        None => Ok(()),
+        Some(task) => Err(refuse(code, task, 0)),
     }
-    refuse(code, task, 0)
+}
+
+// The lowest task of which the test holds, from 1.
+fn lowest_of<F: Fn(usize) -> bool>(tasks: usize, test: F) -> Option<u32>
+    requires few { tasks ≤ 64 }
+    requires callable { (i : ℕ) → i < tasks → F.pre test i }
+    ensures { (p : ℕ → Bool) → ((i : ℕ) (r : Bool) → i < tasks → F.post test i r → r ≡ p i) → result ≡ nonzero (lowest tasks p) }
+{
+    for i in 0..tasks {
+        if test(i) {
+            return Some((i + 1) as u32);
+        }
+    }
+    None
 }
 
 // 24
-pub(crate) fn amiss(right: &[u8; 64], tasks: usize) -> u32
+pub(crate) fn amiss(right: &[u8; 64], tasks: usize) -> Option<u32>
     requires { tasks ≤ 64 }
-    ensures { result ≡ lowest tasks (is_amiss right.now) }
+    ensures { result ≡ nonzero (lowest tasks (is_amiss right.now)) }
 {
-    for i in 0..tasks {
-        if !(right[i] == 1) {
-            return (i + 1) as u32;
-        }
-    }
-    0
+    lowest_of(tasks, |i| right[i] != 1)
 }
 
-// Where the end is before the start, or the planned finish before the planned start, no length is right.
+// A length that would be below 0 is 0 here, which is no right length.
 fn is_mislong(begin: u32, finish: u32, start: u32, end: u32) -> bool
     ensures { result ≡ not (between 1 (finish - begin) (end - start)) }
 {
-    if end < start {
-        return true;
-    }
-    if finish < begin {
-        return true;
-    }
-    let length = end - start;
-    !((1 <= length) & (length <= finish - begin))
+    let length = end.saturating_sub(start);
+    !((1 <= length) & (length <= finish.saturating_sub(begin)))
 }
 
 // 25
-pub(crate) fn mislong<'a>(
-    begin: &'a [u32; 64],
-    finish: &'a [u32; 64],
-    start: &'a [u32; 64],
-    end: &'a [u32; 64],
+pub(crate) fn mislong(
+    plan: &PlanView<'_>,
+    start: &[u32; 64],
+    end: &[u32; 64],
     tasks: usize,
-) -> u32
+) -> Option<u32>
     requires { tasks ≤ 64 }
-    ensures { result ≡ lowest tasks (is_mislong (times_of [] begin.now finish.now) (at start.now) (at end.now)) }
+    ensures { result ≡ nonzero (lowest tasks (is_mislong (viewed plan.now) (at start.now) (at end.now))) }
 {
-    for i in 0..tasks {
-        if is_mislong(begin[i], finish[i], start[i], end[i]) {
-            return (i + 1) as u32;
-        }
-    }
-    0
+    let (begin, finish) = (plan.begin, plan.finish);
+    lowest_of(tasks, |i| is_mislong(begin[i], finish[i], start[i], end[i]))
 }
 
 // 27
-pub(crate) fn untimely<'a>(
-    ready: &'a [u32; 64],
-    begin: &'a [u32; 64],
-    start: &'a [u32; 64],
-    tasks: usize,
-) -> u32
+pub(crate) fn untimely(plan: &PlanView<'_>, start: &[u32; 64], tasks: usize) -> Option<u32>
     requires { tasks ≤ 64 }
-    ensures { result ≡ lowest tasks (is_untimely (times_of ready.now begin.now []) (at start.now)) }
+    ensures { result ≡ nonzero (lowest tasks (is_untimely (viewed plan.now) (at start.now))) }
 {
-    for i in 0..tasks {
-        if (begin[i] < start[i]) | (start[i] < ready[i]) {
-            return (i + 1) as u32;
-        }
-    }
-    0
+    let (ready, begin) = (plan.ready, plan.begin);
+    lowest_of(tasks, |i| (begin[i] < start[i]) | (start[i] < ready[i]))
 }

@@ -9,6 +9,7 @@ use lib.Dec.{eqb}
 use lib.ListN.{set, replicate, length-set, get_or-replicate}
 use lib.Seq.{ext_get_or, get_or-set_same, get_or-set_other}
 use borrow.Author.Tests.{eq-eqb, ne_eqb}
+use Rattle.std.specs.Prelude.{Result, Ok, Err}
 use Rattle.laws.specs.Each.{each}
 use Rattle.laws.specs.Lists.{all_of, first_not}
 use Rattle.laws.proofs.Cases.{by_bool, by-eq}
@@ -16,7 +17,8 @@ use Rattle.laws.proofs.Each.{each-idle}
 use Rattle.plan.specs.Value.{at}
 use Rattle.school.specs.Tasks.{how_many, first_of}
 use Rattle.school.specs.declared.LogLine.{LogLine}
-use Rattle.school_read.specs.Found.{is_formed, by_task, up_to_two, not_read, lines_found, lines_read}
+use Rattle.school_read.specs.Private.Blank.{blank}
+use Rattle.school_read.specs.Found.{is_formed, by_task, up_to_two, lines_found, lines_read}
 use Rattle.school_read.specs.declared.Found.{Found}
 use Rattle.school_read.proofs.ReadLaws.{length-places, task-place, none_kept}
 
@@ -30,7 +32,6 @@ kept_of count old new = cond (eqb count 0) new old
 -- the arrays with one line more
 unfoldable pub note_of : Found → LogLine → Found
 note_of found said = record {
-  line = found.line;
   starts = set found.starts said.start (counted_of (at found.starts said.start));
   ends = set found.ends said.end (counted_of (at found.ends said.end));
   start = set found.start said.start (kept_of (at found.starts said.start) (at found.start said.start) said.tick);
@@ -40,9 +41,9 @@ note_of found said = record {
 }
 
 -- line by line from line k + 1 on, up to the first that has not its form
-unfoldable pub go_on : ℕ → Found → List LogLine → Found
-go_on k found [] = found
-go_on k found (said ∷ lines) = cond said.formed (go_on (k + 1) (note_of found said) lines) (not_read (k + 1))
+unfoldable pub go_on : ℕ → Found → List LogLine → Result Found ℕ
+go_on k found [] = Ok found
+go_on k found (said ∷ lines) = cond said.formed (go_on (k + 1) (note_of found said) lines) (Err (k + 1))
 
 -- ---- one line more
 
@@ -126,7 +127,7 @@ note-turn said lines =
     let d = value-put (λ x. x.end) said lines (λ x. x.tick) in
     let e = value-put (λ x. x.start) said lines (λ x. x.board) in
     let f = value-put (λ x. x.end) said lines (λ x. x.board) in
-    λ i. record { line = 0; starts = a i; ends = b i; start = c i; end = d i; startboard = e i; endboard = f i }
+    λ i. record { starts = a i; ends = b i; start = c i; end = d i; startboard = e i; endboard = f i }
 
 -- ---- all lines
 
@@ -137,18 +138,18 @@ cond_no : {A : Type 0} {b : Bool} (x y : A) → b ≡ false → cond b x y ≡ y
 cond_no x y e = rw e
 
 module _ (k : ℕ) (found : Found) where
-  pub go-none : go_on k found [] ≡ found
+  pub go-none : go_on k found [] ≡ Ok found
   unfolding go_on
   go-none = refl
 
   module _ (said : LogLine) (lines : List LogLine) where
     pub go-line : said.formed ≡ true → go_on k found (said ∷ lines) ≡ go_on (k + 1) (note_of found said) lines
     unfolding go_on
-    go-line e = cond_yes (go_on (k + 1) (note_of found said) lines) (not_read (k + 1)) e
+    go-line e = cond_yes (go_on (k + 1) (note_of found said) lines) (Err (k + 1)) e
 
-    pub go-stop : said.formed ≡ false → go_on k found (said ∷ lines) ≡ not_read (k + 1)
+    pub go-stop : said.formed ≡ false → go_on k found (said ∷ lines) ≡ Err (k + 1)
     unfolding go_on
-    go-stop e = cond_no (go_on (k + 1) (note_of found said) lines) (not_read (k + 1)) e
+    go-stop e = cond_no (go_on (k + 1) (note_of found said) lines) (Err (k + 1)) e
 
 module _ (said : LogLine) (lines : List LogLine) where
   all-line : said.formed ≡ true → all_of is_formed (said ∷ lines) ≡ all_of is_formed lines
@@ -173,7 +174,7 @@ all_none = refl
 
 go_all :
     (k : ℕ) (seen lines : List LogLine)
-    → go_on k (lines_found seen) lines ≡ cond (all_of is_formed lines) (lines_found (seen ++ lines)) (not_read (k + first_not is_formed lines + 1))
+    → go_on k (lines_found seen) lines ≡ cond (all_of is_formed lines) (Ok (lines_found (seen ++ lines))) (Err (k + first_not is_formed lines + 1))
 go_all k seen [] = go-none k (lines_found seen) ∙ rw (all_none, append-nil seen)
 go_all k seen (said ∷ lines) =
     by_bool said.formed
@@ -185,15 +186,15 @@ go_all k seen (said ∷ lines) =
     ∙ rw (all-line said lines e, first_line said lines e, append_assoc seen (said ∷ []) lines, n))
     (λ e.
     let n : k + 1 ≡ k + 0 + 1 = omega arith in
-    go-stop k (lines_found seen) said lines e ∙ rw (all-stop said lines e, first-stop said lines e) (ap not_read n))
+    go-stop k (lines_found seen) said lines e ∙ rw (all-stop said lines e, first-stop said lines e) (ap Err n))
 
-blank-found : not_read 0 ≡ lines_found []
+blank-found : blank ≡ lines_found []
 unfolding lines_found how_many first_of by_task
 blank-found =
     let z : replicate {A = ℕ} 65 0 ≡ each 65 (λ t. 0) (replicate {A = ℕ} 65 0) =
     sym (each-idle 65 (λ t. 0) (replicate {A = ℕ} 65 0) 0 (λ t h. sym (get_or-replicate {A = ℕ} 65 t 0 0 h))) in
-    λ i. record { line = 0; starts = z i; ends = z i; start = z i; end = z i; startboard = z i; endboard = z i }
+    λ i. record { starts = z i; ends = z i; start = z i; end = z i; startboard = z i; endboard = z i }
 
-pub go-whole : (lines : List LogLine) → go_on 0 (not_read 0) lines ≡ lines_read lines
+pub go-whole : (lines : List LogLine) → go_on 0 blank lines ≡ lines_read lines
 unfolding lines_read
 go-whole lines = rw (blank-found, go_all 0 [] lines) (let n : 0 + first_not is_formed lines + 1 ≡ first_not is_formed lines + 1 = omega arith in rw n)

@@ -1,12 +1,13 @@
 -- What is found in a log, place by place, and which line is the last that it can name.
 use Prim.Native.Nat.{ℕ, ◌+◌, ◌≤◌, ◌<◌, min}
-use mathlib.Core.Path.{◌≡◌, refl, sym, ◌∙◌}
+use mathlib.Core.Path.{◌≡◌, refl, sym, ap, ◌∙◌}
 use mathlib.Core.Bool.{Bool, true, false, not, cond, ◌||◌}
 use mathlib.Core.List.{List, [], ◌∷◌}
 use native.Mathlib.Omega.{arith}
 use lib.Dec.{eqb}
 use lib.ListN.{length, get_or, replicate, length-replicate}
 use borrow.Author.Tests.{eq-eqb, ne_eqb}
+use Rattle.std.specs.Prelude.{Result, Ok, Err}
 use Rattle.laws.specs.Lists.{all_of, first_not, same}
 use Rattle.laws.specs.Split.{cons_first, split_on}
 use Rattle.laws.proofs.Cases.{by_bool, by-eq, true-false}
@@ -14,7 +15,8 @@ use Rattle.laws.proofs.Each.{length-each, each_below}
 use Rattle.text.specs.Line.{LF}
 use Rattle.school.specs.Lines.{says_none, said_from, said_in}
 use Rattle.school.specs.declared.LogLine.{LogLine}
-use Rattle.school_read.specs.Found.{is_formed, by_task, up_to_two, lines_found, lines_read, found_of}
+use Rattle.school_read.specs.Found.{is_formed, by_task, up_to_two, lines_read, found_of}
+use Rattle.school_read.specs.declared.Found.{Found}
 
 pub length-blank : length (replicate {A = ℕ} 65 0) ≡ 65
 length-blank = length-replicate {A = ℕ} 65 0
@@ -75,12 +77,28 @@ first_below (said ∷ lines) h =
     (λ e. let r = first_below lines (rw e at h) in rw e (omega arith))
     (λ e. rw e (omega arith))
 
-pub line-most : (boards tasks : ℕ) (log : List ℕ) → (found_of boards tasks log).line ≤ length log + 1
-unfolding found_of lines_read lines_found
-line-most boards tasks log =
+-- 0 where all lines have their form
+abbrev pub line_of : Result Found ℕ → ℕ
+line_of (Ok found) = 0
+line_of (Err line) = line
+
+abbrev pub is_found : Result Found ℕ → Bool
+is_found (Ok found) = true
+is_found (Err line) = false
+
+abbrev pub found_else : Found → Result Found ℕ → Found
+found_else other (Ok found) = found
+found_else other (Err line) = other
+
+named-most : (boards tasks : ℕ) (log : List ℕ) → line_of (found_of boards tasks log) ≤ length log + 1
+unfolding found_of lines_read
+named-most boards tasks log =
     let lines = said_in boards (min tasks 64) log in
     let few = parts-few LF log in
     let said = said-few boards (min tasks 64) true (split_on LF log) in
     by_bool (all_of is_formed lines)
     (λ e. rw e (omega arith))
     (λ e. let r = first_below lines e in rw e (omega arith))
+
+pub line-most : (boards tasks : ℕ) (log : List ℕ) {line : ℕ} → Err line ≡ found_of boards tasks log → line ≤ length log + 1
+line-most boards tasks log e = let q = ap line_of e in omega (arith, named-most boards tasks log)

@@ -8,6 +8,7 @@ use native.Mathlib.Omega.{arith}
 use lib.Dec.{eqb, leb, ltb}
 use lib.ListN.{length, take, drop, set, length-drop, length-set}
 use borrow.Author.Tests.{ne_eqb, eqb-true, lt-ltb, ltb-true, leb-true, not-true, not-false}
+use Rattle.std.specs.Prelude.{Ok, Err}
 use Rattle.laws.specs.Lists.{same}
 use Rattle.laws.specs.Split.{index_of, before, after, split_on}
 use Rattle.laws.proofs.Cases.{by_bool, true-false, and_l, and_r, or_at, or_no}
@@ -20,7 +21,8 @@ use Rattle.plan.specs.Read.{ranged}
 use Rattle.plan.specs.Value.{at}
 use Rattle.school.specs.Lines.{is_tick, is_earliness, is_record, is_moment, says_none, later_said, line_said, said_from, said_in}
 use Rattle.school.specs.declared.LogLine.{LogLine}
-use Rattle.school_read.specs.Found.{not_read, found_of}
+use Rattle.school_read.specs.Found.{found_of}
+use Rattle.school_read.specs.Private.Blank.{blank}
 use Rattle.school_read.specs.declared.Found.{Found}
 use Rattle.school_read.proofs.ReadLaws.{length-blank}
 use Rattle.school_read.proofs.NoteLaws.{note_of, go_on, go-none, go-line, go-stop, go-whole}
@@ -112,7 +114,7 @@ pub record Walk (boards tasks most : ℕ) (log : List ℕ) (found : Found) (line
 
 pub walk_start :
     (boards tasks most : ℕ) (log : List ℕ) → most ≡ min tasks 64 → {found : Found}
-    → found ≡ not_read 0 → length log < 18446744073709551616 → Walk boards tasks most log found 0 log
+    → found ≡ blank → length log < 18446744073709551616 → Walk boards tasks most log found 0 log
 unfolding found_of
 walk_start boards tasks most log m e h = record {
   goes = rw (e, m) (go-whole (said_in boards (min tasks 64) log));
@@ -136,13 +138,13 @@ module _ {boards tasks most : ℕ} {log : List ℕ} {found : Found} {line : ℕ}
 
   pub walk-unended :
       (eqb line 0 || ltb 0 (length rest)) ≡ true → {k : ℕ} → k ≡ index_of LF rest
-      → k ≡ length rest → {r : Found} → r ≡ not_read (line + 1) → r ≡ found_of boards tasks log
-  walk-unended t e h q =
-      q ∙ sym (go-stop line found (says_none false) [] refl)
+      → k ≡ length rest → Err (line + 1) ≡ found_of boards tasks log
+  walk-unended t e h =
+      sym (go-stop line found (says_none false) [] refl)
       ∙ ap (go_on line found) (sym (said-unended boards most (eqb line 0) rest t (omega arith)))
       ∙ w.goes
 
-  pub walk_end : (eqb line 0 || ltb 0 (length rest)) ≡ false → found ≡ found_of boards tasks log
+  pub walk_end : (eqb line 0 || ltb 0 (length rest)) ≡ false → Ok found ≡ found_of boards tasks log
   walk_end t =
       sym (go-none line found) ∙ ap (go_on line found) (sym (said-over boards most (eqb line 0) rest t)) ∙ w.goes
 
@@ -154,8 +156,8 @@ module _ {boards tasks most : ℕ} {log : List ℕ} {found : Found} {line : ℕ}
         let later = said_from boards most false (split_on LF (after LF rest)) in
         ap (λ (x : LogLine). go_on line found (x ∷ later)) q ∙ ap (go_on line found) (sym (said-line boards most (eqb line 0) rest h)) ∙ w.goes
 
-    pub walk-stops : not said.formed ≡ true → {r : Found} → r ≡ not_read (line + 1) → r ≡ found_of boards tasks log
-    walk-stops f q = q ∙ sym (go-stop line found said _ (not-true said.formed f)) ∙ line-here
+    pub walk-stops : not said.formed ≡ true → Err (line + 1) ≡ found_of boards tasks log
+    walk-stops f = sym (go-stop line found said _ (not-true said.formed f)) ∙ line-here
 
     pub walk-goes :
         not said.formed ≡ false → {fresh late : Bool} {start startboard starts end endboard ends : ℕ} {next : List ℕ}
@@ -166,7 +168,6 @@ module _ {boards tasks most : ℕ} {log : List ℕ} {found : Found} {line : ℕ}
         → next ≡ drop (suc k) rest
         → Walk boards tasks most log
         (record {
-          line = found.line;
           starts = set found.starts said.start starts;
           ends = set found.ends said.end ends;
           start = set found.start said.start start;

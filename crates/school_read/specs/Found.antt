@@ -1,5 +1,5 @@
 -- What is found in a log: the lowest line that has not its form, or what its lines say of each task.
-use Rattle.std.specs.Prelude.{ℕ, ◌+◌, min, Bool, cond, List, eqb, replicate}
+use Rattle.std.specs.Prelude.{ℕ, ◌+◌, min, Bool, cond, List, Result, Ok, Err, eqb, replicate}
 use Rattle.laws.specs.Each.{each}
 use Rattle.laws.specs.Lists.{all_of, first_not}
 use Rattle.school.specs.Lines.{said_in}
@@ -25,22 +25,9 @@ by_task f = each 65 f (replicate 65 0)
 abbrev pub up_to_two : ℕ → ℕ
 up_to_two n = min n 2
 
--- nothing of a log with a line that has not its form
-abbrev pub not_read : ℕ → Found
-not_read line = record {
-  line = line;
-  starts = replicate 65 0;
-  ends = replicate 65 0;
-  start = replicate 65 0;
-  end = replicate 65 0;
-  startboard = replicate 65 0;
-  endboard = replicate 65 0;
-}
-
 -- how many starts and ends, and tick and board of the first
 unfoldable pub lines_found : List LogLine → Found
 lines_found lines = record {
-  line = 0;
   starts = by_task (λ t. up_to_two (how_many (starts_task t) lines));
   ends = by_task (λ t. up_to_two (how_many (ends_task t) lines));
   start = by_task (λ t. (first_of (starts_task t) lines).tick);
@@ -49,10 +36,10 @@ lines_found lines = record {
   endboard = by_task (λ t. (first_of (ends_task t) lines).board);
 }
 
--- the lowest line that has not its form, from 1
-unfoldable pub lines_read : List LogLine → Found
-lines_read lines = cond (all_of is_formed lines) (lines_found lines) (not_read (first_not is_formed lines + 1))
+-- the lowest line that has not its form, from 1, or what is found
+unfoldable pub lines_read : List LogLine → Result Found ℕ
+lines_read lines = cond (all_of is_formed lines) (Ok (lines_found lines)) (Err (first_not is_formed lines + 1))
 
 -- arrays have places for 64 tasks
-unfoldable pub found_of : ℕ → ℕ → List ℕ → Found
+unfoldable pub found_of : ℕ → ℕ → List ℕ → Result Found ℕ
 found_of boards tasks log = lines_read (said_in boards (min tasks 64) log)

@@ -6,7 +6,8 @@ ghost use Rattle.std.specs.Prelude.{◌≡◌, ◌≤◌, cond};
 ghost use Rattle.plan.specs.Read.{ranged};
 ghost use Rattle.school.specs.Lines.{is_earliness, is_run, says_none, line_said};
 ghost use Rattle.school_read.specs.Private.Rest.{start_rest, end_of, two_ticks, three_ticks, remark_rest};
-ghost use Rattle.school_read.specs.Found.{not_read, found_of};
+ghost use Rattle.school_read.specs.Found.{found_of};
+ghost use Rattle.school_read.specs.Private.Blank.{blank};
 
 use plan::few;
 use school::LogLine;
@@ -44,8 +45,9 @@ fn is_run(boards: u8, tasks: u8, line: &[u8]) -> bool
     let first = same(field(line, 1), b"1");
     let second = same(field(line, 1), b"2");
     let clash = same(field(line, 4), b"clash");
-    let of_boards = is_ranged(field(line, 2), boards as u32, boards as u32);
-    let of_tasks = is_ranged(field(line, 3), tasks as u32, tasks as u32);
+    let (boards, tasks) = (u32::from(boards), u32::from(tasks));
+    let of_boards = is_ranged(field(line, 2), boards, boards);
+    let of_tasks = is_ranged(field(line, 3), tasks, tasks);
     ((((count == 4) & run) & first) | (((count == 5) & run) & (second & clash)))
         & (of_boards & of_tasks)
 }
@@ -72,8 +74,8 @@ fn read_start(boards: u8, tasks: u8, rest: &[u8]) -> LogLine
     let from_tick = past(from_board, board_field.len());
     let tick_field = part_before(from_tick, TAB);
     let early = past(from_tick, tick_field.len());
-    let task = read_ranged(task_field, 1, tasks as u32);
-    let board = read_ranged(board_field, 1, boards as u32);
+    let task = read_ranged(task_field, 1, u32::from(tasks));
+    let board = read_ranged(board_field, 1, u32::from(boards));
     let tick = read_ranged(tick_field, 0, NUMBER_MOST);
     let fine = (task.code == 0) & ((board.code == 0) & ((tick.code == 0) & is_earliness(early)));
     if !((tick_field.len() < from_tick.len()) & fine) {
@@ -150,11 +152,9 @@ pub fn said(boards: u8, tasks: u8, first: bool, line: &[u8]) -> LogLine
     says_none(is_remark(word, rest))
 }
 
-// The lowest line without its form, from 1, 0 for none. Place t is task t's, place 0 that of lines that name none:
-// how many starts and ends there are, 2 for more, and tick and board of the first.
+// Place t is task t's, place 0 that of lines that name none: how many starts and ends there are, 2 for more, and tick and board of the first.
 #[derive(Drop)]
 pub struct Found {
-    pub line: usize,
     pub starts: [u8; 65],
     pub ends: [u8; 65],
     pub start: [u32; 65],
@@ -167,27 +167,20 @@ pub struct Found {
 fn once_or_twice(fresh: bool) -> u8
     ensures { result ≡ cond fresh 1 2 }
 {
-    if fresh {
-        return 1;
-    }
-    2
+    if fresh { 1 } else { 2 }
 }
 
 // The first line of a task is the one that is kept.
 fn kept(fresh: bool, old: u32, new: u32) -> u32
     ensures { result ≡ cond fresh new old }
 {
-    if fresh {
-        return new;
-    }
-    old
+    if fresh { new } else { old }
 }
 
-fn not_read(line: usize) -> Found
-    ensures { result ≡ not_read line }
+fn blank() -> Found
+    ensures { result ≡ blank }
 {
     Found {
-        line,
         starts: [0; 65],
         ends: [0; 65],
         start: [0; 65],
@@ -197,22 +190,23 @@ fn not_read(line: usize) -> Found
     }
 }
 
-// Each line stores in two places, those of the tasks whose start and end it says, so that no test is made of which it is.
-pub fn read_log(boards: u8, tasks: u8, log: &[u8]) -> Found
+// The error is the lowest line without its form, from 1. Each line stores in two places, those of the tasks whose start and end it says,
+// so that no test is made of which it is.
+pub fn read_log(boards: u8, tasks: u8, log: &[u8]) -> Result<Found, usize>
     ensures { result ≡ found_of boards tasks log.now }
 {
     let most = few(tasks);
-    let mut found = not_read(0);
+    let mut found = blank();
     let mut line = 0;
     let mut rest = log;
     while (line == 0) | (0 < rest.len()) {
         let end = find(rest, LF);
         if end == rest.len() {
-            return not_read(line + 1);
+            return Err(line + 1);
         }
         let what = said(boards, most, line == 0, &rest[..end]);
         if !what.formed {
-            return not_read(line + 1);
+            return Err(line + 1);
         }
         let s = what.start as usize;
         let starts = found.starts[s] == 0;
@@ -228,5 +222,5 @@ pub fn read_log(boards: u8, tasks: u8, log: &[u8]) -> Found
         rest = next;
         line += 1;
     }
-    found
+    Ok(found)
 }

@@ -1,4 +1,3 @@
-pub mod SignedLaws
 pub mod LineLaws
 pub mod TickLaws
 pub mod TextLaws

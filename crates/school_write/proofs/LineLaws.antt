@@ -1,5 +1,5 @@
 -- The lines, one after the other.
-use Prim.Native.Nat.{ℕ, ◌+◌, ◌*◌, ◌≤◌, ◌<◌}
+use Prim.Native.Nat.{ℕ, ◌+◌, ◌-◌, ◌*◌, ◌≤◌, ◌<◌}
 use native.Mathlib.Omega.{arith}
 use native.Mathlib.Numerals.{add-one}
 use mathlib.Core.Path.{◌≡◌, refl, sym, ap, ◌∙◌}
@@ -7,13 +7,10 @@ use mathlib.Core.Logic.{◌≢◌}
 use mathlib.Core.Bool.{Bool, true, false, cond, ◌&&◌}
 use mathlib.Core.List.{List, [], ◌∷◌, ◌++◌, append_assoc}
 use lib.Dec.{leb, eqb}
-use lib.IntN.{ℤ, pos, nat_abs, ◌-ℤ◌}
 use lib.ListN.{length}
 use lib.Seq.{sets}
-use lib.Signed.{lt_z}
-use borrow.Author.Tests.{eq-eqb, ne_eqb, le-leb, lt-leb, leb-true}
-use Rattle.laws.proofs.Cases.{and_l, and_r}
-use Rattle.laws.proofs.Every.{every-at, every-turn}
+use borrow.Author.Tests.{eq-eqb, ne_eqb, le-leb, lt-leb, lt-ltb, le-ltb}
+use Rattle.laws.proofs.Every.{every-turn}
 use Rattle.laws.specs.Digits.{digits_of}
 use Rattle.laws.specs.Every.{every}
 use Rattle.laws.specs.Split.{join_on}
@@ -21,7 +18,6 @@ use Rattle.laws.proofs.Width.{ten-digits}
 use Rattle.text.specs.Bytes.{bytes}
 use Rattle.text.specs.Line.{line_text, lines_below}
 use Rattle.text.specs.Put.{Put}
-use Rattle.plan.specs.Answer.{refuse}
 use Rattle.plan.specs.Value.{at}
 use Rattle.plan.specs.declared.Answer.{Answer}
 use Rattle.log_write.specs.Lines.{Lined, refused_line}
@@ -30,27 +26,23 @@ use Rattle.log_write.proofs.WriteLaws.{whole, looser, also, wrote-length, wrote-
 use Rattle.school.specs.Text.{early_text, figure_lines, verdict_line, judged_text, judged_most}
 use Rattle.school_write.specs.Lines.{finishing, ended, are_ticks, lines_in}
 use Rattle.school_write.specs.Private.Figures.{figures_of}
-use Rattle.school_write.specs.Private.Signed.{signed_text}
-use Rattle.school_write.proofs.SignedLaws.{text-below, text-above, text-early}
 
--- ---- a signed number
+-- ---- ticks early
 
-module _ (n : ℤ) {size : ℕ} (small : nat_abs n ≤ 1000000) (is : size ≡ nat_abs n) where
-  digits : length (digits_of size) ≤ 10
-  digits = ten-digits size (omega arith)
-
-  pub signed_below :
-      {out : List ℕ} {p : ℕ} {m : List ℕ} {q : ℕ} {m' : List ℕ} {q' : ℕ} → lt_z n (pos 0) ≡ true → p + 11 ≤ length out → Put out p (45 ∷ []) m q
-      → Put m q (digits_of size) m' q' → Wrote out p (signed_text n) 11 m' q'
-  signed_below t fits v w =
-      let d = digits in
+module _ (planned tick : ℕ) {out : List ℕ} {p : ℕ} {m : List ℕ} {q : ℕ} (fits : p + 11 ≤ length out) where
+  pub early-late :
+      planned < tick → tick < 4294967296 → Put out p (45 ∷ []) m q → {m' : List ℕ} {q' : ℕ} → Put m q (digits_of (tick - planned)) m' q'
+      → Wrote out p (early_text planned tick) 11 m' q'
+  unfolding early_text
+  early-late l small v w =
+      let d = ten-digits (tick - planned) (omega arith) in
       let sign = whole (omega arith) v in
-      rw (text-below n t, ← is) (looser (omega arith) (also sign (whole (omega (arith, sign.place, wrote-length sign)) w)))
+      rw (lt-ltb planned tick l) (looser (omega arith) (also sign (whole (omega (arith, sign.place, wrote-length sign)) w)))
 
-  pub signed_above :
-      {out : List ℕ} {p : ℕ} {m : List ℕ} {q : ℕ} → lt_z n (pos 0) ≡ false → p + 11 ≤ length out → Put out p (digits_of size) m q
-      → Wrote out p (signed_text n) 11 m q
-  signed_above t fits w = let d = digits in rw (text-above n t, ← is) (looser (omega arith) (whole (omega arith) w))
+  pub early-soon : tick ≤ planned → planned < 4294967296 → Put out p (digits_of (planned - tick)) m q → Wrote out p (early_text planned tick) 11 m q
+  unfolding early_text
+  early-soon l small w =
+      let d = ten-digits (planned - tick) (omega arith) in rw (le-ltb planned tick l) (looser (omega arith) (whole (omega arith) w))
 
 -- ---- the line of a task
 
@@ -72,16 +64,13 @@ module _ {out : List ℕ} {from : ℕ} {task : ℕ} {m1 : List ℕ} {p1 : ℕ} {
       (omega (arith, number.place, tab.place), wrote-length tab ∙ wrote-length number)
 
   pub figure-wrote :
-      (planned tick : ℕ) {z : ℤ} {m3 : List ℕ} {p3 : ℕ} {m4 : List ℕ} {p4 : ℕ} → z ≡ pos planned -ℤ pos tick
-      → Wrote m2 p2 (signed_text z) 11 m3 p3 → Put m3 p3 (10 ∷ []) m4 p4
-      → Wrote out from (line_text (digits_of task ∷ early_text planned tick ∷ [])) 24 m4 p4
-  figure-wrote planned tick {z} {m3} {p3} e x y =
+      (planned tick : ℕ) {m3 : List ℕ} {p3 : ℕ} {m4 : List ℕ} {p4 : ℕ} → Wrote m2 p2 (early_text planned tick) 11 m3 p3
+      → Put m3 p3 (10 ∷ []) m4 p4 → Wrote out from (line_text (digits_of task ∷ early_text planned tick ∷ [])) 24 m4 p4
+  figure-wrote planned tick x y =
       let d = ten-digits task few in
       let a = after-tab in
-      let t : signed_text z ≡ early_text planned tick = ap signed_text e ∙ text-early planned tick in
-      let x' : Wrote m2 p2 (early_text planned tick) 11 m3 p3 = rw t at x in
-      let end = whole (omega (arith, x'.place, x'.small, wrote-length x')) y in
-      rw (line-text (digits_of task) (early_text planned tick)) (looser (omega arith) (also number (also tab (also x' end))))
+      let end = whole (omega (arith, x.place, x.small, wrote-length x)) y in
+      rw (line-text (digits_of task) (early_text planned tick)) (looser (omega arith) (also number (also tab (also x end))))
 
 pub known-none : {known : ℕ} (out : List ℕ) (from : ℕ) (line : List ℕ) → known ≢ 1 → Wrote out from (cond (eqb known 1) line []) 24 out from
 known-none {known} out from line n = rw (ne_eqb known 1 n) (nothing out from 24)
@@ -112,12 +101,8 @@ module _ (finish known end : List ℕ) where
       (i : ℕ) {out m : List ℕ} {p : ℕ} {m' : List ℕ} {p' : ℕ} → Below i out m p → Wrote m p (line_of i) 24 m' p' → Below (i + 1) out m' p'
   figures-turn i v w = rw step (looser (omega arith) (also v w))
 
-  pub figures-room :
-      {tasks i : ℕ} {out m : List ℕ} {p : ℕ} → tasks ≤ 64 → i < tasks → 1588 ≤ length out → are_ticks tasks finish end ≡ true → Below i out m p
-      → (p + 24 ≤ length m) × (at finish i ≤ 1000000) × (at end i ≤ 1000000)
-  figures-room {tasks} {i} few h long ticks v =
-      let t = every-at tasks (λ j. leb (at finish j) 1000000 && leb (at end j) 1000000) ticks i h in
-      (omega (arith, v.place, v.small, wrote-length v), leb-true (at finish i) 1000000 (and_l _ _ t), leb-true (at end i) 1000000 (and_r (leb (at finish i) 1000000) _ t))
+  pub figures-room : {tasks i : ℕ} {out m : List ℕ} {p : ℕ} → tasks ≤ 64 → i < tasks → 1588 ≤ length out → Below i out m p → p + 24 ≤ length m
+  figures-room few h long v = omega (arith, v.place, v.small, wrote-length v)
 
   pub figures-end :
       {tasks i : ℕ} {out m : List ℕ} {p : ℕ} → tasks ≤ 64 → i ≤ tasks → tasks ≤ i → Below i out m p
@@ -138,14 +123,14 @@ ticks-out n k finish end a l h = let e : k ≡ n = omega arith in rw e at a
 
 -- ---- the verdict
 
-module _ (code first second : ℕ) {out : List ℕ} {from : ℕ} {m : List ℕ} {p : ℕ} (fits : from + 52 ≤ length out) where
-  pub verdict-accepted : code ≡ 0 → Put out from (bytes "accepted" ++ (10 ∷ [])) m p → Wrote out from (verdict_line (refuse code first second)) 52 m p
+module _ (answer : Answer) {out : List ℕ} {from : ℕ} {m : List ℕ} {p : ℕ} (fits : from + 52 ≤ length out) where
+  pub verdict-accepted : answer.code ≡ 0 → Put out from (bytes "accepted" ++ (10 ∷ [])) m p → Wrote out from (verdict_line answer) 52 m p
   unfolding join_on
-  verdict-accepted z w = rw (eq-eqb code 0 z) (looser (omega arith) (whole (omega arith) w))
+  verdict-accepted z w = rw (eq-eqb answer.code 0 z) (looser (omega arith) (whole (omega arith) w))
 
   pub verdict-refused :
-      code ≢ 0 → Lined out from (refused_line (refuse code first second)) 41 m p → Wrote out from (verdict_line (refuse code first second)) 52 m p
-  verdict-refused n w = rw (ne_eqb code 0 n) (looser (omega arith) (wrote-line fits w))
+      answer.code ≢ 0 → Lined out from (refused_line answer) 41 m p → Wrote out from (verdict_line answer) 52 m p
+  verdict-refused n w = rw (ne_eqb answer.code 0 n) (looser (omega arith) (wrote-line fits w))
 
 -- ---- the whole
 

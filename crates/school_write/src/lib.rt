@@ -6,16 +6,15 @@ mod figures;
 
 ghost use Rattle.std.specs.Prelude.{◌≡◌, ◌+◌, ◌≤◌, min, length};
 ghost use Rattle.std.proofs.lemmas.List.Edits.{sets};
-ghost use Rattle.plan.specs.Answer.{refuse};
 ghost use Rattle.log_write.specs.Private.Wrote.{Wrote};
 ghost use Rattle.school.specs.Text.{verdict_line, judged_most, judged_in};
 ghost use Rattle.school_write.specs.Lines.{are_ticks, lines_in};
 
-use book_view::places;
 use figures::put_figures;
 use log_write::put_refused;
-use plan::Answer;
+use plan::{Answer, few};
 use plan_read::read_plan;
+use school::JudgedLog;
 use school_judge::judge_log;
 use text::decimal::NUMBER_MOST;
 use text::put::put_text;
@@ -36,14 +35,14 @@ fn are_ticks<'a>(finish: &'a [u32; 64], end: &'a [u32; 64], tasks: usize) -> boo
 }
 
 // `accepted`, or the refusal.
-fn put_verdict(out: &mut [u8], at: usize, code: u32, first: u32, second: u32) -> usize
+fn put_verdict(out: &mut [u8], at: usize, answer: Answer) -> usize
     requires { at + 52 ≤ length out.old }
-    ensures { Wrote out.old at (verdict_line (refuse code first second)) 52 out.new result }
+    ensures { Wrote out.old at (verdict_line answer) 52 out.new result }
 {
-    if code == 0 {
+    if answer.code == 0 {
         return put_text(out, at, b"accepted\n");
     }
-    put_refused(out, at, code, first, second)
+    put_refused(out, at, answer.code, answer.first, answer.second)
 }
 
 // Nothing is written where the buffer is shorter than JUDGED_MOST, or where a planned finish or an end is no tick.
@@ -51,21 +50,19 @@ pub fn put_judged<'a>(
     out: &mut [u8],
     tasks: u8,
     finish: &'a [u32; 64],
-    known: &'a [u8; 64],
-    end: &'a [u32; 64],
-    answer: Answer,
+    judged: &'a JudgedLog,
 ) -> usize
-    ensures { (result ≡ length (lines_in (length out.old) (min tasks 64) finish.now known.now end.now answer)) × (out.new ≡ sets out.old 0 (lines_in (length out.old) (min tasks 64) finish.now known.now end.now answer)) × (result ≤ judged_most) }
+    ensures { let text = lines_in (length out.old) (min tasks 64) finish.now judged.now.known judged.now.end judged.now.answer in (result ≡ length text) × (out.new ≡ sets out.old 0 text) × (result ≤ judged_most) }
 {
     if out.len() < JUDGED_MOST {
         return 0;
     }
-    let n = places(tasks, known);
-    if !are_ticks(finish, end, n) {
+    let n = usize::from(few(tasks));
+    if !are_ticks(finish, &judged.end, n) {
         return 0;
     }
-    let past = put_figures(out, n, finish, known, end);
-    put_verdict(out, past, answer.code, answer.first, answer.second)
+    let past = put_figures(out, n, finish, &judged.known, &judged.end);
+    put_verdict(out, past, judged.answer)
 }
 
 // Nothing is written where the buffer is shorter than JUDGED_MOST.
@@ -76,18 +73,10 @@ pub fn write_judged(plan: &[u8], log: &[u8], out: &mut [u8]) -> usize
         return 0;
     }
     let reading = read_plan(plan);
-    let read = reading.answer;
-    if read.code != 0 {
-        return put_refused(out, 0, read.code, read.first, read.second);
+    let refusal = reading.answer;
+    if refusal.code != 0 {
+        return put_refused(out, 0, refusal.code, refusal.first, refusal.second);
     }
-    let planned = reading.plan;
-    let judged = judge_log(planned, log);
-    put_judged(
-        out,
-        planned.tasks,
-        &planned.finish,
-        &judged.known,
-        &judged.end,
-        judged.answer,
-    )
+    let judged = judge_log(reading.plan, log);
+    put_judged(out, reading.plan.tasks, &reading.plan.finish, &judged)
 }

@@ -7,8 +7,8 @@ use Rattle.text.specs.Line.{TAB, LF, has_line, field}
 use Rattle.plan.specs.Answer.{refuse}
 use Rattle.plan.specs.Read.{task_codes}
 use Rattle.log_read.specs.Entries.{next_entry}
-use Rattle.log_read.specs.declared.Entry.{Entry}
-use Rattle.log_read.specs.declared.Entry.TheVariants.{End, Drop, Refused}
+use Rattle.log_read.specs.Said.{Entry}
+use Rattle.log_read.specs.Said.Entry.{End, Drop, Refused}
 use Rattle.tables.specs.Texts.{Reads, reads}
 
 -- one board, one task, and this task line

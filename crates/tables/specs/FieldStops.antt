@@ -1,10 +1,9 @@
 -- Where the readers of a field stop: the place, from 0, of the first byte that no spelling goes on with.
-use Rattle.std.specs.Prelude.{ℕ, suc, Bool, ◌&&◌, List, [], ◌∷◌, eqb}
+use Rattle.std.specs.Prelude.{ℕ, suc, Bool, ◌&&◌, List, [], ◌∷◌, eqb, Result, Ok, Err}
 use Rattle.text.specs.Bytes.{bytes}
-use Rattle.text.specs.Number.{most, number_of}
+use Rattle.text.specs.Number.{most, fault_stop, number_of}
 use Rattle.text_fields.specs.Items.{holds_read, after_read}
-use Rattle.text.specs.declared.Number.{Number}
-use Rattle.text.specs.declared.Number.TheVariants.{Value, Over, Misspelt}
+use Rattle.text.specs.declared.NumberFault.{NumberFault}
 use Rattle.text_fields.specs.Faults.{number_code}
 
 -- a field as a number, as holds, and as after among five tasks: what it is refused by, 0 where it is read, and where it stops. A number is
@@ -14,10 +13,9 @@ pub data FieldRow : Type 0 where
   holds : (text : List ℕ) (code stop : ℕ) → FieldRow
   after : (text : List ℕ) (code stop : ℕ) → FieldRow
 
-abbrev pub stop_of : Number → ℕ
-stop_of (Value value stop) = stop
-stop_of (Over stop) = stop
-stop_of (Misspelt stop) = stop
+abbrev pub stop_of : Result (ℕ × ℕ) NumberFault → ℕ
+stop_of (Ok (value, stop)) = stop
+stop_of (Err fault) = fault_stop fault
 
 abbrev pub stops_there : FieldRow → Bool
 stops_there (number text code stop) = eqb (number_code 0 (suc most) (number_of text)) code && eqb (stop_of (number_of text)) stop

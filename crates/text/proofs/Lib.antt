@@ -1,3 +1,4 @@
+pub mod Library
 pub mod Parts
 pub mod Spell
 pub mod Store

@@ -1,44 +1,18 @@
 -- A search for a separator, and a split at it, from a place of the text on.
 use Prim.Native.Nat.{ℕ, zero, suc, ◌+◌, ◌-◌, ◌≤◌, ◌<◌}
 use mathlib.Core.Path.{◌≡◌, refl, sym, ap, ◌∙◌}
-use mathlib.Core.Bool.{Bool, true, false, ◌&&◌}
+use mathlib.Core.Bool.{cond}
 use mathlib.Core.List.{List, [], ◌∷◌}
 use native.Mathlib.Omega.{arith}
 use native.Mathlib.Numerals.{add-one}
 use lib.ListN.{length, take, drop, get_or, length-drop, drop_of_length-le}
-use lib.Seq.{drop-cons, take_all, length-take-le}
+use lib.Seq.{take_all, length-take-le}
 use lib.Dec.{eqb}
-use borrow.Author.Tests.{eq-eqb, ne_eqb}
-use Rattle.laws.proofs.Cases.{by_le}
-use Rattle.laws.specs.Lists.{same}
+use Rattle.std.specs.List.{count_by}
+use Rattle.std.proofs.lemmas.List.Recursion.{is_count_by}
+use Rattle.laws.proofs.Cases.{by_bool, by_le}
 use Rattle.laws.specs.Split.{index_of, before, after, skip_on, split_on, cons_first}
 use Rattle.laws.proofs.Split.{index-le, skip-suc, split-found, split-none}
-
--- ---- a search
-
-module _ (c : ℕ) (s : List ℕ) (i : ℕ) where
-  index-here : i < length s → get_or s i 0 ≡ c → index_of c (drop i s) ≡ 0
-  unfolding index_of
-  index-here h e = rw (drop-cons s i 0, eq-eqb (get_or s i 0) c e)
-
-  index-next : i < length s → (get_or s i 0 ≡ c → ⊥) → index_of c (drop i s) ≡ suc (index_of c (drop (i + 1) s))
-  unfolding index_of
-  index-next h e = rw (add-one, drop-cons s i 0, ne_eqb (get_or s i 0) c e)
-
-  index-none : length s ≤ i → index_of c (drop i s) ≡ 0
-  unfolding index_of
-  index-none h = rw (drop_of_length-le s h)
-
-  pub found_here : i < length s → get_or s i 0 ≡ c → i + index_of c (drop i s) ≡ index_of c s → i ≡ index_of c s
-  found_here h e p = omega (arith, index-here h e)
-
-  pub found-next :
-      i < length s → (get_or s i 0 ≡ c → ⊥) → i + index_of c (drop i s) ≡ index_of c s
-      → (i + 1 ≤ length s) × (i + 1 + index_of c (drop (i + 1) s) ≡ index_of c s)
-  found-next h e p = omega (arith, index-next h e)
-
-  pub found_none : length s ≤ i → i + index_of c (drop i s) ≡ index_of c s → i ≡ index_of c s
-  found_none h p = omega (arith, index-none h)
 
 -- the place of the first c lies within the text
 pub found-le : (c : ℕ) (s : List ℕ) {r : ℕ} → r ≡ index_of c s → r ≤ length s
@@ -116,15 +90,13 @@ field-turn c s r (suc n) x h e p =
 
 -- the rest of a line, field by field
 pub skip-turn :
-    (c : ℕ) (s r : List ℕ) (n : ℕ) (x : List ℕ) → 0 < n → r ≡ after c s → skip_on c n s ≡ x → skip_on c (n - 1) r ≡ x
+    (c : ℕ) (s r : List ℕ) (n i : ℕ) (x : List ℕ) → i < n → r ≡ after c s → skip_on c (n - i) s ≡ x → skip_on c (n - (i + 1)) r ≡ x
 unfolding skip_on
-skip-turn c s r zero x h e p = absurd (omega arith)
-skip-turn c s r (suc n) x h e p = let m : suc n - 1 ≡ n = omega arith in rw (m, e) p
+skip-turn c s r n i x h e p = let m : n - i ≡ suc (n - (i + 1)) = omega arith in rw e (rw m at p)
 
-pub skip-done : (c : ℕ) (s : List ℕ) (n : ℕ) (x : List ℕ) → n ≤ 0 → skip_on c n s ≡ x → s ≡ x
+pub skip-done : (c : ℕ) (s : List ℕ) (n i : ℕ) (x : List ℕ) → n ≤ i → skip_on c (n - i) s ≡ x → s ≡ x
 unfolding skip_on
-skip-done c s zero x h p = p
-skip-done c s (suc n) x h p = absurd (omega arith)
+skip-done c s n i x h p = let m : n - i ≡ 0 = omega arith in rw m at p
 
 pub field_at : (c : ℕ) (s : List ℕ) (n : ℕ) → before c (skip_on c n s) ≡ get_or (split_on c s) n []
 unfolding skip_on
@@ -189,49 +161,16 @@ unfolding cons_first
 grown-first b [] h = absurd (omega arith)
 grown-first b (f ∷ fs) h = refl
 
-module _ (c : ℕ) (s : List ℕ) (i : ℕ) where
-  abbrev parts_from : ℕ → ℕ
-  parts_from k = length (split_on c (drop k s))
-
-  pub count-here : i < length s → get_or s i 0 ≡ c → parts_from i ≡ suc (parts_from (i + 1))
-  unfolding split_on
-  count-here h e = rw (add-one, drop-cons s i 0, eq-eqb (get_or s i 0) c e)
-
-  pub count_next : i < length s → (get_or s i 0 ≡ c → ⊥) → parts_from i ≡ parts_from (i + 1)
-  unfolding split_on
-  count_next h e =
-      rw (drop-cons s i 0, ne_eqb (get_or s i 0) c e)
-      (grown-first (get_or s i 0) _ (split-some c (drop (suc i) s)) ∙ rw add-one)
-
-  pub count_none : length s ≤ i → parts_from i ≡ 1
-  unfolding split_on
-  count_none h = rw (drop_of_length-le s h)
-
--- ---- two texts
-
-pub same-lengths : (s t : List ℕ) → (length s ≡ length t → ⊥) → same s t ≡ false
-unfolding same
-same-lengths [] [] n = absurd (n refl)
-same-lengths [] (b ∷ t) n = refl
-same-lengths (a ∷ s) [] n = refl
-same-lengths (a ∷ s) (b ∷ t) n = rw (same-lengths s t (λ e. n (ap suc e))) (no (eqb a b))
+pub parts-count : (c : ℕ) (s : List ℕ) → count_by (λ b. eqb b c) s + 1 ≡ length (split_on c s)
+unfolding split_on
+parts-count c s = let e = is_count_by (λ l. length (split_on c l) - 1) (λ b. eqb b c) none more s in omega (arith, e, split-some c s)
   where
-    no : (q : Bool) → (q && false) ≡ false
-    no true = refl
-    no false = refl
+    none : length (split_on c []) - 1 ≡ 0
+    none = refl
 
-module _ (s t : List ℕ) (i : ℕ) where
-  pub same_next :
-      i < length s → i < length t → get_or s i 0 ≡ get_or t i 0
-      → same (drop i s) (drop i t) ≡ same (drop (i + 1) s) (drop (i + 1) t)
-  unfolding same
-  same_next h g e = rw (add-one, drop-cons s i 0, drop-cons t i 0, eq-eqb (get_or s i 0) (get_or t i 0) e)
-
-  pub same_here :
-      i < length s → i < length t → (get_or s i 0 ≡ get_or t i 0 → ⊥) → same (drop i s) (drop i t) ≡ false
-  unfolding same
-  same_here h g e = rw (drop-cons s i 0, drop-cons t i 0, ne_eqb (get_or s i 0) (get_or t i 0) e)
-
-  pub same_none : length s ≤ i → length t ≤ i → same (drop i s) (drop i t) ≡ true
-  unfolding same
-  same_none h g = rw (drop_of_length-le s h, drop_of_length-le t g)
+    more : (b : ℕ) (s : List ℕ) → length (split_on c (b ∷ s)) - 1 ≡ cond (eqb b c) (1 + (length (split_on c s) - 1)) (length (split_on c s) - 1)
+    more b s =
+        let some = split-some c s in
+        by_bool (eqb b c)
+        (λ e. rw e (omega arith))
+        (λ e. rw e (ap (λ (n : ℕ). n - 1) (grown-first b (split_on c s) some)))

@@ -8,29 +8,26 @@ use native.Mathlib.Numerals.{add-one}
 use lib.ListN.{length, drop, get_or, drop_of_length-le, length-append}
 use lib.Seq.{drop-cons}
 use lib.Dec.{eqb, leb, ltb}
-use borrow.Author.Tests.{lt-ltb, eq-eqb, ne_eqb, eqb-true, leb-true, le-leb, lt-leb, not-true, not-false}
+use borrow.Author.Tests.{lt-ltb, eq-eqb, ne_eqb, eqb-true, leb-true, le-leb, lt-leb}
 use Rattle.laws.proofs.Cases.{by_bool, and_l, and_r, true-false}
 use Rattle.laws.specs.Lists.{all_of, first_not}
 use Rattle.laws.proofs.Lists.{all-turn, all_end}
 use Rattle.laws.specs.Digits.{digits_of, value_after}
 use Rattle.laws.proofs.Digits.{digits-small, digits-big}
-use Rattle.text.specs.declared.Number.{Number}
-use Rattle.text.specs.declared.Number.TheVariants.{Value, Over, Misspelt}
-use Rattle.text.specs.Number.{is_digit, is_number, value_of, number_stop, number_of}
+use Rattle.std.specs.Prelude.{Result, Ok, Err}
+use Rattle.text.specs.declared.NumberFault.{NumberFault}
+use Rattle.text.specs.declared.NumberFault.TheVariants.{Over, Misspelt}
+use Rattle.text.specs.Number.{is_digit, is_number, value_of, number_stop, fault_stop, number_of}
 use Rattle.text.specs.Private.Spelling.{starts_well}
 
 -- ---- a test of every item, from a place on
 
-module _ {A : Type 0} (p : A → Bool) (l : List A) (i : ℕ) (d : A) (t x : Bool) where
-  pub all-stop : i < length l → t ≡ p (get_or l i d) → not t ≡ true → all_of p (drop i l) ≡ x → false ≡ x
-  all-stop h e n q =
-      let f : p (get_or l i d) ≡ false = sym e ∙ not-true t n in
-      sym (all-turn p l i d h ∙ rw f) ∙ q
+module _ {A : Type 0} (p : A → Bool) (l : List A) (i : ℕ) (d : A) (x : Bool) where
+  pub all-stop : i < length l → p (get_or l i d) ≡ false → all_of p (drop i l) ≡ x → false ≡ x
+  all-stop h e q = sym (all-turn p l i d h ∙ rw e) ∙ q
 
-  pub all-next : i < length l → t ≡ p (get_or l i d) → not t ≡ false → all_of p (drop i l) ≡ x → all_of p (drop (i + 1) l) ≡ x
-  all-next h e n q =
-      let f : p (get_or l i d) ≡ true = sym e ∙ not-false t n in
-      sym (all-turn p l i d h ∙ rw f) ∙ q
+  pub all-next : i < length l → p (get_or l i d) ≡ true → all_of p (drop i l) ≡ x → all_of p (drop (i + 1) l) ≡ x
+  all-next h e q = sym (all-turn p l i d h ∙ rw e) ∙ q
 
 pub all_done : {A : Type 0} (p : A → Bool) (l : List A) (i : ℕ) (x : Bool) → length l ≤ i → all_of p (drop i l) ≡ x → true ≡ x
 all_done p l i x h q = sym (all_end p l i h) ∙ q
@@ -56,19 +53,17 @@ pub starts-some : (s : List ℕ) → (length s ≡ 0 → ⊥) → not (ltb 1 (le
 unfolding starts_well
 starts-some s n = rw (ne_eqb (length s) 0 n)
 
-module _ (s : List ℕ) (t : Bool) (e : t ≡ starts_well s) where
-  pub number-no : not t ≡ true → false ≡ is_number s
-  number-no n = let f : starts_well s ≡ false = sym e ∙ not-true t n in sym (starts_is s ∙ rw f)
+pub number-no : (s : List ℕ) → starts_well s ≡ false → false ≡ is_number s
+number-no s e = sym (starts_is s ∙ rw e)
 
-  pub number-rest : not t ≡ false → all_of is_digit s ≡ is_number s
-  number-rest n = let f : starts_well s ≡ true = sym e ∙ not-false t n in sym (starts_is s ∙ rw f)
+pub number-rest : (s : List ℕ) → starts_well s ≡ true → all_of is_digit s ≡ is_number s
+number-rest s e = sym (starts_is s ∙ rw e)
 
-pub digit-range : (b : ℕ) (t : Bool) → t ≡ is_digit b → not t ≡ false → (48 ≤ b) × (b ≤ 57)
-digit-range b t e n =
-    let d : is_digit b ≡ true = sym e ∙ not-false t n in (
-      leb-true 48 b (and_l (leb 48 b) (leb b 57) d),
-      leb-true b 57 (and_r (leb 48 b) (leb b 57) d),
-    )
+pub digit-range : (b : ℕ) → is_digit b ≡ true → (48 ≤ b) × (b ≤ 57)
+digit-range b d = (
+  leb-true 48 b (and_l (leb 48 b) (leb b 57) d),
+  leb-true b 57 (and_r (leb 48 b) (leb b 57) d),
+)
 
 -- ---- the value, held
 
@@ -105,11 +100,6 @@ held-end v s i x h g p = let p' : held v ≡ x = rw (drop_of_length-le s h) at p
 
 -- ---- how far it is spelt
 
-pub stop-empty : (s : List ℕ) → length s ≡ 0 → 0 ≡ number_stop s
-unfolding number_stop
-stop-empty [] h = refl
-stop-empty (b ∷ s) h = absurd (omega arith)
-
 first-le : (p : ℕ → Bool) (l : List ℕ) → first_not p l ≤ length l
 unfolding first_not
 first-le p [] = omega arith
@@ -120,59 +110,49 @@ unfolding number_stop
 stop_le [] = omega arith
 stop_le (b ∷ s) = by_bool (eqb b 48) (λ e. rw e (omega arith)) (λ e. rw e (first-le is_digit (b ∷ s)))
 
-module _ (s : List ℕ) (t : Bool) (e : t ≡ starts_well s) where
-  -- a leading zero is itself read
-  pub stop-zero : not t ≡ true → (length s ≡ 0 → ⊥) → 1 ≡ number_stop s
-  unfolding starts_well number_stop
-  stop-zero n some = go s (sym e ∙ not-true t n) some
-    where
-      go : (s : List ℕ) → starts_well s ≡ false → (length s ≡ 0 → ⊥) → 1 ≡ number_stop s
-      go [] h some = absurd (some refl)
-      go (b ∷ []) h some = true-false refl h
-      go (b ∷ c ∷ s) h some =
-          let lead : eqb b 48 ≡ true = by_bool (eqb b 48) (λ q. q) (λ q. true-false refl (rw (q, ne_eqb (length (b ∷ c ∷ s)) 0 (λ z. omega arith), lt-ltb 1 (length (b ∷ c ∷ s)) (omega arith)) at h)) in
-          rw lead
+-- a leading zero is itself read
+pub stop-zero : (s : List ℕ) → starts_well s ≡ false → min (length s) 1 ≡ number_stop s
+unfolding starts_well number_stop
+stop-zero [] h = refl
+stop-zero (b ∷ []) h = true-false refl h
+stop-zero (b ∷ c ∷ s) h =
+    let lead : eqb b 48 ≡ true = by_bool (eqb b 48) (λ q. q) (λ q. true-false refl (rw (q, ne_eqb (length (b ∷ c ∷ s)) 0 (λ z. omega arith), lt-ltb 1 (length (b ∷ c ∷ s)) (omega arith)) at h)) in
+    rw lead (omega arith)
 
-  pub stop-well : not t ≡ false → {i : ℕ} → i ≡ first_not is_digit s → i ≡ number_stop s
-  unfolding starts_well number_stop first_not
-  stop-well n q = q ∙ go s (sym e ∙ not-false t n)
-    where
-      go : (s : List ℕ) → starts_well s ≡ true → first_not is_digit s ≡ number_stop s
-      go [] h = true-false h refl
-      go (b ∷ []) h = by_bool (eqb b 48) (λ q. let z : b ≡ 48 = eqb-true b 48 q in rw z) (λ q. rw q)
-      go (b ∷ c ∷ s) h =
-          by_bool (eqb b 48)
-          (λ q. true-false h (rw (q, ne_eqb (length (b ∷ c ∷ s)) 0 (λ z. omega arith), lt-ltb 1 (length (b ∷ c ∷ s)) (omega arith))))
-          (λ q. rw q)
+pub stop-well : (s : List ℕ) → starts_well s ≡ true → first_not is_digit s ≡ number_stop s
+unfolding starts_well number_stop first_not
+stop-well [] h = true-false h refl
+stop-well (b ∷ []) h = by_bool (eqb b 48) (λ q. let z : b ≡ 48 = eqb-true b 48 q in rw z) (λ q. rw q)
+stop-well (b ∷ c ∷ s) h =
+    by_bool (eqb b 48)
+    (λ q. true-false h (rw (q, ne_eqb (length (b ∷ c ∷ s)) 0 (λ z. omega arith), lt-ltb 1 (length (b ∷ c ∷ s)) (omega arith))))
+    (λ q. rw q)
 
 -- ---- the answers
 
-module _ (s : List ℕ) (t : Bool) (e : t ≡ is_number s) {stop : ℕ} (at : stop ≡ number_stop s) where
-  pub read-misspelt : not t ≡ true → Misspelt stop ≡ number_of s
+module _ (s : List ℕ) {stop : ℕ} (at : stop ≡ number_stop s) where
+  pub read-misspelt : false ≡ is_number s → Err (Misspelt stop) ≡ number_of s
   unfolding number_of
-  read-misspelt n = let f : is_number s ≡ false = sym e ∙ not-true t n in rw (f, at)
+  read-misspelt f = rw (← f, at)
 
-  pub read-value : (v : ℕ) → not t ≡ false → v ≡ held (value_of s) → v ≤ 1000000 → Value v stop ≡ number_of s
+  pub read-value : (v : ℕ) → true ≡ is_number s → v ≡ held (value_of s) → v ≤ 1000000 → Ok (v, stop) ≡ number_of s
   unfolding number_of
-  read-value v n q h =
-      let f : is_number s ≡ true = sym e ∙ not-false t n in
+  read-value v f q h =
       let m : v ≡ value_of s = omega arith in
-      rw (f, ← m, le-leb v 1000000 h, at)
+      rw (← f, ← m, le-leb v 1000000 h, at)
 
-  pub read-over : (v : ℕ) → not t ≡ false → v ≡ held (value_of s) → 1000000 < v → Over stop ≡ number_of s
+  pub read-over : (v : ℕ) → true ≡ is_number s → v ≡ held (value_of s) → 1000000 < v → Err (Over stop) ≡ number_of s
   unfolding number_of
-  read-over v n q h =
-      let f : is_number s ≡ true = sym e ∙ not-false t n in
+  read-over v f q h =
       let m : 1000000 < value_of s = omega arith in
-      rw (f, lt-leb (value_of s) 1000000 m, at)
+      rw (← f, lt-leb (value_of s) 1000000 m, at)
 
 -- whatever it says, it stopped there
-abbrev pub stop_of : Number → ℕ
-stop_of (Value v stop) = stop
-stop_of (Over stop) = stop
-stop_of (Misspelt stop) = stop
+abbrev pub stop_of : Result (ℕ × ℕ) NumberFault → ℕ
+stop_of (Ok (v, stop)) = stop
+stop_of (Err fault) = fault_stop fault
 
-pub stop-at : (s : List ℕ) (r : Number) → r ≡ number_of s → stop_of r ≡ number_stop s
+pub stop-at : (s : List ℕ) (r : Result (ℕ × ℕ) NumberFault) → r ≡ number_of s → stop_of r ≡ number_stop s
 unfolding number_of
 stop-at s r e =
     ap stop_of e

@@ -1,40 +1,25 @@
 -- Writing into lent bytes.
-use Prim.Native.Nat.{ℕ, suc, ◌+◌, ◌-◌, ◌/◌, ◌%◌, ◌≤◌, ◌<◌}
-use mathlib.Core.Path.{◌≡◌, sym, ap, ◌∙◌}
-use mathlib.Core.Bool.{Bool, true, false, not}
-use mathlib.Core.List.{List, [], ◌∷◌, ◌++◌}
+use Prim.Native.Nat.{ℕ, ◌+◌, ◌-◌, ◌/◌, ◌%◌, ◌≤◌, ◌<◌}
+use mathlib.Core.Path.{◌≡◌, refl, sym, ap, ◌∙◌}
+use mathlib.Core.Bool.{true, false}
+use mathlib.Core.List.{List, [], ◌∷◌, ◌++◌, append_assoc, append-nil}
 use native.Mathlib.Omega.{arith}
-use native.Mathlib.Numerals.{add-one}
-use lib.ListN.{length, drop, get_or, set, drop_of_length-le}
-use lib.Seq.{drop-cons, sets, set_comm}
+use lib.ListN.{length, take, drop, set, drop_of_length-le, length-append, length-drop}
+use lib.Seq.{sets}
+use Rattle.std.proofs.lemmas.List.Edits.{paste_all, sets-eq}
+use Rattle.std.proofs.lemmas.Slice.{put_mid-paste}
+use Rattle.std.proofs.lemmas.List.{drop-set}
+use borrow.Rule.Slice.PartMut.{put_mid}
 use lib.Dec.{leb}
-use borrow.Author.Tests.{le-leb, lt-leb, leb-true, leb-false, not-true, not-false}
+use borrow.Author.Tests.{le-leb, leb-true}
 use Rattle.laws.proofs.Cases.{by_le}
 use Rattle.laws.specs.Digits.{digits_of}
 use Rattle.laws.proofs.Digits.{digits-small, digits-big}
 use Rattle.text.specs.Put.{Put}
-use Rattle.text.proofs.Spell.{width-big}
+use Rattle.text.proofs.Spell.{width_small, width-big}
 
--- ---- is there room
-
-pub room-none : (len at n : ℕ) → len < at → false ≡ leb (at + n) len
-room-none len at n h = sym (lt-leb (at + n) len (omega arith))
-
-pub room-is : (len at n : ℕ) → at ≤ len → leb n (len - at) ≡ leb (at + n) len
-room-is len at n h =
-    by_le n (len - at)
-    (λ g. le-leb n (len - at) g ∙ sym (le-leb (at + n) len (omega arith)))
-    (λ g. lt-leb n (len - at) g ∙ sym (lt-leb (at + n) len (omega arith)))
-
-pub has : (end len : ℕ) (t : Bool) → t ≡ leb end len → not t ≡ false → end ≤ len
-has end len t e h = leb-true end len (sym e ∙ not-false t h)
-
-pub has-not : (end len : ℕ) (t : Bool) → t ≡ leb end len → not t ≡ true → len < end
-has-not end len t e h = leb-false end len (sym e ∙ not-true t h)
-
-pub put-none : (out : List ℕ) (at : ℕ) (text : List ℕ) → length out < at + length text → Put out at text out at
-put-none out at text h =
-    let e = lt-leb (at + length text) (length out) h in record { place = rw e; bytes = rw e }
+pub put-none : (out : List ℕ) (at : ℕ) (text : List ℕ) → false ≡ leb (at + length text) (length out) → Put out at text out at
+put-none out at text e = record { place = rw (← e); bytes = rw (← e) }
 
 pub put_whole :
     (out : List ℕ) (at : ℕ) (text written : List ℕ) (r : ℕ) → at + length text ≤ length out → r ≡ at + length text
@@ -42,38 +27,65 @@ pub put_whole :
 put_whole out at text written r h p q =
     let e = le-leb (at + length text) (length out) h in record { place = rw e p; bytes = rw e q }
 
--- ---- byte after byte
+-- a part of the bytes, written over, is a run of stores
+pub stored : (out : List ℕ) (at k : ℕ) (text : List ℕ) → at + length text ≤ length out → k ≡ length text → put_mid at k out text ≡ sets out at text
+stored out at k text h e =
+    put_mid-paste at k out text text (length text) refl (sym e) refl
+    ∙ paste_all out at text (length text) refl
+    ∙ sym (append_assoc (take at out) text (drop (at + length text) out))
+    ∙ sym (sets-eq text out at h)
 
-pub copy_start : (out : List ℕ) (at : ℕ) (s : List ℕ) → sets out (at + 0) (drop 0 s) ≡ sets out at s
-copy_start out at s = let e : at + 0 ≡ at = omega arith in rw e
-
-pub copy-turn :
-    (out : List ℕ) (at : ℕ) (s : List ℕ) (i : ℕ) (x : List ℕ) → i < length s → sets out (at + i) (drop i s) ≡ x
-    → sets (set out (at + i) (get_or s i 0)) (at + (i + 1)) (drop (i + 1) s) ≡ x
-copy-turn out at s i x h p =
-    let e : at + (i + 1) ≡ suc (at + i) = omega arith in rw (e, add-one) (rw (drop-cons s i 0 h) at p)
-
-pub copy-end :
-    (out : List ℕ) (at : ℕ) (s : List ℕ) (i : ℕ) (x : List ℕ) → length s ≤ i → sets out (at + i) (drop i s) ≡ x → out ≡ x
-copy-end out at s i x h p = rw (drop_of_length-le s h) at p
+pub put-stored :
+    (out : List ℕ) (at k : ℕ) (text written : List ℕ) → true ≡ leb (at + length text) (length out) → k ≡ length text
+    → written ≡ text → Put out at text (put_mid at k out written) (at + length text)
+put-stored out at k text written h e w =
+    let room = leb-true (at + length text) (length out) (sym h) in
+    put_whole out at text _ _ room refl (ap (put_mid at k out) w ∙ stored out at k text room e)
 
 -- ---- digit before digit
 
--- the last of a run of stores may come first
-last-first : (l : List ℕ) (i : ℕ) (vs : List ℕ) (d : ℕ) → sets (set l (i + length vs) d) i vs ≡ sets l i (vs ++ (d ∷ []))
-last-first l i [] d = let e : i + 0 ≡ i = omega arith in rw e
-last-first l i (a ∷ vs) d =
-    let e : i + suc (length vs) ≡ suc i + length vs = omega arith in
-    ap (λ (m : List ℕ). sets m (suc i) vs) (set_comm l (i + suc (length vs)) i d a (λ q. omega arith))
-    ∙ rw e (last-first (set l i a) (suc i) vs d)
+pub some-digits : (n : ℕ) → 0 < length (digits_of n)
+some-digits n = by_le 10 n (λ h. omega (arith, width-big n h)) (λ h. omega (arith, width_small n h))
+
+-- the digits yet to write before place i, and those that stand from there on, are the digits of n
+pub record DigitsLeft (n : ℕ) (out : List ℕ) (i rest : ℕ) : Type 0 where
+  pub some : 0 < i → digits_of rest ++ drop i out ≡ digits_of n
+  pub none : i ≡ 0 → out ≡ digits_of n
+
+pub digits-start : (n : ℕ) (out : List ℕ) → length out ≡ length (digits_of n) → DigitsLeft n out (length out) n
+digits-start n out long = record {
+  some = λ h. rw (drop_of_length-le out {i = length out} (omega arith)) (append-nil (digits_of n));
+  none = λ h. absurd (omega (arith, some-digits n));
+}
+
+module _ (n : ℕ) (out : List ℕ) (e rest : ℕ) (h : e < length out) (long : length out ≡ length (digits_of n)) where
+  abbrev digit : ℕ
+  digit = 48 + rest % 10
+
+  digits-turn-at : digits_of rest ++ drop (e + 1) out ≡ digits_of n → DigitsLeft n (set out e digit) e (rest / 10)
+  digits-turn-at whole =
+      let size : length (digits_of rest) + (length out - (e + 1)) ≡ length (digits_of n) = simp (length-append, length-drop) at (ap length whole) in
+      by_le 10 rest
+      (λ g.
+      let more = width-big rest g in
+      let some = some-digits (rest / 10) in
+      record {
+        some = λ z. rw (drop-set out e digit h) (sym (append_assoc (digits_of (rest / 10)) (digit ∷ []) (drop (e + 1) out)) ∙ (rw (digits-big rest g) at whole));
+        none = λ z. absurd (omega (arith, more, some, size));
+      })
+      (λ g.
+      let one = width_small rest g in
+      record {
+        some = λ z. absurd (omega (arith, one, size));
+        none = λ z.
+            let m : rest % 10 ≡ rest = omega arith in
+            let q = rw (digits-small rest g) at whole in
+            let d : drop e (set out e digit) ≡ digits_of n = rw (drop-set out e digit h, m) q in ap (λ (k : ℕ). drop k (set out e digit)) (sym z) ∙ d;
+      })
 
 pub digits-turn :
-    (out : List ℕ) (at e n : ℕ) (x : List ℕ) → 10 ≤ n → e ≡ at + length (digits_of n) → sets out at (digits_of n) ≡ x
-    → sets (set out (e - 1) (48 + n % 10)) at (digits_of (n / 10)) ≡ x
-digits-turn out at e n x h q p =
-    let f : e - 1 ≡ at + length (digits_of (n / 10)) = omega (arith, width-big n h) in
-    rw f (last-first out at (digits_of (n / 10)) (48 + n % 10)) ∙ (rw (digits-big n h) at p)
-
-pub digits-end :
-    (out : List ℕ) (at n : ℕ) (x : List ℕ) → n < 10 → sets out at (digits_of n) ≡ x → set out at (48 + n) ≡ x
-digits-end out at n x h p = rw (digits-small n h) at p
+    (n : ℕ) (out : List ℕ) (i rest : ℕ) → DigitsLeft n out i rest → 0 < i → i ≤ length out → length out ≡ length (digits_of n)
+    → DigitsLeft n (set out (i - 1) (48 + rest % 10)) (i - 1) (rest / 10)
+digits-turn n out i rest q h g long =
+    let e : i - 1 + 1 ≡ i = omega arith in
+    digits-turn-at n out (i - 1) rest (omega arith) long (rw e (q.some h))

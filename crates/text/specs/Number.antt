@@ -1,9 +1,9 @@
 -- Numbers of a text.
-use Rattle.std.specs.Prelude.{ℕ, Bool, false, not, cond, ◌&&◌, List, [], ◌∷◌, leb, eqb}
+use Rattle.std.specs.Prelude.{ℕ, Bool, false, not, cond, ◌&&◌, List, [], ◌∷◌, leb, eqb, Result, Ok, Err}
 use Rattle.laws.specs.Lists.{all_of, first_not}
 use Rattle.laws.specs.Digits.{value_after}
-use Rattle.text.specs.declared.Number.{Number}
-use Rattle.text.specs.declared.Number.TheVariants.{Value, Over, Misspelt}
+use Rattle.text.specs.declared.NumberFault.{NumberFault}
+use Rattle.text.specs.declared.NumberFault.TheVariants.{Over, Misspelt}
 
 -- the bytes `0` to `9`
 abbrev pub is_digit : ℕ → Bool
@@ -28,8 +28,13 @@ unfoldable pub number_stop : List ℕ → ℕ
 number_stop [] = 0
 number_stop (b ∷ s) = cond (eqb b 48) 1 (first_not is_digit (b ∷ s))
 
--- the number reader's answer, with where it stopped
-unfoldable pub number_of : List ℕ → Number
+-- where the reader of a field that is refused stopped
+abbrev pub fault_stop : NumberFault → ℕ
+fault_stop (Over stop) = stop
+fault_stop (Misspelt stop) = stop
+
+-- the number reader's answer: the value, or why there is none; with where it stopped
+unfoldable pub number_of : List ℕ → Result (ℕ × ℕ) NumberFault
 number_of s =
     let stop = number_stop s in
-    cond (is_number s) (cond (leb (value_of s) most) (Value (value_of s) stop) (Over stop)) (Misspelt stop)
+    cond (is_number s) (cond (leb (value_of s) most) (Ok (value_of s, stop)) (Err (Over stop))) (Err (Misspelt stop))

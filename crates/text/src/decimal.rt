@@ -5,37 +5,23 @@ ghost use Rattle.laws.specs.Digits.{digits_of};
 ghost use Rattle.text.specs.Number.{is_digit, is_number, number_stop, number_of};
 ghost use Rattle.text.specs.Private.Spelling.{starts_well};
 
-use crate::Number;
+use crate::{NumberFault, wide};
 
 // No number of a text is larger, and no tick.
 pub const NUMBER_MOST: u32 = 1000000;
 
 const HELD: u32 = 1000001;
 
-// A byte as a number.
-pub fn wide(x: u8) -> u32
-    ensures { result ≡ x }
-{
-    x as u32
-}
-
 fn is_digit(b: u8) -> bool
     ensures { result ≡ is_digit b }
 {
-    (b'0' <= b) & (b <= b'9')
+    b.is_ascii_digit()
 }
 
 fn all_digits(s: &[u8]) -> bool
     ensures { result ≡ all_of is_digit s.now }
 {
-    let mut i = 0;
-    while i < s.len() {
-        if !is_digit(s[i]) {
-            return false;
-        }
-        i += 1;
-    }
-    true
+    s.iter().all(|b| is_digit(*b))
 }
 
 // Neither empty nor with a leading zero.
@@ -63,34 +49,27 @@ fn grown(v: u32, b: u8) -> u32
     requires { (v ≤ 1000001) × (48 ≤ b) × (b ≤ 57) }
     ensures { result ≡ min (v * 10 + (b - 48)) 1000001 }
 {
-    let w = v * 10 + (b - b'0') as u32;
-    if w <= NUMBER_MOST { w } else { HELD }
+    (v * 10 + u32::from(b - b'0')).min(HELD)
 }
 
 // Spelling and value in one walk. A leading zero is itself read.
-pub fn read_number(field: &[u8]) -> Number
+pub fn read_number(field: &[u8]) -> Result<(u32, usize), NumberFault>
     ensures { result ≡ number_of field.now }
 {
     if !starts_well(field) {
-        if field.len() == 0 {
-            return Number::Misspelt(0);
-        }
-        return Number::Misspelt(1);
+        return Err(NumberFault::Misspelt(field.len().min(1)));
     }
     let mut v = 0;
-    let mut i = 0;
-    while i < field.len() {
-        let b = field[i];
-        if !is_digit(b) {
-            return Number::Misspelt(i);
+    for (i, b) in field.iter().enumerate() {
+        if !is_digit(*b) {
+            return Err(NumberFault::Misspelt(i));
         }
-        v = grown(v, b);
-        i += 1;
+        v = grown(v, *b);
     }
     if v <= NUMBER_MOST {
-        Number::Value(v, i)
+        Ok((v, field.len()))
     } else {
-        Number::Over(i)
+        Err(NumberFault::Over(field.len()))
     }
 }
 
@@ -98,9 +77,8 @@ pub fn number_stop(field: &[u8]) -> usize
     ensures { result ≡ number_stop field.now }
 {
     match read_number(field) {
-        Number::Value(_, stop) => stop,
-        Number::Over(stop) => stop,
-        Number::Misspelt(stop) => stop,
+        Ok((_, stop)) => stop,
+        Err(fault) => fault.stop(),
     }
 }
 
@@ -108,11 +86,5 @@ pub fn number_stop(field: &[u8]) -> usize
 pub fn width(n: u32) -> usize
     ensures { result ≡ length (digits_of n) }
 {
-    let mut w = 1;
-    let mut rest = n;
-    while 10 <= rest {
-        rest /= 10;
-        w += 1;
-    }
-    w
+    wide::width(u64::from(n))
 }

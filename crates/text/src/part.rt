@@ -12,14 +12,7 @@ pub const LF: u8 = 10;
 pub fn find(s: &[u8], c: u8) -> usize
     ensures { result ≡ index_of c s.now }
 {
-    let mut i = 0;
-    while i < s.len() {
-        if s[i] == c {
-            return i;
-        }
-        i += 1;
-    }
-    i
+    s.iter().position(|b| *b == c).unwrap_or(s.len())
 }
 
 pub fn part_before<'a>(s: &'a [u8], c: u8) -> &'a [u8]
@@ -47,17 +40,15 @@ pub fn part_after<'a>(s: &'a [u8], c: u8) -> &'a [u8]
     past(s, find(s, c))
 }
 
-// One field more than there are tabs.
+// One field more than there are tabs. This loop can use wide instructions; `filter` and `count` do not.
 pub fn count_fields(line: &[u8]) -> usize
     ensures { result ≡ length (fields line.now) }
 {
     let mut n = 1;
-    let mut i = 0;
-    while i < line.len() {
-        if line[i] == TAB {
+    for b in line {
+        if *b == TAB {
             n += 1;
         }
-        i += 1;
     }
     n
 }
@@ -67,11 +58,8 @@ pub fn past_fields<'a>(line: &'a [u8], n: usize) -> &'a [u8]
     ensures { result.now ≡ skip_on TAB n line.now }
 {
     let mut rest = line;
-    let mut left = n;
-    while 0 < left {
-        let next = part_after(rest, TAB);
-        rest = next;
-        left -= 1;
+    for _ in 0..n {
+        rest = part_after(rest, TAB);
     }
     rest
 }
@@ -86,16 +74,5 @@ pub fn field<'a>(line: &'a [u8], n: usize) -> &'a [u8]
 pub fn same(s: &[u8], w: &[u8]) -> bool
     ensures { result ≡ same s.now w.now }
 {
-    let n = s.len();
-    if n != w.len() {
-        return false;
-    }
-    let mut i = 0;
-    while i < n {
-        if s[i] != w[i] {
-            return false;
-        }
-        i += 1;
-    }
-    true
+    s == w
 }

@@ -1,11 +1,12 @@
-// Writing numbers of 64 bits, as `text::put` writes those of 32.
-ghost use Rattle.std.specs.Prelude.{◌≡◌, ◌+◌, ◌≤◌, length};
-ghost use Rattle.std.proofs.lemmas.List.Edits.{sets};
+// The digits of a number of up to 64 bits: counted, and written.
+ghost use Rattle.std.specs.Prelude.{◌≡◌, length};
 ghost use Rattle.laws.specs.Digits.{digits_of};
 ghost use Rattle.text.specs.Put.{Put};
 
+use crate::put::has_room;
+
 // How many digits n has.
-fn width(n: u64) -> usize
+pub(crate) fn width(n: u64) -> usize
     ensures { result ≡ length (digits_of n) }
 {
     let mut w = 1;
@@ -17,32 +18,26 @@ fn width(n: u64) -> usize
     w
 }
 
-// The digits of n, from the last to the first.
-fn put_digits(out: &mut [u8], at: usize, end: usize, n: u64)
-    requires { (end ≡ at + length (digits_of n)) × (end ≤ length out.old) }
-    ensures { out.new ≡ sets out.old at (digits_of n) }
+// The digits of n, from the last to the first, in as many places.
+fn put_digits(out: &mut [u8], n: u64)
+    requires { length out.old ≡ length (digits_of n) }
+    ensures { out.new ≡ digits_of n }
 {
     let mut rest = n;
-    let mut e = end;
-    while 10 <= rest {
-        e -= 1;
-        out[e] = b'0' + (rest % 10) as u8;
+    for i in (0..out.len()).rev() {
+        out[i] = b'0' + (rest % 10) as u8;
         rest /= 10;
     }
-    out[at] = b'0' + rest as u8;
 }
 
-// All of its digits where they fit from `at`, and otherwise nothing. A sum could wrap, so the room is what is left before the last of them.
+// All of its digits where they fit from `at`, and otherwise nothing.
 pub fn put_wide(out: &mut [u8], at: usize, n: u64) -> usize
     ensures { Put out.old at (digits_of n) out.new result }
 {
     let w = width(n);
-    if out.len() < w {
+    if !has_room(out.len(), at, w) {
         return at;
     }
-    if out.len() - w < at {
-        return at;
-    }
-    put_digits(out, at, at + w, n);
+    put_digits(&mut out[at..at + w], n);
     at + w
 }

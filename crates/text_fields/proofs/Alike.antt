@@ -13,8 +13,9 @@ use Rattle.laws.specs.Lists.{any_of}
 use Rattle.laws.specs.Split.{index_of}
 use Rattle.text.specs.Number.{number_of}
 use Rattle.text_fields.specs.Items.{between}
-use Rattle.text.specs.declared.Number.{Number}
-use Rattle.text.specs.declared.Number.TheVariants.{Value, Over, Misspelt}
+use Rattle.std.specs.Prelude.{Result, Ok, Err}
+use Rattle.text.specs.declared.NumberFault.{NumberFault}
+use Rattle.text.specs.declared.NumberFault.TheVariants.{Over, Misspelt}
 use Rattle.text_fields.specs.Faults.{number_code, field_code, worst, fault_of}
 use Rattle.text_fields.proofs.FaultLaws.{any_found}
 
@@ -25,22 +26,22 @@ Plain code = (code ≡ 0) ⊎ ((code ≡ 3) ⊎ (code ≡ 4))
 pub field_plain : (low high : ℕ) (s : List ℕ) → Plain (field_code low high s)
 field_plain low high s = go (number_of s)
   where
-    go : (r : Number) → Plain (number_code low high r)
-    go (Value v stop) = by_bool (between low high v) (λ e. rw e (inl refl)) (λ e. rw e (inr (inr refl)))
-    go (Over stop) = inr (inr refl)
-    go (Misspelt stop) = inr (inl refl)
+    go : (r : Result (ℕ × ℕ) NumberFault) → Plain (number_code low high r)
+    go (Ok (v, stop)) = by_bool (between low high v) (λ e. rw e (inl refl)) (λ e. rw e (inr (inr refl)))
+    go (Err (Over stop)) = inr (inr refl)
+    go (Err (Misspelt stop)) = inr (inl refl)
 
 -- it is misspelt in whatever range
 pub misspelt-same : (low other high : ℕ) (s : List ℕ) → eqb (field_code low high s) 3 ≡ eqb (field_code other high s) 3
 misspelt-same low other high s = go (number_of s)
   where
-    go : (r : Number) → eqb (number_code low high r) 3 ≡ eqb (number_code other high r) 3
-    go (Value v stop) =
+    go : (r : Result (ℕ × ℕ) NumberFault) → eqb (number_code low high r) 3 ≡ eqb (number_code other high r) 3
+    go (Ok (v, stop)) =
         by_bool (between low high v)
         (λ e. by_bool (between other high v) (λ f. rw (e, f)) (λ f. rw (e, f)))
         (λ e. by_bool (between other high v) (λ f. rw (e, f)) (λ f. rw (e, f)))
-    go (Over stop) = refl
-    go (Misspelt stop) = refl
+    go (Err (Over stop)) = refl
+    go (Err (Misspelt stop)) = refl
 
 -- two lists of as many codes, with the first 3 in one place
 module _ (line these those : List ℕ) (size : length these ≡ length those) (three : index_of 3 these ≡ index_of 3 those) where

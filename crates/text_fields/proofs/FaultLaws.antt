@@ -1,42 +1,48 @@
 -- The codes of a line's fields, and its fault by them.
 use Prim.Native.Nat.{ℕ, suc, ◌+◌, ◌-◌, ◌≤◌, ◌<◌}
 use mathlib.Core.Path.{◌≡◌, refl, sym, ◌∙◌}
-use mathlib.Core.Bool.{Bool, true, false, cond, ◌&&◌, ◌||◌}
+use mathlib.Core.Bool.{Bool, true, false, not, cond, ◌&&◌, ◌||◌}
 use mathlib.Core.List.{List, [], ◌∷◌}
 use native.Mathlib.Omega.{arith}
 use lib.Dec.{eqb, leb, ltb}
-use lib.ListN.{length, get_or, drop}
-use borrow.Author.Tests.{eq-eqb, ne_eqb, eqb-true, le-leb, leb-true, lt-ltb, le-ltb}
-use Rattle.laws.proofs.Cases.{by_bool, by-eq, by_le, and_l, and_r, and-of}
+use lib.ListN.{length, get_or, drop, drop_of_length-le}
+use lib.Seq.{drop-cons}
+use native.Mathlib.Numerals.{add-one}
+use Rattle.std.specs.List.{list_all, list_any}
+use borrow.Author.Tests.{not-true, eq-eqb, ne_eqb, eqb-true, le-leb, lt-leb, leb-true, lt-ltb, le-ltb}
+use Rattle.laws.proofs.Cases.{by_bool, by-eq, by_le, and_l, and_r, and_no, and-of}
 use Rattle.laws.specs.Lists.{all_of, any_of, same}
-use Rattle.laws.proofs.Lists.{all-at}
+use Rattle.laws.proofs.Lists.{all-at, all-turn}
 use Rattle.laws.specs.Split.{index_of, skip_on}
 use Rattle.laws.proofs.Split.{skip-le}
 use Rattle.text.specs.Number.{is_number, value_of, most, number_of}
 use Rattle.text_fields.specs.Items.{between}
 use Rattle.text.specs.Line.{TAB, fields}
 use Rattle.text_fields.specs.Faults.{code_for, field_code, word_code, end_code, worst, column_of, fault_of}
-use Rattle.text.proofs.Spell.{all-stop, all-next}
 
 -- ---- words and ends
 
-module _ (word s : List ℕ) {t : Bool} (e : t ≡ same s word) where
-  pub word-right : t ≡ true → 0 ≡ word_code word s
+module _ (word s : List ℕ) where
+  pub word-right : true ≡ same s word → 0 ≡ word_code word s
   unfolding word_code
-  word-right h = rw (sym e ∙ h)
+  word-right h = rw (← h)
 
-  pub word-wrong : t ≡ false → 3 ≡ word_code word s
+  pub word-wrong : false ≡ same s word → 3 ≡ word_code word s
   unfolding word_code
-  word-wrong h = rw (sym e ∙ h)
+  word-wrong h = rw (← h)
 
 module _ (ended : Bool) (n : ℕ) (line : List ℕ) {count : ℕ} (e : count ≡ length (fields line)) where
-  pub end-right : (ended && leb count n) ≡ true → 0 ≡ end_code ended n line
+  pub end-right : ended ≡ true → count ≤ n → 0 ≡ end_code ended n line
   unfolding end_code
-  end-right h = rw (rw e at h)
+  end-right t h = rw (t, le-leb (length (fields line)) n (omega arith))
 
-  pub end-wrong : (ended && leb count n) ≡ false → 3 ≡ end_code ended n line
+  pub end-many : n < count → 3 ≡ end_code ended n line
   unfolding end_code
-  end-wrong h = rw (rw e at h)
+  end-many h = rw (lt-leb (length (fields line)) n (omega arith), and_no ended)
+
+pub end-open : (ended : Bool) (n : ℕ) (line : List ℕ) → ended ≡ false → 3 ≡ end_code ended n line
+unfolding end_code
+end-open ended n line h = rw h
 
 -- ---- codes
 
@@ -123,12 +129,13 @@ faultless-is (c ∷ l) h =
     last false false true = refl
     last false false false = refl
 
-module _ (l : List ℕ) (i : ℕ) {x : Bool} where
-  pub zero-stop : i < length l → (get_or l i 0 ≡ 0 → ⊥) → all_of (eqb 0) (drop i l) ≡ x → false ≡ x
-  zero-stop h n q = all-stop (eqb 0) l i 0 false x h (sym (ne_eqb 0 (get_or l i 0) (λ e. n (sym e)))) refl q
-
-  pub zero-next : i < length l → get_or l i 0 ≡ 0 → all_of (eqb 0) (drop i l) ≡ x → all_of (eqb 0) (drop (i + 1) l) ≡ x
-  zero-next h z q = all-next (eqb 0) l i 0 true x h (sym (eq-eqb 0 (get_or l i 0) (sym z))) refl q
+pub all-zero : (codes : List ℕ) → list_all (λ code. eqb code 0) codes ≡ all_of (eqb 0) codes
+unfolding all_of
+all-zero [] = refl
+all-zero (c ∷ l) =
+    by-eq c 0
+    (λ e. rw (eq-eqb c 0 e, eq-eqb 0 c (sym e)) (all-zero l))
+    (λ n. rw (ne_eqb c 0 n, ne_eqb 0 c (λ e. n (sym e))))
 
 -- a code of 0, and what it says
 pub for-zero : (spelt fine : Bool) → code_for spelt fine ≡ 0 → (spelt ≡ true) × (fine ≡ true)
@@ -197,45 +204,51 @@ unfolding fault_of
 column-most line codes =
     by_bool (eqb (worst codes) 0) (λ e. rw e (omega arith)) (λ e. rw e (omega arith))
 
-module _ (line codes : List ℕ) {three : ℕ} (p : three ≡ index_of 3 codes) where
-  pub fault-three : {column : ℕ} → three < length codes → column ≡ column_of line codes 3 → record { code = 3; column = column } ≡ fault_of line codes
-  unfolding fault_of worst
-  fault-three h e = rw (any_found 3 codes, lt-ltb (index_of 3 codes) (length codes) (omega arith), e)
+-- of the codes of a list, the first that a field has; 0 where none has one
+unfoldable pub worst_in : List ℕ → List ℕ → ℕ
+worst_in [] codes = 0
+worst_in (c ∷ l) codes = cond (any_of (eqb c) codes) c (worst_in l codes)
 
-  module _ (none : length codes ≤ three) {four : ℕ} (q : four ≡ index_of 4 codes) where
-    pub fault-four : {column : ℕ} → four < length codes → column ≡ column_of line codes 4 → record { code = 4; column = column } ≡ fault_of line codes
-    unfolding fault_of worst
-    fault-four h e =
-        rw (
-          any_found 3 codes,
-          le-ltb (index_of 3 codes) (length codes) (omega arith),
-          any_found 4 codes,
-          lt-ltb (index_of 4 codes) (length codes) (omega arith),
-          e,
-        )
+any-is : (c : ℕ) (codes : List ℕ) → list_any (λ y. eqb y c) codes ≡ any_of (eqb c) codes
+unfolding any_of
+any-is c [] = refl
+any-is c (x ∷ l) =
+    by-eq x c
+    (λ e. rw (eq-eqb x c e, eq-eqb c x (sym e)))
+    (λ n. rw (ne_eqb x c n, ne_eqb c x (λ e. n (sym e))) (any-is c l))
 
-    module _ (few : length codes ≤ four) {twenty : ℕ} (t : twenty ≡ index_of 20 codes) where
-      none_before : (any_of (eqb 3) codes ≡ false) × (any_of (eqb 4) codes ≡ false)
-      none_before = (
-        any_found 3 codes ∙ le-ltb (index_of 3 codes) (length codes) (omega arith),
-        any_found 4 codes ∙ le-ltb (index_of 4 codes) (length codes) (omega arith),
-      )
+-- the codes from place i on give the worst, and none of them is 0
+pub record WorstFrom (l codes : List ℕ) (i : ℕ) : Type 0 where
+  pub rest : worst_in (drop i l) codes ≡ worst codes
+  pub some : all_of (λ c. not (eqb c 0)) (drop i l) ≡ true
 
-      pub fault-twenty : {column : ℕ} → twenty < length codes → column ≡ column_of line codes 20 → record { code = 20; column = column } ≡ fault_of line codes
-      unfolding fault_of worst
-      fault-twenty h e =
-          rw (none_before.0, none_before.1, any_found 20 codes, lt-ltb (index_of 20 codes) (length codes) (omega arith), e)
+pub worst-start : (codes : List ℕ) → WorstFrom (3 ∷ 4 ∷ 20 ∷ 18 ∷ []) codes 0
+unfolding worst worst_in all_of
+worst-start codes = record { rest = refl; some = refl }
 
-      module _ (no_twenty : length codes ≤ twenty) {last : ℕ} (l : last ≡ index_of 18 codes) where
-        none-twenty : any_of (eqb 20) codes ≡ false
-        none-twenty = any_found 20 codes ∙ le-ltb (index_of 20 codes) (length codes) (omega arith)
+module _ (line l codes : List ℕ) (i : ℕ) (q : WorstFrom l codes i) where
+  worst-here : i < length l → worst_in (drop i l) codes ≡ cond (any_of (eqb (get_or l i 0)) codes) (get_or l i 0) (worst_in (drop (suc i) l) codes)
+  unfolding worst_in
+  worst-here h = rw (drop-cons l i 0 h)
 
-        pub fault-eighteen : {column : ℕ} → last < length codes → column ≡ column_of line codes 18 → record { code = 18; column = column } ≡ fault_of line codes
-        unfolding fault_of worst
-        fault-eighteen h e =
-            rw (none_before.0, none_before.1, none-twenty, any_found 18 codes, lt-ltb (index_of 18 codes) (length codes) (omega arith), e)
+  pub worst-next : i < length l → false ≡ list_any (λ y. eqb y (get_or l i 0)) codes → WorstFrom l codes (i + 1)
+  unfolding all_of
+  worst-next h n = record {
+    rest = let e : any_of (eqb (get_or l i 0)) codes ≡ false = sym (n ∙ any-is (get_or l i 0) codes) in
+        rw add-one ((rw e at (sym (worst-here h))) ∙ q.rest);
+    some = and_r (not (eqb (get_or l i 0) 0)) (all_of (λ c. not (eqb c 0)) (drop (i + 1) l)) (sym (all-turn (λ c. not (eqb c 0)) l i 0 h) ∙ q.some);
+  }
 
-        pub fault-none : length codes ≤ last → record { code = 0; column = 0 } ≡ fault_of line codes
-        unfolding fault_of worst
-        fault-none h =
-            rw (none_before.0, none_before.1, none-twenty, any_found 18 codes, le-ltb (index_of 18 codes) (length codes) (omega arith))
+  pub worst-found :
+      {column : ℕ} → i < length l → true ≡ list_any (λ y. eqb y (get_or l i 0)) codes → column ≡ column_of line codes (get_or l i 0)
+      → record { code = get_or l i 0; column = column } ≡ fault_of line codes
+  unfolding fault_of
+  worst-found h n e =
+      let f : any_of (eqb (get_or l i 0)) codes ≡ true = sym (n ∙ any-is (get_or l i 0) codes) in
+      let w : get_or l i 0 ≡ worst codes = (rw f at (sym (worst-here h))) ∙ q.rest in
+      let z : eqb (get_or l i 0) 0 ≡ false = not-true (eqb (get_or l i 0) 0) (and_l (not (eqb (get_or l i 0) 0)) (all_of (λ c. not (eqb c 0)) (drop (i + 1) l)) (sym (all-turn (λ c. not (eqb c 0)) l i 0 h) ∙ q.some)) in
+      rw (← w, z, e)
+
+  pub worst-none : length l ≤ i → record { code = 0; column = 0 } ≡ fault_of line codes
+  unfolding fault_of worst_in
+  worst-none h = let z : 0 ≡ worst codes = rw (drop_of_length-le l h) at q.rest in rw (← z)

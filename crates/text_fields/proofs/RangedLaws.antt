@@ -1,19 +1,19 @@
 -- A number in a range: its code, its value, and what a code of 0 says.
-use Prim.Native.Nat.{ℕ, ◌≤◌}
+use Prim.Native.Nat.{ℕ, ◌≤◌, ◌<◌}
 use mathlib.Core.Path.{◌≡◌, sym, ap, ◌∙◌}
-use mathlib.Core.Bool.{Bool, true, false, not, cond, ◌&&◌}
+use mathlib.Core.Bool.{true, false}
 use mathlib.Core.List.{List}
 use native.Mathlib.Omega.{arith}
 use lib.Dec.{leb}
-use borrow.Author.Tests.{eq-eqb, le-leb, lt-leb, leb-true, leb-false, not-true, not-false}
+use borrow.Author.Tests.{eq-eqb, le-leb, lt-leb, leb-true, leb-false}
 use Rattle.laws.proofs.Cases.{by_bool, and_l, and_r, and_no}
 use Rattle.text.specs.Number.{is_number, value_of, most, number_of}
 use Rattle.text_fields.specs.Items.{between}
 use Rattle.text_fields.specs.Faults.{code_for, field_code, ranged_read}
-use Rattle.text.specs.declared.Number.{Number}
-use Rattle.text.specs.declared.Number.TheVariants.{Value}
+use Rattle.std.specs.Prelude.{Ok, Err}
+use Rattle.text.specs.declared.NumberFault.TheVariants.{Over, Misspelt}
 use Rattle.text_fields.specs.declared.Ranged.{Ranged}
-use Rattle.text_fields.proofs.ItemLaws.{NoValue, over-is, value-is}
+use Rattle.text_fields.proofs.ItemLaws.{value-is}
 
 -- in a range that ends at 1,000,000 at the latest
 pub field-code : (low high : ℕ) (s : List ℕ) → high ≤ most → field_code low high s ≡ code_for (is_number s) (between low high (value_of s))
@@ -31,33 +31,29 @@ field-code low high s h =
 
 -- ---- a number in a range
 
-module _ (low high : ℕ) (s : List ℕ) {r : Number} (q : r ≡ number_of s) where
-  pub ranged-none : NoValue r → ◌≡◌ {A = Ranged} (record { code = cond (is_number s) 4 3; value = 0 }) (ranged_read low high s)
-  unfolding ranged_read number_of
-  ranged-none none =
-      by_bool (is_number s)
-      (λ n. let big = over-is s r n q none in rw (n, lt-leb (value_of s) most big))
-      (λ n. rw n)
-
-  module _ {v j : ℕ} (k : r ≡ Value v j) where
-    is-value : number_of s ≡ Value (value_of s) j
-    is-value = let e : v ≡ value_of s = value-is s r v j q k in sym q ∙ k ∙ ap (λ (x : ℕ). Value x j) e
-
-    pub ranged-off : not (leb low v && leb v high) ≡ true → ◌≡◌ {A = Ranged} (record { code = 4; value = 0 }) (ranged_read low high s)
+module _ (low high : ℕ) (s : List ℕ) where
+  module _ {v j : ℕ} (q : Ok (v, j) ≡ number_of s) where
+    pub ranged-in : low ≤ v → v ≤ high → ◌≡◌ {A = Ranged} (record { code = 0; value = v }) (ranged_read low high s)
     unfolding ranged_read
-    ranged-off h =
-        let off : between low high (value_of s) ≡ false = rw (value-is s r v j q k) at (not-true (leb low v && leb v high) h) in
-        rw (is-value, off)
+    ranged-in lo hi = let e = value-is s v j q in rw (← q, le-leb low v lo, le-leb v high hi, e)
 
-    pub ranged-in : not (leb low v && leb v high) ≡ false → ◌≡◌ {A = Ranged} (record { code = 0; value = v }) (ranged_read low high s)
+    ranged-off : between low high v ≡ false → ◌≡◌ {A = Ranged} (record { code = 4; value = 0 }) (ranged_read low high s)
     unfolding ranged_read
-    ranged-in h =
-        let e : v ≡ value_of s = value-is s r v j q k in
-        let fine : between low high (value_of s) ≡ true = rw e at (not-false (leb low v && leb v high) h) in
-        rw (is-value, fine, e)
+    ranged-off h = rw (← q, h)
 
-pub unread-is : (s : List ℕ) (t : Bool) → t ≡ is_number s → {c : ℕ} → c ≡ cond t 4 3 → ◌≡◌ {A = Ranged} (record { code = c; value = 0 }) (record { code = cond (is_number s) 4 3; value = 0 })
-unread-is s t e f = rw (f, e)
+    pub ranged-low : v < low → ◌≡◌ {A = Ranged} (record { code = 4; value = 0 }) (ranged_read low high s)
+    ranged-low h = ranged-off (rw (lt-leb low v h))
+
+    pub ranged-high : high < v → ◌≡◌ {A = Ranged} (record { code = 4; value = 0 }) (ranged_read low high s)
+    ranged-high h = ranged-off (rw (lt-leb v high h) (and_no (leb low v)))
+
+  pub ranged-over : {j : ℕ} → Err (Over j) ≡ number_of s → ◌≡◌ {A = Ranged} (record { code = 4; value = 0 }) (ranged_read low high s)
+  unfolding ranged_read
+  ranged-over q = rw (← q)
+
+  pub ranged-misspelt : {j : ℕ} → Err (Misspelt j) ≡ number_of s → ◌≡◌ {A = Ranged} (record { code = 3; value = 0 }) (ranged_read low high s)
+  unfolding ranged_read
+  ranged-misspelt q = rw (← q)
 
 -- a code of 0, and what it says
 pub record InRange (low high : ℕ) (s : List ℕ) : Type 0 where

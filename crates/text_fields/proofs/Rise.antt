@@ -2,14 +2,14 @@
 use Prim.Native.Nat.{ℕ, zero, suc, ◌+◌, ◌-◌, ◌≤◌, ◌<◌, min}
 use mathlib.Core.Path.{◌≡◌, refl, sym, ap, ◌∙◌}
 use mathlib.Core.Logic.{⊎_elim}
-use mathlib.Core.Bool.{Bool, true, false, not, cond, ◌&&◌, ◌||◌}
+use mathlib.Core.Bool.{Bool, true, false, cond, ◌&&◌, ◌||◌}
 use mathlib.Core.List.{List, [], ◌∷◌, map}
 use native.Mathlib.Omega.{arith}
 use native.Mathlib.Numerals.{add-one}
 use lib.ListN.{length, set, replicate, length-drop}
 use lib.Seq.{sets}
 use lib.Dec.{leb, ltb}
-use borrow.Author.Tests.{leb-true, leb-false, ltb-true, ltb-false, le-leb, lt-leb, lt-ltb, le-ltb, not-true, not-false}
+use borrow.Author.Tests.{leb-true, leb-false, ltb-true, ltb-false, le-leb, lt-leb, lt-ltb, le-ltb}
 use Rattle.laws.proofs.Cases.{by_bool, by-eq, and_l, and_r, or_at, or_l, or_r, true-false}
 use Rattle.laws.specs.Lists.{all_of, first_not, rising, same}
 use Rattle.laws.specs.Private.Rise.{rises_from}
@@ -63,32 +63,27 @@ module _ (key : ℕ → ℕ) (high : ℕ) where
 -- ---- tests of every part
 
 module _ (p : List ℕ → Bool) (rest part : List ℕ) (x : Bool) (e : part ≡ before COMMA rest) (inv : all_of p (split_on COMMA rest) ≡ x) where
-  pub parts-stop : (t : Bool) → t ≡ p part → not t ≡ true → false ≡ x
+  pub parts-stop : false ≡ p part → false ≡ x
   unfolding all_of
-  parts-stop t f n = go (first_part COMMA rest)
+  parts-stop f = go (first_part COMMA rest)
     where
       go : First COMMA rest → false ≡ x
       go (first later g) =
-          let h : p part ≡ false = sym f ∙ not-true t n in
           let g' : split_on COMMA rest ≡ part ∷ later = g ∙ rw e in
-          sym (ap (all_of p) g' ∙ rw h) ∙ inv
+          sym (ap (all_of p) g' ∙ rw (← f)) ∙ inv
 
-  pub parts-end : (t : Bool) → t ≡ p part → not t ≡ false → length part ≡ length rest → true ≡ x
+  pub parts-end : true ≡ p part → length part ≡ length rest → true ≡ x
   unfolding all_of
-  parts-end t f n g =
-      let h : p part ≡ true = sym f ∙ not-false t n in
-      sym (ap (all_of p) (parts_last COMMA rest part e g) ∙ rw h) ∙ inv
+  parts-end f g = sym (ap (all_of p) (parts_last COMMA rest part e g) ∙ rw (← f)) ∙ inv
 
   pub parts_next :
-      (more : List ℕ) (t : Bool) → t ≡ p part → not t ≡ false → (length part ≡ length rest → ⊥) → more ≡ after COMMA rest
+      (more : List ℕ) → true ≡ p part → (length part ≡ length rest → ⊥) → more ≡ after COMMA rest
       → all_of p (split_on COMMA more) ≡ x
   unfolding all_of
-  parts_next more t f n g m =
-      let h : p part ≡ true = sym f ∙ not-false t n in
-      rw m (sym (ap (all_of p) (parts_more COMMA rest part e g) ∙ rw h) ∙ inv)
+  parts_next more f g m = rw m (sym (ap (all_of p) (parts_more COMMA rest part e g) ∙ rw (← f)) ∙ inv)
 
 pub first_passes : (p : List ℕ → Bool) (rest part : List ℕ) → part ≡ before COMMA rest → all_of p (split_on COMMA rest) ≡ true → p part ≡ true
-first_passes p rest part e inv = by_bool (p part) (λ h. h) (λ h. true-false refl (sym (parts-stop p rest part true e inv false (sym h) refl)))
+first_passes p rest part e inv = by_bool (p part) (λ h. h) (λ h. true-false refl (sym (parts-stop p rest part true e inv (sym h))))
 
 -- ---- where the first misspelt part stops
 
@@ -126,30 +121,30 @@ module _ (lettered : Bool) (rest part : List ℕ) (e : part ≡ before COMMA res
 module _
     (lettered : Bool) (s rest part : List ℕ) (e : part ≡ before COMMA rest) (within : length rest ≤ length s)
     (all : all_of (is_item lettered) (split_on COMMA rest) ≡ all_of (is_item lettered) (split_on COMMA s))
-    (stops : length s - length rest + parts_stop lettered rest ≡ parts_stop lettered s) {t : Bool} (i : t ≡ is_item lettered part)
+    (stops : length s - length rest + parts_stop lettered rest ≡ parts_stop lettered s)
   where
     pub refused-three :
-        not t ≡ true → {stop : ℕ} → stop ≡ item_stop lettered part
+        false ≡ is_item lettered part → {stop : ℕ} → stop ≡ item_stop lettered part
         → no_items 3 (length s - length rest + stop)
         ≡ no_items (cond (all_of (is_item lettered) (split_on COMMA s)) 4 3) (parts_stop lettered s)
     refused-three n q =
-        let no = sym (parts-stop (is_item lettered) rest part _ e all t i n) in
-        let here = stop-here lettered rest part e (sym i ∙ not-true t n) in
+        let no = sym (parts-stop (is_item lettered) rest part _ e all n) in
+        let here = stop-here lettered rest part e (sym n) in
         rw (no, ← stops, here, q)
 
     pub refused-four :
-        not t ≡ false → length part ≡ length rest
+        true ≡ is_item lettered part → length part ≡ length rest
         → no_items 4 (length s) ≡ no_items (cond (all_of (is_item lettered) (split_on COMMA s)) 4 3) (parts_stop lettered s)
     refused-four n h =
-        let yes = sym (parts-end (is_item lettered) rest part _ e all t i n h) in
-        let last = stop-last lettered rest part e (sym i ∙ not-false t n) h in
+        let yes = sym (parts-end (is_item lettered) rest part _ e all n h) in
+        let last = stop-last lettered rest part e (sym n) h in
         let whole : length s ≡ length s - length rest + length rest = omega arith in
         rw (yes, ← stops, last) (ap (no_items 4) whole)
 
     pub refused-next :
-        not t ≡ false → (length part ≡ length rest → ⊥) → {more : List ℕ} → more ≡ after COMMA rest → length more < length rest
+        true ≡ is_item lettered part → (length part ≡ length rest → ⊥) → {more : List ℕ} → more ≡ after COMMA rest → length more < length rest
         → length s - length more + parts_stop lettered more ≡ parts_stop lettered s
-    refused-next n h m less = let next = stop-next lettered rest part e (sym i ∙ not-false t n) h m in omega (arith, next, stops, within, less)
+    refused-next n h m less = let next = stop-next lettered rest part e (sym n) h m in omega (arith, next, stops, within, less)
 
 -- where every part is an item, the reader comes to the end
 stop-whole : (lettered : Bool) (s : List ℕ) → all_of (is_item lettered) (split_on COMMA s) ≡ true → parts_stop lettered s ≡ length s
@@ -163,7 +158,7 @@ stop-whole lettered s a = go (suc (length s)) s (omega arith) a
         (λ n. stop-last lettered s (before COMMA s) refl item n)
         (λ n.
         let less = after_less COMMA s (before COMMA s) refl (after COMMA s) n refl in
-        let all = parts_next (is_item lettered) s (before COMMA s) true refl a (after COMMA s) true (sym item) refl n refl in
+        let all = parts_next (is_item lettered) s (before COMMA s) true refl a (after COMMA s) (sym item) n refl in
         stop-next lettered s (before COMMA s) refl item n refl ∙ rw (go f (after COMMA s) (omega arith) all) (omega arith))
 
 -- ---- the answer of a reader that keeps items from place n on, and has a list yet to read

@@ -1,7 +1,7 @@
 -- Shared holds: a list gathered for them, and a list in which each is made exclusive.
 use Prim.Native.Nat.{ℕ, zero, suc, ◌+◌, ◌-◌, ◌%◌, ◌≤◌, ◌<◌}
 use mathlib.Core.Path.{◌≡◌, refl, sym, ap, ◌∙◌}
-use mathlib.Core.Bool.{Bool, false, ◌&&◌, ◌||◌}
+use mathlib.Core.Bool.{Bool, true, false, ◌&&◌, ◌||◌}
 use mathlib.Core.List.{List, [], ◌∷◌, ◌++◌, map}
 use native.Mathlib.Omega.{arith}
 use native.Mathlib.Numerals.{add-one}
@@ -23,8 +23,16 @@ unfolding has_shared
 shared_start l = record { rest = refl }
 
 module _ (l : List ℕ) (i : ℕ) (seen : Bool) (q : SharedRest l i seen) where
-  pub shared-turn : i < length l → SharedRest l (i + 1) (is_shared (get_or l i 0) || seen)
-  shared-turn h = record { rest = gather-turn is_shared l i seen q.rest 0 h }
+  pub shared-turn : i < length l → SharedRest l (i + 1) (seen || is_shared (get_or l i 0))
+  shared-turn h = record {
+    rest = ap (λ (b : Bool). b || any_of is_shared (drop (i + 1) l)) (swapped seen (is_shared (get_or l i 0))) ∙ gather-turn is_shared l i seen q.rest 0 h;
+  }
+    where
+      swapped : (a b : Bool) → (a || b) ≡ (b || a)
+      swapped true true = refl
+      swapped true false = refl
+      swapped false true = refl
+      swapped false false = refl
 
   pub shared-out : length l ≤ i → seen ≡ has_shared l
   shared-out h = gather-end is_shared l i seen q.rest h

@@ -1,12 +1,12 @@
 -- The faults of a line, field by field: a code for each, and the column that is named. A missing field counts as an empty one.
-use Rattle.std.specs.Prelude.{ℕ, ◌+◌, Bool, not, cond, ◌&&◌, List, [], ◌∷◌, leb, eqb, length}
+use Rattle.std.specs.Prelude.{ℕ, ◌+◌, Bool, not, cond, ◌&&◌, List, [], ◌∷◌, leb, eqb, length, Result, Ok, Err}
 use Rattle.laws.specs.Lists.{any_of, same}
 use Rattle.laws.specs.Split.{index_of, begin_of}
 use Rattle.text.specs.Number.{value_of, number_of}
 use Rattle.text.specs.Line.{TAB, fields, field}
 use Rattle.text_fields.specs.Items.{between}
-use Rattle.text.specs.declared.Number.{Number}
-use Rattle.text.specs.declared.Number.TheVariants.{Value, Over, Misspelt}
+use Rattle.text.specs.declared.NumberFault.{NumberFault}
+use Rattle.text.specs.declared.NumberFault.TheVariants.{Over, Misspelt}
 use Rattle.text_fields.specs.declared.Ranged.{Ranged}
 use Rattle.text_fields.specs.declared.Fault.{Fault}
 
@@ -15,10 +15,10 @@ abbrev pub code_for : Bool → Bool → ℕ
 code_for spelt fine = cond (not spelt) 3 (cond (not fine) 4 0)
 
 -- what the number reader's answer is refused by: misspelt 3, out of its range 4
-abbrev pub number_code : ℕ → ℕ → Number → ℕ
-number_code low high (Value v stop) = cond (between low high v) 0 4
-number_code low high (Over stop) = 4
-number_code low high (Misspelt stop) = 3
+abbrev pub number_code : ℕ → ℕ → Result (ℕ × ℕ) NumberFault → ℕ
+number_code low high (Ok (v, stop)) = cond (between low high v) 0 4
+number_code low high (Err (Over stop)) = 4
+number_code low high (Err (Misspelt stop)) = 3
 
 abbrev pub field_code : ℕ → ℕ → List ℕ → ℕ
 field_code low high s = number_code low high (number_of s)

@@ -3,6 +3,10 @@
 pub mod faults;
 pub mod list;
 
+const MISSPELT: u8 = 3;
+
+const OUT_OF_RANGE: u8 = 4;
+
 // What a list field says: code 0 with its items, zeros after them, or 3 or 4 with none; and where its reader stopped.
 #[derive(Clone, Copy)]
 pub struct Items {
@@ -13,6 +17,7 @@ pub struct Items {
 }
 
 // A number in a range: code 0 with its value, or 3 or 4 with 0.
+// Its code, as that of `Items`, stands in the line's list of codes, where 0 is a right field: no `Result`.
 #[derive(Clone, Copy)]
 pub struct Ranged {
     pub code: u8,

@@ -1,33 +1,33 @@
 // The program: plan.txt and lengths.txt in, the timetable out. Every byte of it comes from `write_timetable`.
 #![tactic(auto)]
 
-ghost use Rattle.std.specs.Prelude.{◌≡◌, take};
-ghost use Rattle.io.specs.Counts.{IsPrefixLen};
+ghost use Rattle.std.specs.Prelude.{◌≡◌};
 ghost use Rattle.engine_write.specs.Table.{table_of};
 
 use engine_write::{TABLE_MOST, write_timetable};
 use files::both::{READ_MOST, read_both};
 use files::print;
+use files::say::{Say, Told};
+use std::rt::Files;
 
-// The first bytes of the buffer are the whole text, whatever the two texts are.
-fn put_table(plan: &[u8], lengths: &[u8], out: &mut [u8; TABLE_MOST]) -> usize
-    ensures prefix_len { IsPrefixLen result out.new }
-    ensures out_after { take result out.new ≡ table_of plan.now lengths.now }
+// The front of the buffer is the whole text, whatever the two texts are.
+fn put_table<'o>(plan: &[u8], lengths: &[u8], out: &'o mut [u8; TABLE_MOST]) -> &'o [u8]
+    ensures { result.now ≡ table_of plan.now lengths.now }
 {
-    write_timetable(plan, lengths, out)
+    let length = write_timetable(plan, lengths, out);
+    &out[..length]
 }
 
 // Nothing is printed before both files are read.
-fn main(rt: HostRuntime) {
+fn run(rt: &(impl Files + Print + Say)) -> Result<(), Told> {
     let mut plan = [0u8; READ_MOST];
     let mut lengths = [0u8; READ_MOST];
-    let read = read_both(&rt, b"lengths.txt", &mut plan, &mut lengths);
-    if read.failed {
-        return;
-    }
-    let plan_length = read.plan;
-    let lengths_length = read.text;
+    let read = read_both(rt, b"lengths.txt", &mut plan, &mut lengths)?;
     let mut out = [0u8; TABLE_MOST];
-    let length = put_table(&plan[..plan_length], &lengths[..lengths_length], &mut out);
-    print(&rt, &out[..length]);
+    print(rt, put_table(read.plan, read.text, &mut out))
+}
+
+// The exit status is 0 after a failure too.
+fn main(rt: HostRuntime) {
+    let _ = run(&rt);
 }

@@ -1,57 +1,25 @@
 // The program: a list of folder names on standard input, each with plan.txt and log.txt; the report of their totals out.
 #![tactic(auto)]
 
-ghost use Rattle.std.specs.Prelude.{◌≡◌, ◌<◌, take};
-ghost use Rattle.io.specs.Counts.{IsPrefixLen};
+ghost use Rattle.std.specs.Prelude.{◌≡◌};
 ghost use Rattle.year_rules.specs.Totals.{zero_totals};
 ghost use Rattle.year_write.specs.Report.{year_text};
 
-use files::say::Say;
-use files::{ListPart, NAME_MOST, next_line, print, took};
+use files::both::READ_MOST;
+use files::list::{Line, ListPart};
+use files::say::{Say, Told};
+use files::{NAME_MOST, print};
 use std::fmt::InlineText;
 use std::rt::Files;
 use year_folders::add_folder;
 use year_rules::{LOGS_MOST, Totals};
 use year_write::{REPORT_MOST, write_report};
 
-// One byte more than a text may have: enough to see that a file is too long.
-const READ_MOST: usize = 32769;
-
-// A part of the list.
-const PART: usize = 4096;
-
 // How many logs are done between two notes.
 const NOTED: u64 = 100;
 
 // No note is longer.
 const NOTE_MOST: usize = 64;
-
-// What the reading of the list has come to.
-#[derive(Drop)]
-enum State {
-    Reading,
-    Done,
-    Past,
-    Failed,
-}
-
-fn is_reading(state: &State) -> bool {
-    matches!(state, State::Reading)
-}
-
-#[derive(Drop)]
-struct List {
-    state: State,
-    taken: ListPart,
-    totals: Totals,
-}
-
-// What a name has come to, and the totals after it; nothing counts after a failure.
-#[derive(Drop)]
-struct NameResult {
-    state: State,
-    totals: Totals,
-}
 
 fn no_logs() -> Totals
     ensures { result ≡ zero_totals }
@@ -66,22 +34,16 @@ fn no_logs() -> Totals
     }
 }
 
-// The first bytes of the buffer are the whole report, whatever the totals hold.
-fn put_report(totals: Totals, past: bool, out: &mut [u8; REPORT_MOST]) -> usize
-    ensures prefix_len { IsPrefixLen result out.new }
-    ensures out_after { take result out.new ≡ year_text past totals }
+// The front of the buffer is the whole report, whatever the totals hold.
+fn put_report<'o>(totals: Totals, past: bool, out: &'o mut [u8; REPORT_MOST]) -> &'o [u8]
+    ensures { result.now ≡ year_text past totals }
 {
-    write_report(totals, past, out)
-}
-
-fn wide(x: u32) -> u64
-    ensures { result < 4294967296 }
-{
-    x as u64
+    let length = write_report(totals, past, out);
+    &out[..length]
 }
 
 fn logs_in(totals: &Totals) -> u64 {
-    wide(totals.accepted) + wide(totals.refused)
+    u64::from(totals.accepted) + u64::from(totals.refused)
 }
 
 // How many logs are done, which the command shows on a terminal. It is no failure, so it begins with a word of its own.
@@ -94,120 +56,55 @@ fn note(rt: &impl Say, done: u64) {
     }
 }
 
-// A line that is longer than the room: as much of it as was read.
-fn fail_over(rt: &impl Say, name: &[u8]) {
-    rt.say(name);
-    rt.say(b": longer than a path may be\n");
-}
-
-fn come_to(state: State, totals: Totals) -> NameResult {
-    NameResult { state, totals }
-}
-
-// From the 10,001st name on nothing is opened.
-fn add_name(
+// One line of the list; one that is longer than the room is said as far as it was read.
+fn add_line(
     rt: &(impl Files + Say),
-    name: &[u8],
-    over: bool,
+    line: Line<'_>,
     plan: &mut [u8],
     log: &mut [u8],
-    totals: Totals,
-) -> NameResult {
-    if name.len() == 0 {
-        rt.say(b"LIST: a line is empty\n");
-        return come_to(State::Failed, totals);
+    totals: &mut Totals,
+) -> Result<(), Told> {
+    if line.is_over {
+        rt.say(line.name);
+        rt.say(b": longer than a path may be\n");
+        return Err(Told);
     }
-    if LOGS_MOST <= logs_in(&totals) {
-        return come_to(State::Past, totals);
-    }
-    if over {
-        fail_over(rt, name);
-        return come_to(State::Failed, totals);
-    }
-    let added = add_folder(rt, name, plan, log, totals);
-    let next = added.totals;
-    if added.failed {
-        return come_to(State::Failed, next);
-    }
-    note(rt, logs_in(&next));
-    come_to(State::Reading, next)
+    add_folder(rt, line.name, plan, log, totals)?;
+    note(rt, logs_in(totals));
+    Ok(())
 }
 
-fn listed(state: State, taken: ListPart, totals: Totals) -> List {
-    List {
-        state,
-        taken,
-        totals,
-    }
-}
-
-// One name of the list.
-fn read_name(
-    rt: &(impl Input + Files + Say),
-    name: &mut [u8],
-    part: &mut [u8],
-    plan: &mut [u8],
-    log: &mut [u8],
-    held: List,
-) -> List {
-    let totals = held.totals;
-    let from = held.taken;
-    let found = next_line(rt, name, part, from);
-    let taken = found.taken;
-    if taken.failed {
-        return listed(State::Failed, taken, totals);
-    }
-    if found.missing {
-        return listed(State::Done, taken, totals);
-    }
-    let at = found.length;
-    let named = add_name(rt, &name[..at], found.over, plan, log, totals);
-    let next = named.totals;
-    let state = named.state;
-    listed(state, taken, next)
-}
-
-// Arrays lent as what they are keep their length through a loop.
-fn read_next(
-    rt: &(impl Input + Files + Say),
-    name: &mut [u8; NAME_MOST],
-    part: &mut [u8; PART],
-    plan: &mut [u8; READ_MOST],
-    log: &mut [u8; READ_MOST],
-    held: List,
-) -> List {
-    read_name(rt, name, part, plan, log, held)
-}
-
-fn read_list(rt: &(impl Input + Files + Say), totals: Totals) -> List {
+// Whether the list has more names than logs may be. From the 10,001st name on nothing is opened. A proved loop has to end, so the turns are counted.
+fn read_list(rt: &(impl Input + Files + Say), totals: &mut Totals) -> Result<bool, Told> {
     let mut name = [0u8; NAME_MOST];
-    let mut part = [0u8; PART];
+    let mut list = ListPart::new();
     let mut plan = [0u8; READ_MOST];
     let mut log = [0u8; READ_MOST];
-    let mut held = listed(State::Reading, took(false, 0, 0), totals);
     for _ in 0..u64::MAX {
-        let next = read_next(rt, &mut name, &mut part, &mut plan, &mut log, held);
-        if !is_reading(&next.state) {
-            return next;
+        let Some(line) = list.next_line(rt, &mut name)? else {
+            return Ok(false);
+        };
+        if line.name.is_empty() {
+            rt.say(b"LIST: a line is empty\n");
+            return Err(Told);
         }
-        held = next;
+        if LOGS_MOST <= logs_in(totals) {
+            return Ok(true);
+        }
+        add_line(rt, line, &mut plan, &mut log, totals)?;
     }
-    held
-}
-
-fn print_report(rt: &(impl Print + Say), totals: Totals, past: bool) {
-    let mut out = [0u8; REPORT_MOST];
-    let length = put_report(totals, past, &mut out);
-    print(rt, &out[..length]);
+    Ok(false)
 }
 
 // Nothing is printed before the whole list is read.
+fn run(rt: &(impl Input + Files + Print + Say)) -> Result<(), Told> {
+    let mut totals = no_logs();
+    let past = read_list(rt, &mut totals)?;
+    let mut out = [0u8; REPORT_MOST];
+    print(rt, put_report(totals, past, &mut out))
+}
+
+// The exit status is 0 after a failure too.
 fn main(rt: HostRuntime) {
-    let held = read_list(&rt, no_logs());
-    let totals = held.totals;
-    match held.state {
-        State::Failed => {}
-        State::Past => print_report(&rt, totals, true),
-        State::Done | State::Reading => print_report(&rt, totals, false),
-    }
+    let _ = run(&rt);
 }

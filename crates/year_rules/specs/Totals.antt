@@ -10,11 +10,18 @@ use Rattle.school.specs.Tests.{unread, judged_of}
 use Rattle.school.specs.declared.JudgedLog.{JudgedLog}
 use Rattle.year_rules.specs.Figures.{figures_on, sum_of, best_after}
 use Rattle.year_rules.specs.declared.AddResult.{AddResult}
+use Rattle.year_rules.specs.declared.Tally.{Tally}
 use Rattle.year_rules.specs.declared.Totals.{Totals}
 
 -- at most 10,000 logs
 abbrev pub logs_most : ℕ
 logs_most = 10000
+
+-- what the totals hold of a board
+abbrev pub board_tally : Totals → ℕ → Tally
+board_tally totals b =
+    let on : List ℕ → ℕ = λ l. at l b in
+    record { ended = on totals.ended; sum = on totals.sum; greatest = on totals.greatest; least = on totals.least }
 
 -- at most 1,000,000 ticks a task; the greatest and the least also where no task ended
 abbrev pub board_ok : Totals → ℕ → Bool
@@ -42,9 +49,8 @@ zero_totals =
 unfoldable pub with_figures : Totals → (ℕ → List ℕ) → Totals
 with_figures totals figures =
     let ended = at totals.ended in
-    record {
+    record totals {
       accepted = totals.accepted + 1;
-      refused = totals.refused;
       ended = boards (λ b. ended b + length (figures b));
       sum = boards (λ b. at totals.sum b + sum_of (figures b));
       greatest = boards (λ b. best_after max (ended b) (at totals.greatest b) (figures b));
@@ -53,14 +59,7 @@ with_figures totals figures =
 
 -- A refused log adds nothing but is counted apart
 abbrev pub with_refused : Totals → Totals
-with_refused totals = record {
-  accepted = totals.accepted;
-  refused = totals.refused + 1;
-  ended = totals.ended;
-  sum = totals.sum;
-  greatest = totals.greatest;
-  least = totals.least;
-}
+with_refused totals = record totals { refused = totals.refused + 1 }
 
 -- the totals with a judged log
 unfoldable pub with_judged : Totals → Plan → JudgedLog → Totals

@@ -2,10 +2,10 @@
 // Whether totals keep their bounds, whatever they hold.
 #![tactic(auto)]
 
-ghost use Rattle.std.specs.Prelude.{◌≡◌, ◌&&◌, ◌*◌, ◌<◌, leb};
+ghost use Rattle.std.specs.Prelude.{◌≡◌, ◌&&◌, ◌*◌, leb};
 ghost use Rattle.laws.specs.Every.{every};
 ghost use Rattle.year_rules.specs.Figures.{sum_of};
-ghost use Rattle.year_rules.specs.Totals.{board_ok, totals_ok};
+ghost use Rattle.year_rules.specs.Totals.{board_tally, board_ok, totals_ok};
 
 use plan::Answer;
 use school::JudgedLog;
@@ -32,12 +32,34 @@ pub struct AddResult {
 }
 
 // What is reported of a board, or of all of them.
-#[derive(Drop)]
+#[derive(Clone, Copy)]
 pub struct Tally {
     pub ended: u32,
     pub sum: u64,
     pub greatest: u32,
     pub least: u32,
+}
+
+impl Totals {
+    // The totals of board b, from 0; there are 8.
+    pub fn tally(&self, b: usize) -> Tally
+        ensures { result ≡ board_tally self.now b }
+    {
+        if 8 <= b {
+            return Tally {
+                ended: 0,
+                sum: 0,
+                greatest: 0,
+                least: 0,
+            };
+        }
+        Tally {
+            ended: self.ended[b],
+            sum: self.sum[b],
+            greatest: self.greatest[b],
+            least: self.least[b],
+        }
+    }
 }
 
 // At most so many logs.
@@ -48,57 +70,42 @@ const TASKS_MOST: u64 = 64;
 
 const TICKS_MOST: u32 = 1000000;
 
-fn wide(x: u32) -> u64
-    ensures { (result ≡ x) × (result < 4294967296) }
-{
-    x as u64
-}
-
 // How many tasks ended on all boards.
-fn ended_on_all(ended: [u32; 8]) -> u64
-    ensures { result ≡ sum_of ended }
+fn ended_on_all(ended: &[u32; 8]) -> u64
+    ensures { result ≡ sum_of ended.now }
 {
     let mut all = 0;
-    let mut b = 0;
-    while b < 8 {
-        all += wide(ended[b]);
-        b += 1;
+    for x in ended {
+        all += u64::from(*x);
     }
     all
 }
 
-fn is_board_ok(ended: u32, sum: u64, greatest: u32, least: u32) -> bool
-    ensures { result ≡ (leb sum (1000000 * ended) && (leb greatest 1000000 && leb least 1000000)) }
+fn is_board_ok(tally: Tally) -> bool
+    ensures { result ≡ (leb tally.sum (1000000 * tally.ended) && (leb tally.greatest 1000000 && leb tally.least 1000000)) }
 {
-    (sum <= 1000000 * (ended as u64)) & ((greatest <= TICKS_MOST) & (least <= TICKS_MOST))
+    (tally.sum <= 1000000 * u64::from(tally.ended))
+        & ((tally.greatest <= TICKS_MOST) & (tally.least <= TICKS_MOST))
 }
 
-fn are_boards_ok(totals: Totals) -> bool
-    ensures { result ≡ every 8 (board_ok totals) }
+fn are_boards_ok(totals: &Totals) -> bool
+    ensures { result ≡ every 8 (board_ok totals.now) }
 {
-    let mut all = true;
-    let mut b = 0;
-    while b < 8 {
-        let ok = is_board_ok(
-            totals.ended[b],
-            totals.sum[b],
-            totals.greatest[b],
-            totals.least[b],
-        );
-        all = ok & all;
-        b += 1;
+    for b in 0..8 {
+        if !is_board_ok(totals.tally(b)) {
+            return false;
+        }
     }
-    all
+    true
 }
 
 // Whatever the totals hold, no sum of them wraps here.
 pub fn are_in_bounds(totals: Totals) -> bool
     ensures { result ≡ totals_ok totals }
 {
-    let accepted = wide(totals.accepted);
-    let logs = accepted + wide(totals.refused);
-    let on_boards = totals.ended;
-    let ended = ended_on_all(on_boards);
-    let boards = are_boards_ok(totals);
+    let accepted = u64::from(totals.accepted);
+    let logs = accepted + u64::from(totals.refused);
+    let ended = ended_on_all(&totals.ended);
+    let boards = are_boards_ok(&totals);
     (logs <= LOGS_MOST) & ((ended <= TASKS_MOST * accepted) & boards)
 }

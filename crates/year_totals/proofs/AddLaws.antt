@@ -1,11 +1,11 @@
 -- The bounds of totals, board by board of an accepted log, and what a call adds.
 use Prim.Native.Nat.{ℕ, zero, suc, ◌+◌, ◌≤◌, ◌<◌}
 use mathlib.Core.Path.{◌≡◌, refl, sym, ap, ◌∙◌}
-use mathlib.Core.Bool.{Bool, true, false, not}
+use mathlib.Core.Bool.{Bool, true, false}
 use mathlib.Core.List.{List, [], ◌∷◌}
 use native.Mathlib.Omega.{arith}
 use lib.ListN.{set, replicate}
-use borrow.Author.Tests.{eq-eqb, ne_eqb, not-true, not-false}
+use borrow.Author.Tests.{eq-eqb, ne_eqb}
 use Rattle.laws.specs.Each.{each}
 use Rattle.laws.proofs.Each.{each_turn}
 use Rattle.plan.specs.Answer.{refuse, granted, is_granted}
@@ -16,7 +16,7 @@ use Rattle.book_view.proofs.Accepted.{plan-facts}
 use Rattle.school.specs.Tests.{judged_of}
 use Rattle.school.specs.declared.JudgedLog.{JudgedLog}
 use Rattle.year_rules.specs.Figures.{sum_of}
-use Rattle.year_rules.specs.Totals.{totals_ok, boards, with_figures, with_refused, with_judged, not_added, added_of}
+use Rattle.year_rules.specs.Totals.{board_tally, totals_ok, boards, with_figures, with_refused, with_judged, not_added, added_of}
 use Rattle.year_rules.specs.declared.AddResult.{AddResult}
 use Rattle.year_rules.specs.declared.Tally.{Tally}
 use Rattle.year_rules.specs.declared.Totals.{Totals}
@@ -48,11 +48,8 @@ module _ (totals : Totals) (figures : ℕ → List ℕ) where
   abbrev zeros : List ℕ
   zeros = replicate 8 0
 
-  abbrev held : ℕ → Tally
-  held b = record { ended = at totals.ended b; sum = at totals.sum b; greatest = at totals.greatest b; least = at totals.least b }
-
   abbrev after : ℕ → Tally
-  after b = tally_after (held b) (figures b)
+  after b = tally_after (board_tally totals b) (figures b)
 
   -- the boards below n are done
   pub record Filled (n : ℕ) (ended sum greatest least : List ℕ) : Type 0 where
@@ -92,14 +89,14 @@ module _ (totals : Totals) (figures : ℕ → List ℕ) where
 
 module _ (totals : Totals) (plan : Plan) (log : List ℕ) where
   pub call-nine :
-      {ok : Bool} {answer : Answer} {r : AddResult} → ok ≡ totals_ok totals → not ok ≡ true → answer ≡ refuse 9 0 0
+      {ok : Bool} {answer : Answer} {r : AddResult} → ok ≡ totals_ok totals → ok ≡ false → answer ≡ refuse 9 0 0
       → r ≡ not_added answer totals → r ≡ added_of totals plan log
   call-nine {ok} e n a p =
-      p ∙ ap (λ (x : Answer). not_added x totals) a ∙ sym (added-nine totals plan log (sym e ∙ not-true ok n))
+      p ∙ ap (λ (x : Answer). not_added x totals) a ∙ sym (added-nine totals plan log (sym e ∙ n))
 
-  module _ {ok : Bool} {accepted refused : ℕ} (e : ok ≡ totals_ok totals) (n : not ok ≡ false) (p : accepted ≡ totals.accepted) (q : refused ≡ totals.refused) where
+  module _ {ok : Bool} {accepted refused : ℕ} (e : ok ≡ totals_ok totals) (n : ok ≡ true) (p : accepted ≡ totals.accepted) (q : refused ≡ totals.refused) where
     in_bounds : totals_ok totals ≡ true
-    in_bounds = sym e ∙ not-false ok n
+    in_bounds = sym e ∙ n
 
     pub call-full :
         {answer : Answer} {r : AddResult} → 10000 ≤ accepted + refused → answer ≡ refuse 28 0 0 → r ≡ not_added answer totals

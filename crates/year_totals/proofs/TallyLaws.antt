@@ -1,13 +1,10 @@
 -- A board's totals, task by task; the totals' array of ended tasks added up.
 use Prim.Native.Nat.{ℕ, suc, ◌+◌, ◌-◌, ◌*◌, ◌≤◌, ◌<◌, max, min}
 use mathlib.Core.Path.{◌≡◌, sym, ◌∙◌}
-use mathlib.Core.Bool.{Bool, true, false, cond}
 use mathlib.Core.List.{List, [], ◌∷◌}
 use native.Mathlib.Omega.{arith}
-use lib.Dec.{eqb}
 use lib.ListN.{length}
-use borrow.Author.Tests.{eq-eqb, ne_eqb, eqb-true, eqb-false}
-use Rattle.laws.proofs.Cases.{by_bool}
+use borrow.Author.Tests.{eq-eqb, ne_eqb}
 use Rattle.plan.specs.Value.{at}
 use Rattle.year_rules.specs.Figures.{figures_on, sum_of}
 use Rattle.year_rules.specs.declared.Tally.{Tally}
@@ -58,28 +55,28 @@ module _ (held : Tally) (number : ℕ) (board finish end : List ℕ) where
   pub seen_none : Seen 0 held
   seen_none = sym (rw (figures-none number board finish end) (tally-none held))
 
-  pub seen-turn :
-      (i : ℕ) {tally next : Tally} {x : ℕ} → Seen i tally → x ≡ at finish i - at end i
-      → next ≡ cond (eqb (at board i) number) (with_figure tally x) tally → Seen (i + 1) next
-  seen-turn i {tally} {next} {x} h v e =
-      by_bool (eqb (at board i) number)
-      (λ q.
-      rw (figures-here number board finish end i (eqb-true (at board i) number q), tally-next)
-      (e ∙ (rw (q, h, v))))
-      (λ q. rw (figures-there number board finish end i (eqb-false (at board i) number q)) (e ∙ (rw q h)))
+  module _ (i : ℕ) {tally next : Tally} (h : Seen i tally) where
+    pub seen-here : at board i ≡ number → {x : ℕ} → x ≡ at finish i - at end i → next ≡ with_figure tally x → Seen (i + 1) next
+    seen-here q v e = rw (figures-here number board finish end i q, tally-next) (e ∙ (rw (h, v)))
+
+    pub seen-there : (at board i ≡ number → ⊥) → next ≡ tally → Seen (i + 1) next
+    seen-there n e = rw (figures-there number board finish end i n) (e ∙ h)
 
 -- a tally that no further figure of a log can make wrap
 pub record Roomy (tally : Tally) (n : ℕ) : Type 0 where
   pub ended : tally.ended ≤ 640000 + n
   pub sum : tally.sum ≤ 640000000000 + 4294967296 * n
 
-pub roomy-turn : (b : Bool) (x : ℕ) (tally : Tally) (n : ℕ) {next : Tally} → x < 4294967296 → Roomy tally n → next ≡ cond b (with_figure tally x) tally → Roomy next (n + 1)
-unfolding with_figure
-roomy-turn true x tally n h r e =
-    let a = r.ended in
-    let s = r.sum in
-    rw e (record { ended = omega arith; sum = omega arith })
-roomy-turn false x tally n h r e =
-    let a = r.ended in
-    let s = r.sum in
-    rw e (record { ended = omega arith; sum = omega arith })
+module _ {tally next : Tally} {n : ℕ} (r : Roomy tally n) where
+  pub roomy-here : {x : ℕ} → x < 4294967296 → next ≡ with_figure tally x → Roomy next (n + 1)
+  unfolding with_figure
+  roomy-here h e =
+      let a = r.ended in
+      let s = r.sum in
+      rw e (record { ended = omega arith; sum = omega arith })
+
+  pub roomy-there : next ≡ tally → Roomy next (n + 1)
+  roomy-there e =
+      let a = r.ended in
+      let s = r.sum in
+      rw e (record { ended = omega arith; sum = omega arith })

@@ -2,7 +2,7 @@
 // A log added to the totals of a year, from the two texts.
 #![tactic(auto)]
 
-ghost use Rattle.std.specs.Prelude.{◌≡◌, true, cond, ◌+◌, ◌-◌, ◌≤◌, ◌<◌, max, min};
+ghost use Rattle.std.specs.Prelude.{◌≡◌, true, ◌+◌, ◌≤◌, ◌<◌};
 ghost use Rattle.year_rules.specs.Figures.{figures_on};
 ghost use Rattle.year_rules.specs.Totals.{totals_ok, with_figures, with_refused, not_added, added_of};
 ghost use Rattle.year_totals.specs.Private.Tallies.{with_figure, tally_after};
@@ -13,50 +13,13 @@ use plan_read::read_plan;
 use school_judge::{judge_log, not_read};
 use year_rules::{AddResult, LOGS_MOST, Tally, Totals, are_in_bounds};
 
-fn wide(x: u32) -> u64
-    ensures { (result ≡ x) × (result < 4294967296) }
-{
-    x as u64
-}
-
-// Planned finish less logged end: no accepted log ends late.
-fn ended_early_by(finish: u32, end: u32) -> u32
-    ensures { (result ≡ finish - end) × (result < 4294967296) }
-{
-    if finish <= end {
-        return 0;
-    }
-    finish - end
-}
-
-fn greater(a: u32, b: u32) -> u32
-    ensures { result ≡ max a b }
-{
-    if a < b {
-        return b;
-    }
-    a
-}
-
-fn lesser(a: u32, b: u32) -> u32
-    ensures { result ≡ min a b }
-{
-    if a < b {
-        return a;
-    }
-    b
-}
-
-// A task more, which may stand on another board: the first figure replaces the greatest and the least.
-fn with_task(held: Tally, here: bool, figure: u32) -> Tally
+// A figure more: the first replaces the greatest and the least.
+fn with_figure(held: Tally, figure: u32) -> Tally
     requires { (held.ended < 4294967295) × (held.sum < 9223372036854775808) }
-    ensures { result ≡ cond here (with_figure held figure) held }
+    ensures { result ≡ with_figure held figure }
 {
-    if !here {
-        return held;
-    }
     let ended = held.ended + 1;
-    let sum = held.sum + wide(figure);
+    let sum = held.sum + u64::from(figure);
     if held.ended == 0 {
         return Tally {
             ended,
@@ -68,12 +31,12 @@ fn with_task(held: Tally, here: bool, figure: u32) -> Tally
     Tally {
         ended,
         sum,
-        greatest: greater(held.greatest, figure),
-        least: lesser(held.least, figure),
+        greatest: held.greatest.max(figure),
+        least: held.least.min(figure),
     }
 }
 
-// The figures of the tasks that stand on a board.
+// The figures of the tasks that stand on a board: no accepted log ends late.
 fn board_after<'a>(
     held: Tally,
     number: u8,
@@ -86,17 +49,15 @@ fn board_after<'a>(
     ensures { result ≡ tally_after held (figures_on number board.now finish.now end.now tasks) }
 {
     let mut tally = held;
-    let mut i = 0;
-    while i < tasks as usize {
-        let figure = ended_early_by(finish[i], end[i]);
-        let next = with_task(tally, board[i] == number, figure);
-        tally = next;
-        i += 1;
+    for i in 0..usize::from(tasks) {
+        if board[i] == number {
+            tally = with_figure(tally, finish[i].saturating_sub(end[i]));
+        }
     }
     tally
 }
 
-// An accepted log more: of each board the figures of its tasks.
+// An accepted log more: of each board the figures of its tasks. The totals are arrays of their own, as C has them.
 fn with_accepted<'a>(
     totals: Totals,
     tasks: u8,
@@ -111,17 +72,9 @@ fn with_accepted<'a>(
     let mut sum = [0u64; 8];
     let mut greatest = [0u32; 8];
     let mut least = [0u32; 8];
-    let mut number = 0;
-    while number < 8 {
-        let b = number;
-        number += 1;
-        let held = Tally {
-            ended: totals.ended[b],
-            sum: totals.sum[b],
-            greatest: totals.greatest[b],
-            least: totals.least[b],
-        };
-        let next = board_after(held, number as u8, tasks, board, finish, end);
+    for b in 0..8 {
+        let number = (b + 1) as u8;
+        let next = board_after(totals.tally(b), number, tasks, board, finish, end);
         ended[b] = next.ended;
         sum[b] = next.sum;
         greatest[b] = next.greatest;
@@ -129,11 +82,11 @@ fn with_accepted<'a>(
     }
     Totals {
         accepted: totals.accepted + 1,
-        refused: totals.refused,
         ended,
         sum,
         greatest,
         least,
+        ..totals
     }
 }
 
@@ -142,19 +95,19 @@ fn with_refused(totals: Totals) -> Totals
     requires { totals.refused < 10000 }
     ensures { result ≡ with_refused totals }
 {
-    let mut next = totals;
-    next.refused = totals.refused + 1;
-    next
+    Totals {
+        refused: totals.refused + 1,
+        ..totals
+    }
 }
 
 // Nothing is found of a log that is not looked at.
 fn not_added(answer: Answer, totals: Totals) -> AddResult
     ensures { result ≡ not_added answer totals }
 {
-    let judged = not_read(refuse(0, 0, 0));
     AddResult {
         answer,
-        judged,
+        judged: not_read(refuse(0, 0, 0)),
         totals,
     }
 }
@@ -166,25 +119,19 @@ pub fn add_log(totals: Totals, plan: Plan, log: &[u8]) -> AddResult
     if !are_in_bounds(totals) {
         return not_added(refuse(9, 0, 0), totals);
     }
-    if LOGS_MOST <= wide(totals.accepted) + wide(totals.refused) {
+    if LOGS_MOST <= u64::from(totals.accepted) + u64::from(totals.refused) {
         return not_added(refuse(28, 0, 0), totals);
     }
     let judged = judge_log(plan, log);
-    let answer = refuse(0, 0, 0);
-    let found = judged.answer;
-    if found.code != 0 {
-        let next = with_refused(totals);
-        return AddResult {
-            answer,
-            judged,
-            totals: next,
-        };
-    }
-    let next = with_accepted(totals, plan.tasks, &plan.board, &plan.finish, &judged.end);
+    let after = if judged.answer.code == 0 {
+        with_accepted(totals, plan.tasks, &plan.board, &plan.finish, &judged.end)
+    } else {
+        with_refused(totals)
+    };
     AddResult {
-        answer,
+        answer: refuse(0, 0, 0),
         judged,
-        totals: next,
+        totals: after,
     }
 }
 
@@ -193,8 +140,5 @@ pub fn add_texts(plan: &[u8], log: &[u8], totals: Totals) -> Totals
     ensures { result ≡ (added_of totals (reading_of plan.now).plan log.now).totals }
 {
     let reading = read_plan(plan);
-    let planned = reading.plan;
-    let added = add_log(totals, planned, log);
-    let next = added.totals;
-    next
+    add_log(totals, reading.plan, log).totals
 }

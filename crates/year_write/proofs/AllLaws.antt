@@ -12,26 +12,34 @@ use Rattle.laws.proofs.Cases.{by-eq}
 use Rattle.plan.specs.Value.{at}
 use Rattle.year_rules.specs.Figures.{sum_of, best_of}
 use Rattle.year_rules.specs.Totals.{totals_ok}
+use Rattle.year_rules.specs.declared.Tally.{Tally}
 use Rattle.year_rules.specs.declared.Totals.{Totals}
 use Rattle.year_rules.proofs.FigureLaws.{Picks, max-picks, min-picks, sum-turn, sum-end, best-next}
 use Rattle.year_rules.proofs.BoundLaws.{ok-facts}
 use Rattle.year_write.specs.Report.{bests_below, all_tally}
-use Rattle.year_write.specs.Private.Bests.{best_with}
+use Rattle.year_write.specs.Private.Bests.{best_with, joined}
 
 -- ---- one board more
 
-module _ (pick : ℕ → ℕ → ℕ) (seen best ended next : ℕ) where
-  pub with_none : ended ≡ 0 → best ≡ best_with pick seen best ended next
+module _ (all next : Tally) where
+  pub joined-none :
+      next.ended ≡ 0
+      → record { ended = all.ended + next.ended; sum = all.sum + next.sum; greatest = all.greatest; least = all.least } ≡ joined all next
   unfolding best_with
-  with_none z = rw (eq-eqb ended 0 z)
+  joined-none z = rw (eq-eqb next.ended 0 z)
 
-  pub with_first : (ended ≡ 0 → ⊥) → seen ≡ 0 → next ≡ best_with pick seen best ended next
-  unfolding best_with
-  with_first s z = rw (ne_eqb ended 0 s, eq-eqb seen 0 z)
+  module _ (s : next.ended ≡ 0 → ⊥) where
+    pub joined-first :
+        all.ended ≡ 0
+        → record { ended = all.ended + next.ended; sum = all.sum + next.sum; greatest = next.greatest; least = next.least } ≡ joined all next
+    unfolding best_with
+    joined-first z = rw (ne_eqb next.ended 0 s, eq-eqb all.ended 0 z)
 
-  pub with-more : {r : ℕ} → (ended ≡ 0 → ⊥) → (seen ≡ 0 → ⊥) → r ≡ pick best next → r ≡ best_with pick seen best ended next
-  unfolding best_with
-  with-more s t e = rw (ne_eqb ended 0 s, ne_eqb seen 0 t) e
+    pub joined-best :
+        (all.ended ≡ 0 → ⊥) → {greatest least : ℕ} → greatest ≡ max all.greatest next.greatest → least ≡ min all.least next.least
+        → record { ended = all.ended + next.ended; sum = all.sum + next.sum; greatest = greatest; least = least } ≡ joined all next
+    unfolding best_with
+    joined-best t g l = rw (ne_eqb next.ended 0 s, ne_eqb all.ended 0 t, g, l)
 
 -- ---- the best of the boards below n
 

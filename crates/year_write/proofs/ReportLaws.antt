@@ -1,12 +1,12 @@
 -- The whole report, by the tests that lead to it.
 use Prim.Native.Nat.{ℕ, ◌≤◌, ◌<◌}
 use mathlib.Core.Path.{◌≡◌, sym, ap, ◌∙◌}
-use mathlib.Core.Bool.{Bool, true, false, not}
+use mathlib.Core.Bool.{Bool, true, false}
 use mathlib.Core.List.{List, ◌∷◌, append-nil}
 use native.Mathlib.Omega.{arith}
 use lib.ListN.{length}
 use lib.Seq.{sets}
-use borrow.Author.Tests.{lt-leb, le-leb, not-true, not-false}
+use borrow.Author.Tests.{lt-leb, le-leb}
 use Rattle.text.specs.Bytes.{bytes}
 use Rattle.text.specs.Line.{line_text}
 use Rattle.plan.specs.Answer.{refuse}
@@ -43,15 +43,15 @@ module _ (totals : Totals) (past : Bool) (out : List ℕ) where
         (rw t (omega (arith, w.place)), rw (t, ← e) w.bytes, omega (arith, w.place, w.small))
 
     module _ {ok : Bool} (e : ok ≡ totals_ok totals) where
-      pub ran-nine : {m : List ℕ} {p : ℕ} → not ok ≡ true → Lined out 0 (refused_line (refuse 9 0 0)) 41 m p → Ran totals past out m p
+      pub ran-nine : {m : List ℕ} {p : ℕ} → ok ≡ false → Lined out 0 (refused_line (refuse 9 0 0)) 41 m p → Ran totals past out m p
       unfolding year_text
       ran-nine n w =
-          let h : totals_ok totals ≡ false = sym e ∙ not-true ok n in ran-whole (sym (rw h)) (omega arith) (wrote-line (omega arith) w)
+          let h : totals_ok totals ≡ false = sym e ∙ n in ran-whole (sym (rw h)) (omega arith) (wrote-line (omega arith) w)
 
-      pub in_bounds : not ok ≡ false → totals_ok totals ≡ true
-      in_bounds n = sym e ∙ not-false ok n
+      pub in_bounds : ok ≡ true → totals_ok totals ≡ true
+      in_bounds n = sym e ∙ n
 
-      module _ (n : not ok ≡ false) {m : List ℕ} {p : ℕ} (w : Wrote out 0 (report_of totals) 653 m p) where
+      module _ (n : ok ≡ true) {m : List ℕ} {p : ℕ} (w : Wrote out 0 (report_of totals) 653 m p) where
         pub ran-alone : past ≡ false → Ran totals past out m p
         unfolding year_text
         ran-alone f = ran-whole (sym (rw (in_bounds n, f) (append-nil (report_of totals)))) (omega arith) w

@@ -8,17 +8,9 @@ use Rattle.plan.specs.Answer.{refuse}
 use Rattle.plan.specs.Value.{at}
 use Rattle.log_write.specs.Lines.{numbers_line, refused_line}
 use Rattle.year_rules.specs.Figures.{sum_of, best_of}
-use Rattle.year_rules.specs.Totals.{totals_ok}
+use Rattle.year_rules.specs.Totals.{board_tally, totals_ok}
 use Rattle.year_rules.specs.declared.Tally.{Tally}
 use Rattle.year_rules.specs.declared.Totals.{Totals}
-
-abbrev pub board_tally : Totals → ℕ → Tally
-board_tally totals b = record {
-  ended = at totals.ended b;
-  sum = at totals.sum b;
-  greatest = at totals.greatest b;
-  least = at totals.least b;
-}
 
 -- the greatest, or the least, of each board below n on which a task ended
 unfoldable pub bests_below : List ℕ → List ℕ → ℕ → List ℕ

@@ -1,7 +1,7 @@
 // The report of a year's totals, as bytes. Who calls a private function here has seen that there is room.
 #![tactic(auto)]
 
-ghost use Rattle.std.specs.Prelude.{◌≡◌, true, not, [], ◌∷◌, ◌+◌, ◌≤◌, max, min, eqb, length};
+ghost use Rattle.std.specs.Prelude.{◌≡◌, true, not, [], ◌∷◌, ◌+◌, ◌<◌, ◌≤◌, eqb, length};
 ghost use Rattle.std.proofs.lemmas.List.Edits.{sets};
 ghost use Rattle.laws.specs.Digits.{digits_of};
 ghost use Rattle.text.specs.Bytes.{bytes};
@@ -10,7 +10,7 @@ ghost use Rattle.log_write.specs.Lines.{numbers_line};
 ghost use Rattle.log_write.specs.Private.Wrote.{Wrote};
 ghost use Rattle.year_rules.specs.Totals.{totals_ok};
 ghost use Rattle.year_write.specs.Report.{all_tally, tally_fields, board_lines, report_of, report_most, report_in};
-ghost use Rattle.year_write.specs.Private.Bests.{best_with};
+ghost use Rattle.year_write.specs.Private.Bests.{joined};
 ghost use Rattle.year_write.specs.Private.Tails.{tally_tail};
 
 use log_write::put_refused;
@@ -36,7 +36,7 @@ fn put_short(out: &mut [u8], at: usize, n: u32) -> usize
     requires { at + 21 ≤ length out.old }
     ensures { Wrote out.old at (9 ∷ digits_of n) 11 out.new result }
 {
-    put_field(out, at, n as u64)
+    put_field(out, at, u64::from(n))
 }
 
 // A tab, and a number or `-`.
@@ -89,60 +89,41 @@ fn put_logs(out: &mut [u8], accepted: u32, refused: u32) -> usize
     put_byte(out, past_refused, LF)
 }
 
-// The greatest so far and a board's, which has none where no task ended on it.
-fn greatest_with(seen: u32, greatest: u32, ended: u32, next: u32) -> u32
-    ensures { result ≡ best_with max seen greatest ended next }
+// The boards so far and one more, which has no greatest and no least where no task ended on it.
+fn joined(all: Tally, next: Tally) -> Tally
+    requires { (all.ended + next.ended < 4294967296) × (all.sum + next.sum < 18446744073709551616) }
+    ensures { result ≡ joined all next }
 {
-    if ended == 0 {
-        return greatest;
+    let ended = all.ended + next.ended;
+    let sum = all.sum + next.sum;
+    if next.ended == 0 {
+        return Tally { ended, sum, ..all };
     }
-    if seen == 0 {
-        return next;
+    if all.ended == 0 {
+        return Tally { ended, sum, ..next };
     }
-    if greatest < next {
-        return next;
+    Tally {
+        ended,
+        sum,
+        greatest: all.greatest.max(next.greatest),
+        least: all.least.min(next.least),
     }
-    greatest
-}
-
-fn least_with(seen: u32, least: u32, ended: u32, next: u32) -> u32
-    ensures { result ≡ best_with min seen least ended next }
-{
-    if ended == 0 {
-        return least;
-    }
-    if seen == 0 {
-        return next;
-    }
-    if least < next {
-        return least;
-    }
-    next
 }
 
 fn all_tally(totals: Totals) -> Tally
     requires { totals_ok totals ≡ true }
     ensures { result ≡ all_tally totals }
 {
-    let mut ended = 0;
-    let mut sum = 0;
-    let mut greatest = 0;
-    let mut least = 0;
-    let mut b = 0;
-    while b < 8 {
-        let here = totals.ended[b];
-        greatest = greatest_with(ended, greatest, here, totals.greatest[b]);
-        least = least_with(ended, least, here, totals.least[b]);
-        ended += here;
-        sum += totals.sum[b];
-        b += 1;
+    let mut all = Tally {
+        ended: 0,
+        sum: 0,
+        greatest: 0,
+        least: 0,
+    };
+    for b in 0..8 {
+        all = joined(all, totals.tally(b));
     }
-    Tally {
-        ended,
-        sum,
-        greatest,
-        least,
-    }
+    all
 }
 
 // A line a board, by number.
@@ -151,17 +132,8 @@ fn put_boards(out: &mut [u8], at: usize, totals: Totals) -> usize
     ensures { Wrote out.old at (board_lines totals 8) 568 out.new result }
 {
     let mut place = at;
-    let mut number = 0;
-    while number < 8 {
-        let b = number;
-        number += 1;
-        let tally = Tally {
-            ended: totals.ended[b],
-            sum: totals.sum[b],
-            greatest: totals.greatest[b],
-            least: totals.least[b],
-        };
-        place = put_board(out, place, number as u32, tally);
+    for b in 0..8 {
+        place = put_board(out, place, (b + 1) as u32, totals.tally(b));
     }
     place
 }

@@ -7,5 +7,6 @@ use Rattle.ask_drives.proofs.fresh.Goals as goal
 
 pub returns : goal.returns
 returns c =
-    let l : length c.args.book.holds ≡ 2048 = search rules in
-    fresh-is c.args.book.holds l c.args.book.tasks c.args.book.begin (book_view c.args.book) c.holders_of-holders.ensures c.standing_of-now.ensures c.fresh_sheet.ensures
+    let book = c.args.book.now in
+    let l : length c.args.book.now.holds ≡ 2048 = search rules in
+    fresh-is book.holds l book.tasks book.begin (book_view book) c.holders_of-holders.ensures c.standing.ensures c.fresh_sheet.ensures

@@ -1,10 +1,17 @@
-use mathlib.Core.Path.{ap, ◌∙◌}
-use Rattle.ask_sheet.specs.Sets.{sheet_by, same_sheet}
+use lib.ListN.{length}
+use mathlib.Core.Path.{◌≡◌}
+use Rattle.ask_drives.proofs.Keep.{seen-is}
+use borrow.Author.Rules.{rules}
 use Rattle.ask_drives.proofs.seen_in.Goals as goal
+
+pub returns-then-not-is_same : goal.returns-then-not-is_same
+returns-then-not-is_same c =
+    let l : length c.args.book.now.holds ≡ 2048 = search rules in
+    let s = seen-is c.args.book.now c.args.sheet l c.holders_of-holders.ensures c.standing-before.ensures c.fresh_sheet.ensures c.is_same.ensures in
+    rw c.if-not-is_same.true at s
 
 pub returns : goal.returns
 returns c =
-    let all = c.holders_of-holders.ensures in
-    let now = c.standing_of-before.ensures in
-    let own = c.is_same-own.ensures ∙ ap (same_sheet c.args.sheet) c.fresh_sheet-now.ensures ∙ (λ j. same_sheet c.args.sheet (sheet_by (all j).held c.args.begin.now (now j))) in
-    λ i. record { held = (all i).held; before = now i; own = own i }
+    let l : length c.args.book.now.holds ≡ 2048 = search rules in
+    let s = seen-is c.args.book.now c.args.sheet l c.holders_of-holders.ensures c.standing-before.ensures c.fresh_sheet.ensures c.is_same.ensures in
+    rw c.if-not-is_same.false at s

@@ -1,15 +1,19 @@
-use Rattle.ask_exact.proofs.StepLaws.{shown-first, shown-taken, shown-passed}
+use Rattle.ask_exact.proofs.StepLaws.{least-first, least-taken, least-passed}
 use native.Mathlib.Omega.{arith}
-use mathlib.Core.Path.{◌≡◌, ◌∙◌}
+use mathlib.Core.Path.{◌≡◌, sym, ◌∙◌}
 use Rattle.ask_exact.proofs.least_of.Goals as goal
-use Rattle.ask_exact.proofs.least_of.Goals.{else-mark-i, then-mark-i}
+use Rattle.ask_exact.proofs.least_of.Goals.{then-not_started, else-not_started}
 
 pub loop-i-init : goal.loop-i-init
-loop-i-init c = (omega arith, shown-first _ _)
+loop-i-init c = (omega arith, least-first _ _)
 
 pub loop-i-preserved : goal.loop-i-preserved
 loop-i-preserved c =
-    elim c.if-mark-i.branch [ then-mark-i w ↦ (omega arith, shown-taken _ _ _ c.loop-i.invariant.1 w.if-mark-i.true w.early_at.ensures (w.found-is ∙ w.lesser-next.ensures)) | else-mark-i w ↦ (omega arith, shown-passed _ _ _ c.loop-i.invariant.1 w.if-mark-i.false w.found-is) ]
+    let inv = c.loop-i.invariant in
+    elim c.if-not_started.branch [
+      | then-not_started w ↦ (omega arith, w.found-is ∙ rw (w.min.ensures, w.unwrap_or.ensures, w.early_at-this.ensures) (least-taken _ _ _ inv.1 (sym c.not_started.ensures ∙ w.if-not_started.true)))
+      | else-not_started w ↦ (omega arith, w.found-is ∙ least-passed _ _ _ inv.1 (sym c.not_started.ensures ∙ w.if-not_started.false))
+    ]
 
 pub returns : goal.returns
 returns c =

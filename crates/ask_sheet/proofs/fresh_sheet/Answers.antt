@@ -7,5 +7,5 @@ pub returns : goal.returns
 returns c =
     let a = c.args in
     c.renew_sheet.ensures
-    ∙ ap (renewed_by a.held.now a.begin.now (record { runs = 0; waits = 0 }) a.after) (sym (sheet-blank a.held.now a.begin.now))
+    ∙ ap (renewed_by a.held.now a.begin.now (record { runs = 0; waits = 0 }) a.after) (c.zero_sheet.ensures ∙ sym (sheet-blank a.held.now a.begin.now))
     ∙ renewed-is a.held.now a.begin.now (record { runs = 0; waits = 0 }) a.after

@@ -1,12 +1,17 @@
+use mathlib.Core.Path.{◌≡◌, sym, ap, ◌∙◌}
+use Prim.Native.Nat.{ℕ, ◌+◌}
+use Rattle.std.specs.Prelude.{Option, Some, unwrap_or}
+use Rattle.laws.specs.Private.Nonzero.{nonzero}
 use Rattle.plan.specs.Value.{at}
-use Rattle.ask_sheet.proofs.Lines.{sooner-first, sooner-less, sooner-kept}
+use Rattle.ask_sheet.specs.Sheet.{sooner}
+use Rattle.ask_sheet.proofs.Lines.{sooner-kept, some-above}
 use Rattle.ask_sheet.proofs.sooner_of.Goals as goal
 
-pub returns-then-first-eq0 : goal.returns-then-first-eq0
-returns-then-first-eq0 c = sooner-first (at c.args.begin.now) c.args.first c.args.k c.if-first-eq0.true
-
-pub returns-then-begin-k : goal.returns-then-begin-k
-returns-then-begin-k c = let a = c.args in sooner-less (at a.begin.now) a.first a.k c.if-first-eq0.false c.if-begin-k.true
-
 pub returns : goal.returns
-returns c = let a = c.args in sooner-kept (at a.begin.now) a.first a.k c.if-first-eq0.false c.if-begin-k.false
+returns c =
+    let a = c.args in
+    let n = c.in-Some.number in
+    let u : unwrap_or a.first 0 ≡ n = ap (λ (o : Option ℕ). unwrap_or o 0) c.in-Some.is in
+    let z : Some n ≡ nonzero n = sym c.in-Some.is ∙ c.requires.2 ∙ ap (λ (k : ℕ). nonzero k) u in
+    sooner-kept (at a.begin.now) n a.k (some-above n z) (rw c.from-p.ensures at c.if-begin-k.false)
+    ∙ ap (λ (x : ℕ). sooner (at a.begin.now) x (a.k + 1)) (sym u)

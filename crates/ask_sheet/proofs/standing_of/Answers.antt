@@ -5,5 +5,5 @@ use Rattle.ask_sheet.proofs.standing_of.Goals as goal
 
 pub returns : goal.returns
 returns c =
-    let n : c.places-n.result ≡ min c.args.tasks 64 = search rules in
+    let n : c.places-n.result ≡ min c.args.book.now.plan.tasks 64 = search rules in
     λ i. record { runs = (rw n at c.running_set.ensures) i; waits = (rw n at c.waiting_set.ensures) i }

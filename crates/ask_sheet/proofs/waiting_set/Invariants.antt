@@ -1,13 +1,9 @@
-use Prim.Native.Nat.{◌-◌, ◌≤◌}
+use Prim.Native.Nat.{◌≤◌}
 use mathlib.Core.Path.{◌≡◌}
 use Rattle.laws.specs.Bits.{set_of}
 use Rattle.ask_sheet.specs.Sheet.{is_waiting}
-use Rattle.book_view.specs.View.{book_seen}
-use mathlib.Core.List.{[]}
+use Rattle.book_view.specs.Shown.{book_shown}
 use Rattle.ask_sheet.proofs.waiting_set.Given as goal
 
 abbrev pub invariant-loop-k : goal.invariant-loop-k
-invariant-loop-k l = (l.k ≤ l.n) × (l.set ≡ set_of l.k (is_waiting (book_seen l.mark l.start [] l.dropped l.clock)))
-
-abbrev pub decreases-loop-k : goal.decreases-loop-k
-decreases-loop-k l = l.n - l.k
+invariant-loop-k l = (l.k ≤ l.n) × (l.set ≡ set_of l.k (is_waiting (book_shown l.book)))

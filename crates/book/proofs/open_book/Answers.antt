@@ -1,40 +1,44 @@
+use Prim.Native.Nat.{ℕ}
+use mathlib.Core.Bool.{◌&&◌}
+use mathlib.Core.Path.{◌≡◌, sym, ap, ◌∙◌}
+use Rattle.laws.proofs.Cases.{and_l}
+use Rattle.plan.specs.Value.{is_accepted}
+use Rattle.plan.specs.declared.Plan.{Plan}
+use Rattle.book_view.specs.View.{is_rule}
+use Rattle.book_waits.specs.Waits.{waits_of}
+use Rattle.book_sound.proofs.WaitLaws.{none-known, some-known}
+use Rattle.book.specs.Open.{rule_number, blank_book}
+use Rattle.book.specs.View.{plan_in}
 use Rattle.book.proofs.ReportLaws.{opening-refused, opening-granted}
 use Rattle.book.proofs.Fits.{fit-blank}
 use Rattle.book.proofs.LaidOut.{blank-plan, blank-rule, none_dropped, opened-laid}
 use Rattle.book.proofs.WaitLaws.{fit-seen, settled-seen}
-use Rattle.book_sound.proofs.WaitLaws.{known_is}
-use Rattle.laws.proofs.Cases.{and_l}
-use Rattle.book_waits.specs.declared.Waits.{Waits}
-use Rattle.book.specs.Open.{blank_book}
-use Rattle.book.specs.View.{plan_in}
-use Rattle.plan.specs.Value.{is_accepted}
-use Rattle.book_view.specs.View.{is_rule}
-use Prim.Native.Nat.{ℕ}
-use mathlib.Core.Bool.{◌&&◌}
-use mathlib.Core.Path.{sym, ap, ◌∙◌}
 use Rattle.book.proofs.open_book.Goals as goal
-use Rattle.book.proofs.open_book.Goals.{else-waits, then-waits}
+use Rattle.book.proofs.open_book.Goals.{in-Some, in-None}
 
 pub settle-moved-requires : goal.settle-moved-requires
 settle-moved-requires c =
     let a = c.args in
     let book = c.blank_book-book.result in
     let blank = c.blank_book-book.ensures ∙ ap (λ (n : ℕ). blank_book n a.plan) c.number_of.ensures in
-    let waits = c.wait_sets-waits.ensures in
-    let known = c.if-waits.true in
-    let good = sym (known_is book.rule (plan_in book) waits) ∙ known in
-    fit-seen book good (ap (λ (x : Waits). x.sets) waits) _
-    (fit-blank book.rule (plan_in book) (and_l _ _ good) book.dropped c.unmoved.ensures (none_dropped a.plan a.rule blank))
+    let waits = sym (c.wait_sets.ensures ∙ ap (λ (b : Plan). waits_of book.rule b) (ap plan_in c.view.ensures)) in
+    let known = some-known book.rule (plan_in book) (waits ∙ c.in-Some.is) in
+    fit-seen book known.0 (sym known.1) _
+    (fit-blank book.rule (plan_in book) (and_l _ _ known.0) book.dropped c.unmoved.ensures (none_dropped a.plan a.rule blank))
 
 pub returns : goal.returns
 returns c =
     let a = c.args in
     let book = c.blank_book-book.result in
     let b = c.blank_book-book.ensures ∙ ap (λ (n : ℕ). blank_book n a.plan) c.number_of.ensures in
-    let waits = c.wait_sets-waits.ensures in
-    let ok = known_is book.rule (plan_in book) waits ∙ (λ i. is_accepted (blank-plan a.plan a.rule b i) && is_rule (blank-rule a.plan a.rule b i)) in
-    elim c.if-waits.branch [
-      | then-waits w ↦ opening-granted a.plan a.rule ok c.answer_of.ensures w.if-waits.true w.code-is
-          (w.book-is ∙ opened-laid a.plan a.rule b w.unmoved.ensures (settled-seen book (sym (known_is book.rule (plan_in book) waits) ∙ w.if-waits.true) (ap (λ (x : Waits). x.sets) waits) _ w.settle-moved.ensures))
-      | else-waits w ↦ opening-refused a.plan a.rule ok c.answer_of.ensures w.if-waits.false w.code-is (w.book-is ∙ w.zero_book-book.ensures)
+    let waits = sym (c.wait_sets.ensures ∙ ap (λ (p : Plan). waits_of book.rule p) (ap plan_in c.view.ensures)) in
+    let ok : (is_accepted (plan_in book) && is_rule book.rule) ≡ (is_accepted a.plan && is_rule (rule_number a.rule)) = λ i. is_accepted (blank-plan a.plan a.rule b i) && is_rule (blank-rule a.plan a.rule b i) in
+    elim c.match-wait_sets.branch [
+      | in-Some w ↦
+          let known = some-known book.rule (plan_in book) (waits ∙ w.in-Some.is) in
+          opening-granted a.plan a.rule ok c.answer_of.ensures known.0 w.code-is
+          (w.book-is ∙ opened-laid a.plan a.rule b w.unmoved.ensures (settled-seen book known.0 (sym known.1) _ w.settle-moved.ensures))
+      | in-None w ↦
+          opening-refused a.plan a.rule ok c.answer_of.ensures (none-known book.rule (plan_in book) (waits ∙ w.in-None.is)) w.code-is
+          (w.book-is ∙ w.zero_book-book.ensures)
     ]

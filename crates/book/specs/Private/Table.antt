@@ -1,13 +1,18 @@
 -- For every task and every board, the last task waited for; and what the functions do by that table.
-use Rattle.std.specs.Prelude.{ℕ, zero, suc, ◌+◌, ◌-◌, ◌<◌, ◌≤◌, max, Bool, true, cond, ◌&&◌, ◌||◌, List, [], ◌⊎◌, ◌≢◌, ◌≡◌, eqb, get_or}
+use Rattle.std.specs.Prelude.{ℕ, zero, suc, ◌+◌, ◌-◌, ◌<◌, ◌≤◌, max, Bool, true, cond, ◌&&◌, ◌||◌, List, [], ◌⊎◌, ◌≢◌, ◌≡◌, eqb, get_or, Option, Some, None}
 use Rattle.laws.specs.Each.{each}
-use Rattle.laws.specs.Every.{every}
+use Rattle.laws.specs.Every.{every, any}
 use Rattle.laws.specs.Private.Last.{last_of}
 use Rattle.theory.specs.Plan.{Plan}
 use Rattle.theory.specs.Book.{Book, waiting, ended, is_dropped}
 use Rattle.plan.specs.Value.{at}
-use Rattle.book_view.specs.View.{book_seen, laid}
+use Rattle.book_view.specs.View.{plan_seen, book_seen, laid}
+use Rattle.book.specs.declared.Book as own
 use Rattle.book.specs.declared.StepArrays.{StepArrays}
+
+-- the plan of a book, as steps look at it, with these wait sets
+abbrev pub plan_by : own.Book → List ℕ → Plan
+plan_by book waits = plan_seen book.tasks book.ready [] book.finish waits
 
 -- i waits for k, which is on the board
 abbrev pub waits_on : Plan → (ℕ → ℕ) → ℕ → ℕ → ℕ → Bool
@@ -45,6 +50,11 @@ round_by dropped table clock n old = record {
   start = put_each n (skips_by_row old.mark dropped table) (λ i. clock) old.start;
   end = put_each n (skips_by_row old.mark dropped table) (λ i. clock) old.end;
 }
+
+-- a round, if it skips somebody
+abbrev pub skipped_by : List ℕ → List (List ℕ) → ℕ → ℕ → StepArrays → Option StepArrays
+skipped_by dropped table clock n old =
+    cond (any n (skips_by_row old.mark dropped table)) (Some (round_by dropped table clock n old)) None
 
 unfoldable pub rounds_by : ℕ → List ℕ → List (List ℕ) → ℕ → ℕ → StepArrays → StepArrays
 rounds_by zero dropped table clock n old = old

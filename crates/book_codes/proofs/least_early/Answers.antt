@@ -1,13 +1,11 @@
 use Rattle.book_codes.proofs.EarlyLaws.{figure-none, figure-of}
+use native.Mathlib.Omega.{arith}
+use mathlib.Core.Path.{◌∙◌}
 use borrow.Author.Rules.{rules}
 use Rattle.book_codes.proofs.least_early.Goals as goal
 
-pub returns-then-n-tasks : goal.returns-then-n-tasks
-returns-then-n-tasks c =
-    let a = c.args in
-    figure-none a.tasks a.ready.now a.begin.now a.start.now a.mark.now a.dropped.now a.clock c.places-n.ensures (search rules) (search rules) c.if-n-tasks.true
+pub returns-then-n-from : goal.returns-then-n-from
+returns-then-n-from c = figure-none c.args.book.now c.places-n.ensures (search rules) (search rules) (omega arith)
 
 pub returns : goal.returns
-returns c =
-    let a = c.args in
-    figure-of a.tasks a.ready.now a.begin.now a.start.now a.mark.now a.dropped.now a.clock c.places-n.ensures c.if-n-tasks.false c.least_of.ensures
+returns c = c.unwrap_or.ensures ∙ figure-of c.args.book.now c.places-n.ensures (omega arith) _ c.least_of.ensures

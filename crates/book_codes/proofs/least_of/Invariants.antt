@@ -1,13 +1,9 @@
-use Rattle.book_codes.proofs.EarlyLaws.{LeastTo}
+use mathlib.Core.Path.{◌≡◌}
+use Rattle.laws.specs.Picked.{least}
 use Rattle.theory.specs.Figure.{early_by, counts}
-use Rattle.book_view.specs.View.{plan_seen, book_seen}
-use mathlib.Core.List.{[]}
-use Prim.Native.Nat.{◌-◌, ◌≤◌}
+use Rattle.book_view.specs.Shown.{plan_shown, book_shown}
+use Rattle.book_codes.specs.Private.Held.{held}
 use Rattle.book_codes.proofs.least_of.Given as goal
 
 abbrev pub invariant-loop-i : goal.invariant-loop-i
-invariant-loop-i l =
-    (l.i ≤ l.n) × LeastTo l.i (counts (book_seen l.mark l.start [] l.dropped l.clock)) (early_by (plan_seen l.n l.ready l.begin [] []) (book_seen l.mark l.start [] l.dropped l.clock)) l.found l.least
-
-abbrev pub decreases-loop-i : goal.decreases-loop-i
-decreases-loop-i l = l.n - l.i
+invariant-loop-i l = held l.least ≡ least l.i (counts (book_shown l.book)) (early_by (plan_shown l.book) (book_shown l.book))

@@ -9,11 +9,11 @@ use Rattle.book_codes.proofs.none_past.Goals as goal
 
 pub loop-j-init : goal.loop-j-init
 unfolding every
-loop-j-init c = (omega arith, refl)
+loop-j-init c = refl
 
 pub loop-j-preserved : goal.loop-j-preserved
-loop-j-preserved c = (omega arith, every-implies _ _ (eqb (at c.args.mark.now c.loop-j.j) 1) (leb c.wide.result c.limit_of-limit.result) (rw (c.wide.ensures, c.limit_of-limit.ensures)) c.loop-j.invariant.1)
+loop-j-preserved c = every-implies _ _ (eqb (at c.args.book.now.mark.now c.loop-j.j) 1) (leb c.from.result c.limit_of-limit.result) (rw (c.from.ensures, c.limit_of-limit.ensures)) c.loop-j.invariant
 
 pub returns : goal.returns
 unfolding none_past
-returns c = let e : c.loop-j.j ≡ c.args.n = omega arith in rw e at c.loop-j.invariant.1
+returns c = let e : c.loop-j.j ≡ c.args.n = omega arith in rw e at c.loop-j.invariant

@@ -12,4 +12,4 @@ pub loop-j-preserved : goal.loop-j-preserved
 loop-j-preserved c = (omega arith, latest-more _ _ _ c.loop-j.invariant.1 c.later-last.ensures)
 
 pub returns : goal.returns
-returns c = let e : c.loop-j.j ≡ c.args.tasks = omega arith in rw e at c.loop-j.invariant.1
+returns c = let e : c.loop-j.j ≡ c.args.book.now.plan.tasks = omega arith in rw e at c.loop-j.invariant.1

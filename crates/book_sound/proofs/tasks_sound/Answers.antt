@@ -17,4 +17,4 @@ pub loop-i-preserved : goal.loop-i-preserved
 loop-i-preserved c = (omega arith, every-passed _ _ (sym c.task_sound.ensures ∙ not-false _ c.if-not-task_sound.false-raw) c.loop-i.invariant.1)
 
 pub returns : goal.returns
-returns c = let e : c.loop-i.i ≡ c.args.tasks = omega arith in rw e at (sym c.loop-i.invariant.1)
+returns c = let e : c.loop-i.i ≡ c.args.book.now.plan.tasks = omega arith in rw e at (sym c.loop-i.invariant.1)

@@ -13,4 +13,4 @@ loop-j-preserved c = (omega arith, set_more _ _ (omega arith) refl c.bit_of-set.
 
 pub returns : goal.returns
 returns c =
-    let e : c.loop-j.j ≡ c.args.tasks = omega arith in rw e at c.loop-j.invariant.1
+    let e : c.loop-j.j ≡ c.args.book.now.plan.tasks = omega arith in rw e at c.loop-j.invariant.1

@@ -3,11 +3,8 @@ use Rattle.plan.specs.Value.{at}
 use Rattle.theory.specs.Book.{ended}
 use mathlib.Core.Bool.{not}
 use mathlib.Core.Path.{◌≡◌}
-use Prim.Native.Nat.{◌-◌, ◌≤◌}
+use Prim.Native.Nat.{◌≤◌}
 use Rattle.book_sound.proofs.unended_set.Given as goal
 
 abbrev pub invariant-loop-j : goal.invariant-loop-j
-invariant-loop-j l = (l.j ≤ l.tasks) × (l.set ≡ set_of l.j (λ k. not (ended (at l.mark) k)))
-
-abbrev pub decreases-loop-j : goal.decreases-loop-j
-decreases-loop-j l = l.tasks - l.j
+invariant-loop-j l = (l.j ≤ l.book.plan.tasks) × (l.set ≡ set_of l.j (λ k. not (ended (at l.book.mark.now) k)))

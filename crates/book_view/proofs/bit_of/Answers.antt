@@ -12,6 +12,3 @@ returns-then-stands c =
     let low = mod-lt task (lit< {m = 0} {n = 64} tt) in
     let room : 1 + task % 64 ≤ 64 = omega (arith, low) in
     rw c.if-stands.true (shl_exact 1 (task % 64) 64 (omega arith) room ∙ one-mul (2 ^ (task % 64)))
-
-pub returns : goal.returns
-returns c = rw c.if-stands.false

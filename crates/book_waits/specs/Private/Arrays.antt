@@ -7,7 +7,9 @@ use Rattle.laws.specs.Lists.{any_of}
 use Rattle.plan.specs.Pairs.{is_listed}
 use Rattle.plan.specs.Value.{at, row, items}
 use Rattle.plan.specs.Private.Drives.{RowsInRange}
+use Rattle.plan.specs.declared.Plan.{Plan}
 use Rattle.book_holders.specs.Holders.{holders_of, rivals_on}
+use Rattle.book_holders.specs.declared.Holders.{Holders}
 
 -- the tasks that a list names, task n as bit n - 1
 abbrev pub listed_set : List ℕ → ℕ
@@ -18,28 +20,28 @@ abbrev pub OnEight : List ℕ → ℕ → Type 0
 OnEight board tasks = (k : ℕ) → k < tasks → (0 < at board k) × (at board k ≤ 8)
 
 -- the tasks that the holds of task i clash with
-abbrev pub rival_set : List ℕ → List ℕ → List ℕ → ℕ → ℕ
-rival_set holds held exclusive i =
-    set_of 64 (λ j. any_of (λ h. has (rivals_on held exclusive h) j) (items (row 32 holds i)))
+abbrev pub rival_set : Plan → Holders → ℕ → ℕ
+rival_set plan drives i =
+    set_of 64 (λ j. any_of (λ h. has (rivals_on drives.held drives.exclusive h) j) (items (row 32 plan.holds i)))
 
 -- those, those on its board and those that it lists under after
-abbrev pub clash_set : List ℕ → List ℕ → List ℕ → List ℕ → List ℕ → List ℕ → ℕ → ℕ
-clash_set board on holds held exclusive after i =
-    bit_or (at on (at board i - 1)) (bit_or (rival_set holds held exclusive i) (listed_set (items (row 64 after i))))
+abbrev pub clash_set : Plan → List ℕ → Holders → ℕ → ℕ
+clash_set plan on drives i =
+    bit_or (at on (at plan.board i - 1)) (bit_or (rival_set plan drives i) (listed_set (items (row 64 plan.after i))))
 
 -- of these the ones in the task's early set, for the first n tasks
-unfoldable pub clash_sets : List ℕ → List ℕ → List ℕ → List ℕ → ℕ → ℕ → List ℕ
-clash_sets early board holds after tasks n =
-    let on = sets_to 8 tasks (λ b k. eqb (b + 1) (at board k)) in
-    each n
-    (λ i. bit_and (clash_set board on holds (holders_of holds).held (holders_of holds).exclusive after i) (at early i)) early
+unfoldable pub clash_sets : List ℕ → Plan → ℕ → List ℕ
+clash_sets early plan n =
+    let on = sets_to 8 plan.tasks (λ b k. eqb (b + 1) (at plan.board k)) in
+    each n (λ i. bit_and (clash_set plan on (holders_of plan.holds) i) (at early i)) early
 
 -- what an accepted plan has
-pub record Fit (board begin finish holds after : List ℕ) (tasks : ℕ) : Type 0 where
-  pub range : RowsInRange holds tasks
-  pub on : OnEight board tasks
+pub record Fit (plan : Plan) : Type 0 where
+  pub range : RowsInRange plan.holds plan.tasks
+  pub on : OnEight plan.board plan.tasks
   -- who is waited for does not come after
   pub before :
-      (i j : ℕ) → i < tasks → j < tasks → leb (at finish j) (at begin i) ≡ true → is_listed (items (row 64 after j)) (i + 1) ≡ false
+      (i j : ℕ) → i < plan.tasks → j < plan.tasks → leb (at plan.finish j) (at plan.begin i) ≡ true
+      → is_listed (items (row 64 plan.after j)) (i + 1) ≡ false
   -- places past the last task await nobody
-  pub past : (i j : ℕ) → tasks ≤ i → j < tasks → leb (at finish j) (at begin i) ≡ false
+  pub past : (i j : ℕ) → plan.tasks ≤ i → j < plan.tasks → leb (at plan.finish j) (at plan.begin i) ≡ false

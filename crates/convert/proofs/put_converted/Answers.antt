@@ -1,9 +1,8 @@
 -- The array is always long enough for `convert_text`, so that its front is the whole answer.
 use Rattle.std.proofs.Common.{rules}
-use Rattle.convert.proofs.TextLaws.{converted-front}
+use Rattle.files.proofs.Fronts.{whole-front}
+use Rattle.plan_convert.specs.Renewed.{renewed_text}
 use Rattle.convert.proofs.put_converted.Goals as goal
 
-pub returns-clause-out_after : goal.returns-clause-out_after
-returns-clause-out_after c =
-    let made = c.convert_text.ensures in
-    converted-front c.args.plan.now c.args.out.now _ _ (search rules) made.0 made.1 made.2
+pub returns : goal.returns
+returns c = whole-front (renewed_text c.args.plan.now) _ (search rules) c.convert_text-length.ensures

@@ -1,9 +1,10 @@
-use Rattle.desk_answers.proofs.AnswerLaws.{early-no, early-yes}
+use mathlib.Core.Path.{sym, ◌∙◌}
+use Rattle.desk_answers.proofs.AnswerLaws.{refusal-some, refusal-none, early-no, early-yes}
 use borrow.Author.Rules.{rules}
 use Rattle.desk_answers.proofs.answer_early.Goals as goal
 
-pub returns-then-answer-ne0 : goal.returns-then-answer-ne0
-returns-then-answer-ne0 c = early-no _ c.minimum_early-figure.ensures c.if-answer-ne0.true c.answer_refused.ensures
+pub returns-in-Some : goal.returns-in-Some
+returns-in-Some c = let r = refusal-some _ (sym c.in-Some.is ∙ c.refusal.ensures) in early-no _ c.minimum_early-figure.ensures r.0 (rw r.1 at c.answer_refused.ensures)
 
 pub returns : goal.returns
-returns c = early-yes _ c.minimum_early-figure.ensures c.if-answer-ne0.false (search rules) c.put_early.ensures
+returns c = early-yes _ c.minimum_early-figure.ensures (refusal-none _ (sym c.in_default.is ∙ c.refusal.ensures)) (search rules) c.put_early.ensures

@@ -1,13 +1,16 @@
 use mathlib.Core.Path.{refl}
-use Rattle.log_run.proofs.OpenLaws.{is-unsaid, is-chosen}
+use Rattle.log_read.proofs.SaidLaws.{said-unsaid, said-chosen, said-malformed}
 use Rattle.desk_start.proofs.StartLaws.{walked-unsaid, walked-chosen, walked-malformed}
 use Rattle.desk_start.proofs.walk_text.Goals as goal
 
-pub returns-in-Unsaid : goal.returns-in-Unsaid
-returns-in-Unsaid c = walked-unsaid _ c.args.text.now c.choose.ensures (is-unsaid _ c.in-Unsaid.in-Unsaid-own.keys1) c.opened.ensures c.walk.ensures
+pub returns-in-Ok-Unsaid : goal.returns-in-Ok-Unsaid
+returns-in-Ok-Unsaid c =
+    walked-unsaid _ c.args.text.now c.choose.ensures (said-unsaid c.in-Ok-Unsaid.is c.in-Ok-Unsaid.field-0-is) c.opened.ensures c.walk.ensures
 
-pub returns-in-Chosen : goal.returns-in-Chosen
-returns-in-Chosen c = walked-chosen _ c.args.text.now c.choose.ensures (is-chosen _ c.in-Chosen.in-Chosen-own.keys2) c.opened-in-Chosen.ensures c.part_after.ensures c.walk-in-Chosen.ensures
+pub returns-in-Ok-Chosen : goal.returns-in-Ok-Chosen
+returns-in-Ok-Chosen c =
+    walked-chosen _ c.args.text.now c.choose.ensures (said-chosen c.in-Ok-Chosen.is c.in-Ok-Chosen.field-0-is) c.opened-in-Ok-Chosen.ensures
+    c.part_after.ensures c.walk-in-Ok-Chosen.ensures
 
-pub returns-in-Malformed : goal.returns-in-Malformed
-returns-in-Malformed c = walked-malformed _ c.args.text.now c.choose.ensures c.in-Malformed.in-Malformed-own.keys3 c.opened-in-Malformed.ensures refl
+pub returns-in-Err : goal.returns-in-Err
+returns-in-Err c = walked-malformed _ c.args.text.now c.choose.ensures (said-malformed c.in-Err.is) c.opened-in-Err.ensures refl

@@ -1,27 +1,45 @@
+use mathlib.Core.Path.{ap}
 use Rattle.desk_read.proofs.ReadLaws.{step-near}
-use Rattle.desk_turns.proofs.TurnLaws.{is-rule, is-early, is-exact, is-now, turn_step, turn-rule, turn-early, turn-exact, turn-now, turn-drive, turn-why, near-short}
+use Rattle.desk_read.specs.Asked.{asked}
+use Rattle.log_read.specs.Said.Entry.{Refused}
+use Rattle.desk_turns.proofs.TurnLaws.{asks, turn_step, turn-rule, turn-early, turn-exact, turn-now, turn-drive, turn-why, near-short}
 use Rattle.desk_turns.proofs.take_line.Goals as goal
 
 pub take_entry-requires : goal.take_entry-requires
-take_entry-requires c = near-short c.in-Step.entry (step-near _ _ c.args.line.now c.read_asked.ensures c.in-Step.is)
+take_entry-requires c =
+    near-short _ (step-near _ _ c.args.line.now c.read_asked.ensures (asks c.in-Ok-Step.is c.in-Ok-Step.field-0-is))
 
-pub returns-in-Step : goal.returns-in-Step
-returns-in-Step c = turn_step c.args.morning _ _ c.args.line.now c.read_asked.ensures c.in-Step.is c.take_entry.ensures
+pub take_entry-requires-in-Err : goal.take_entry-requires-in-Err
+take_entry-requires-in-Err c = near-short (Refused c.in-Err.fault.code c.in-Err.fault.column) (step-near _ _ c.args.line.now c.read_asked.ensures (ap asked c.in-Err.is))
 
-pub returns-in-Rule : goal.returns-in-Rule
-returns-in-Rule c = turn-rule c.args.morning _ _ c.args.line.now c.read_asked.ensures (is-rule _ c.in-Rule.in-Rule-own.keys2) c.take_rule.ensures
+pub returns-in-Ok-Step : goal.returns-in-Ok-Step
+returns-in-Ok-Step c =
+    turn_step c.args.morning _ _ c.args.line.now c.read_asked.ensures (asks c.in-Ok-Step.is c.in-Ok-Step.field-0-is) c.take_entry.ensures
 
-pub returns-in-Early : goal.returns-in-Early
-returns-in-Early c = turn-early c.args.morning _ _ c.args.line.now c.read_asked.ensures c.said.ensures (is-early _ c.in-Early.in-Early-own.keys3) c.answer_early.ensures
+pub returns-in-Ok-Rule : goal.returns-in-Ok-Rule
+returns-in-Ok-Rule c =
+    turn-rule c.args.morning _ _ c.args.line.now c.read_asked.ensures (asks c.in-Ok-Rule.is c.in-Ok-Rule.field-0-is) c.take_rule.ensures
 
-pub returns-in-Exact : goal.returns-in-Exact
-returns-in-Exact c = turn-exact c.args.morning _ _ c.args.line.now c.read_asked.ensures c.said-in-Exact.ensures (is-exact _ c.in-Exact.in-Exact-own.keys4) c.answer_exact.ensures
+pub returns-in-Ok-Early : goal.returns-in-Ok-Early
+returns-in-Ok-Early c =
+    turn-early c.args.morning _ _ c.args.line.now c.read_asked.ensures c.said.ensures (asks c.in-Ok-Early.is c.in-Ok-Early.field-0-is) c.answer_early.ensures
 
-pub returns-in-Now : goal.returns-in-Now
-returns-in-Now c = turn-now c.args.morning _ _ c.args.line.now c.read_asked.ensures c.said-in-Now.ensures (is-now _ c.in-Now.in-Now-own.keys5) c.answer_now.ensures
+pub returns-in-Ok-Exact : goal.returns-in-Ok-Exact
+returns-in-Ok-Exact c =
+    turn-exact c.args.morning _ _ c.args.line.now c.read_asked.ensures c.said-in-Ok-Exact.ensures (asks c.in-Ok-Exact.is c.in-Ok-Exact.field-0-is) c.answer_exact.ensures
 
-pub returns-in-Drive : goal.returns-in-Drive
-returns-in-Drive c = turn-drive c.args.morning _ _ c.args.line.now c.read_asked.ensures c.said-in-Drive.ensures c.in-Drive.is c.answer_drive.ensures
+pub returns-in-Ok-Now : goal.returns-in-Ok-Now
+returns-in-Ok-Now c =
+    turn-now c.args.morning _ _ c.args.line.now c.read_asked.ensures c.said-in-Ok-Now.ensures (asks c.in-Ok-Now.is c.in-Ok-Now.field-0-is) c.answer_now.ensures
 
-pub returns-in-Why : goal.returns-in-Why
-returns-in-Why c = turn-why c.args.morning _ _ c.args.line.now c.read_asked.ensures c.said-in-Why.ensures c.in-Why.is c.answer_why.ensures
+pub returns-in-Ok-Drive : goal.returns-in-Ok-Drive
+returns-in-Ok-Drive c =
+    turn-drive c.args.morning _ _ c.args.line.now c.read_asked.ensures c.said-in-Ok-Drive.ensures (asks c.in-Ok-Drive.is c.in-Ok-Drive.field-0-is) c.answer_drive.ensures
+
+pub returns-in-Ok-Why : goal.returns-in-Ok-Why
+returns-in-Ok-Why c =
+    turn-why c.args.morning _ _ c.args.line.now c.read_asked.ensures c.said-in-Ok-Why.ensures (asks c.in-Ok-Why.is c.in-Ok-Why.field-0-is) c.answer_why.ensures
+
+pub returns-in-Err : goal.returns-in-Err
+returns-in-Err c =
+    turn_step c.args.morning _ _ c.args.line.now c.read_asked.ensures (ap asked c.in-Err.is) c.take_entry-in-Err.ensures

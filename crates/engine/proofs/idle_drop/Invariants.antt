@@ -4,12 +4,8 @@ use Rattle.plan.specs.Value.{at}
 use mathlib.Core.Bool.{◌&&◌}
 use mathlib.Core.Path.{◌≡◌}
 use lib.Dec.{eqb}
-use Prim.Native.Nat.{◌-◌, ◌≤◌}
 use Rattle.engine.proofs.idle_drop.Given as goal
 
 abbrev pub invariant-loop-i : goal.invariant-loop-i
 invariant-loop-i l =
-    (l.i ≤ l.tasks) × (lowest_from l.i l.tasks (λ j. eqb (at l.dropped j) 1 && eqb (at l.waits j) 0) ≡ lowest l.tasks (λ j. eqb (at l.dropped j) 1 && eqb (at l.waits j) 0))
-
-abbrev pub decreases-loop-i : goal.decreases-loop-i
-decreases-loop-i l = l.tasks - l.i
+    lowest_from l.i l.tasks (λ j. eqb (at l.dropped j) 1 && eqb (at l.waits j) 0) ≡ lowest l.tasks (λ j. eqb (at l.dropped j) 1 && eqb (at l.waits j) 0)

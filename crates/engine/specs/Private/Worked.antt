@@ -1,5 +1,5 @@
 -- What the engine's own functions say and ask, by lent arrays.
-use Rattle.std.specs.Prelude.{ℕ, ◌≤◌, ◌<◌, ◌≡◌, Bool, true, false, not, ◌&&◌, List, [], eqb}
+use Rattle.std.specs.Prelude.{ℕ, ◌≤◌, ◌<◌, ◌≡◌, Bool, true, false, not, ◌&&◌, List, [], eqb, Option, None, Some}
 use Rattle.std.specs.Int.Bits.{bit_and}
 use Rattle.laws.specs.Bits.{has}
 use Rattle.theory.specs.Plan as theory-plan
@@ -17,10 +17,9 @@ abbrev pub is_free : List ℕ → ℕ → ℕ → Bool
 is_free waits done i = not (has done i) && eqb (bit_and (at waits i) done) (at waits i)
 
 -- a task that is free, or that none is
-pub record FreeTask (waits : List ℕ) (done tasks r : ℕ) : Type 0 where
-  pub low : r ≤ tasks
-  pub free : r < tasks → is_free waits done r ≡ true
-  pub none : r ≡ tasks → (i : ℕ) → i < tasks → is_free waits done i ≡ false
+abbrev pub FreeTask : List ℕ → ℕ → ℕ → Option ℕ → Type 0
+FreeTask waits done tasks None = (i : ℕ) → i < tasks → is_free waits done i ≡ false
+FreeTask waits done tasks (Some i) = (i < tasks) × (is_free waits done i ≡ true)
 
 -- there is a timetable whose ticks are small, and no task waits for itself in the end
 pub record Solvable (tasks : ℕ) (ready waits length dropped : List ℕ) : Type 0 where

@@ -1,9 +1,13 @@
 -- What the code keeps of the lines it has read.
-use Rattle.std.specs.Prelude.{ℕ, ◌-◌, ◌≤◌, ◌<◌, List, length, set}
+use Rattle.std.specs.Prelude.{ℕ, ◌-◌, ◌≤◌, cond, List, length, set, Result, Ok, Err}
+use Rattle.plan.specs.Answer.{is_granted}
+use Rattle.plan.specs.declared.Answer.{Answer}
+use Rattle.engine.specs.declared.Lengths.{Lengths}
+use Rattle.engine_read.specs.Whole.{Told, given_of}
 use Rattle.plan.specs.Value.{at}
 use Rattle.book_view.specs.View.{laid}
-use Rattle.engine_read.specs.declared.LengthLine.{LengthLine}
-use Rattle.engine_read.specs.declared.LengthLine.TheVariants.{Length, Drop, Refused}
+use Rattle.engine_read.specs.Said.{LengthLine}
+use Rattle.engine_read.specs.Said.{Length, Drop, Refused}
 use Rattle.engine_read.specs.declared.LengthNotes.{LengthNotes}
 
 -- the planned lengths
@@ -17,17 +21,15 @@ note_of noted (Length task ticks) =
 note_of noted (Drop task) = record { length = noted.length; dropped = set noted.dropped (task - 1) 1; known = noted.known }
 note_of noted (Refused code column) = noted
 
+-- the lengths and drops that lines say, or the first refusal
+abbrev pub lengths_told : ℕ → List ℕ → List ℕ → Told → Result Lengths Answer
+lengths_told tasks begin finish told = cond (is_granted told.answer) (Ok (given_of tasks begin finish told.said)) (Err told.answer)
+
 -- the line names a task
 abbrev pub Names : ℕ → LengthLine → Type 0
 Names tasks (Length task ticks) = (1 ≤ task) × (task ≤ tasks)
 Names tasks (Drop task) = (1 ≤ task) × (task ≤ tasks)
 Names tasks (Refused code column) = 0 ≤ tasks
-
--- a column that an answer can say
-abbrev pub Short : LengthLine → Type 0
-Short (Length task ticks) = 0 ≤ ticks
-Short (Drop task) = 0 ≤ task
-Short (Refused code column) = column < 4294967296
 
 pub record LinesFit (tasks line : ℕ) (text : List ℕ) : Type 0 where
   pub few : tasks ≤ 64

@@ -5,8 +5,8 @@ use Rattle.text.specs.Line.{field}
 use Rattle.text_fields.specs.Faults.{ranged_read, fault_of, unless_fault}
 use Rattle.text_fields.specs.declared.Ranged.{Ranged}
 use Rattle.engine_read.specs.Lines.{task_code, length_codes, drop_codes}
-use Rattle.engine_read.specs.declared.LengthLine.{LengthLine}
-use Rattle.engine_read.specs.declared.LengthLine.TheVariants.{Length, Drop, Refused}
+use Rattle.engine_read.specs.Said.{LengthLine}
+use Rattle.engine_read.specs.Said.{Length, Drop, Refused}
 
 -- its code, and its value where it is a task's
 unfoldable pub task_read : ℕ → (ℕ → Bool) → List ℕ → Ranged

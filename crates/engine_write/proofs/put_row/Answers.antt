@@ -4,4 +4,4 @@ use Rattle.engine_write.proofs.put_row.Goals as goal
 pub returns : goal.returns
 returns c =
     wrote-line c.requires
-    (rw c.wide.ensures at c.put_line.ensures)
+    (rw c.from.ensures at c.put_line.ensures)

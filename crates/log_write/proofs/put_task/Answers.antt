@@ -3,4 +3,4 @@ use Rattle.log_write.proofs.put_task.Goals as goal
 
 pub returns : goal.returns
 returns c =
-    rw (le-leb _ 7 c.requires, c.early_by-early.ensures, c.wide.ensures) at c.put_line.ensures
+    rw (le-leb _ 7 c.requires, c.saturating_sub-early.ensures, c.from.ensures) at c.put_line.ensures

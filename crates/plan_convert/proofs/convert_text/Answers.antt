@@ -9,4 +9,4 @@ pub returns-then-said-ne0 : goal.returns-then-said-ne0
 returns-then-said-ne0 c = renewed-refused c.args.text.now c.args.out.now c.if-out-lt-TEXT_MOST.false c.renew-renewed.ensures c.if-said-ne0.true c.put_refused.ensures
 
 pub returns : goal.returns
-returns c = renewed-written c.args.text.now c.args.out.now c.if-out-lt-TEXT_MOST.false c.renew-renewed.ensures c.if-said-ne0.false c.write_plan-written.ensures.answer c.write_plan-written.ensures.bytes
+returns c = renewed-written c.args.text.now c.args.out.now c.if-out-lt-TEXT_MOST.false c.renew-renewed.ensures c.if-said-ne0.false c.write_plan.ensures.answer c.write_plan.ensures.bytes

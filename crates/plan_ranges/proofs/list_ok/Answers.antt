@@ -1,4 +1,6 @@
+use Rattle.plan.specs.Value.{blank_from}
 use Rattle.plan_ranges.proofs.list_ok.Goals as goal
 
 pub returns : goal.returns
-returns c = rw (c.rises.ensures, c.blank_bytes.ensures, c.find.ensures)
+unfolding blank_from
+returns c = rw (c.rises.ensures, c.is_blank.ensures, c.find.ensures)

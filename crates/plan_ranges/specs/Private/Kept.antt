@@ -5,13 +5,15 @@ use Rattle.text.specs.Number.{most}
 use Rattle.text_fields.specs.Items.{between, has_shared}
 use Rattle.text_fields.specs.Private.Lettered.{key_of}
 use Rattle.plan.specs.Value.{at, items, is_trimmed}
+use Rattle.plan.specs.declared.Plan.{Plan}
 
 -- what is kept of a task: of its numbers, and of its lists
-abbrev pub numbers_in : ℕ → ℕ → List ℕ → List ℕ → List ℕ → List ℕ → ℕ → Bool
-numbers_in edition boards board ready begin finish k =
-    (between 1 boards (at board k)
-    && (leb (at ready k) (at begin k) && (ltb (at begin k) (at finish k) && leb (at finish k) most)))
-    && (eqb edition 2 || eqb (at ready k) 0)
+abbrev pub numbers_in : Plan → ℕ → Bool
+numbers_in plan k =
+    (between 1 plan.boards (at plan.board k)
+    && (leb (at plan.ready k) (at plan.begin k)
+    && (ltb (at plan.begin k) (at plan.finish k) && leb (at plan.finish k) most)))
+    && (eqb plan.edition 2 || eqb (at plan.ready k) 0)
 
 abbrev pub list_in : Bool → ℕ → List ℕ → Bool
 list_in drives high l = rises_from (key_of drives) high 0 (items l) && is_trimmed l

@@ -34,11 +34,11 @@ use Rattle.book.specs.declared.Figure.{Figure}
 use Rattle.book.specs.declared.Rule.{Rule}
 use Rattle.book.specs.declared.Rule.TheVariants.{EarlyStart, Clash}
 use Rattle.log_read.specs.Entries.{entry_code, next_entry}
-use Rattle.log_read.specs.declared.Entry.{Entry}
-use Rattle.log_read.specs.declared.Entry.TheVariants.{End, Drop, Refused}
+use Rattle.log_read.specs.Said.{Entry}
+use Rattle.log_read.specs.Said.Entry.{End, Drop, Refused}
 use Rattle.log_read.specs.Rules.{choice_of}
-use Rattle.log_read.specs.declared.Choice.{Choice}
-use Rattle.log_read.specs.declared.Choice.TheVariants.{Unsaid, Chosen, Malformed}
+use Rattle.log_read.specs.Said.{Choice}
+use Rattle.log_read.specs.Said.Choice.{Unsaid, Chosen, Malformed}
 use Rattle.log_write.specs.Lines.{refused_line}
 use Rattle.log_run.specs.Lines.{run_line, end_line, start_lines, has_started, start_line, early_line}
 use Rattle.log_run.specs.Log.{shown_after, open_log, told_of, lines_of, told_log, ends_log, rest_log, chosen_log, log_of}

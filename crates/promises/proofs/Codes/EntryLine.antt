@@ -16,7 +16,7 @@ use Rattle.text.specs.Line.{LF, has_line, fields, field}
 use Rattle.text_fields.specs.Faults.{word_code, field_codes, worst, column_of}
 use Rattle.plan.specs.Value.{at}
 use Rattle.log_read.specs.Entries.{end_codes, drop_codes, entry_of, next_entry}
-use Rattle.log_read.specs.declared.Entry.TheVariants.{End, Drop, Refused}
+use Rattle.log_read.specs.Said.Entry.{End, Drop, Refused}
 use Rattle.promises.specs.Columns.{ColumnSays}
 use Rattle.promises.specs.Says.{entry_answer, EntrySays}
 use Rattle.text_fields.proofs.FaultLaws.{field-is-code, word-is-code, end-is-code, faultless-is, zero-at, word-zero, end-zero}

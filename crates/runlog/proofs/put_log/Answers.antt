@@ -1,9 +1,8 @@
 -- The array is always long enough for `run_log`, so that its front is the whole log.
 use Rattle.std.proofs.Common.{rules}
-use Rattle.runlog.proofs.LogLaws.{ran-front}
+use Rattle.files.proofs.Fronts.{whole-front}
+use Rattle.log_run.specs.Log.{log_of}
 use Rattle.runlog.proofs.put_log.Goals as goal
 
-pub returns-clause-out_after : goal.returns-clause-out_after
-returns-clause-out_after c =
-    let ran = c.run_log.ensures in
-    ran-front c.args.plan.now c.args.ends.now c.args.out.now _ _ (search rules) ran.0 ran.1 ran.2
+pub returns : goal.returns
+returns c = whole-front (log_of c.args.plan.now c.args.ends.now) _ (search rules) c.run_log-length.ensures

@@ -1,25 +1,28 @@
-use lib.ListN.{length}
-use mathlib.Core.Path.{◌≡◌, ap, ◌∙◌}
-use Prim.Native.Nat.{min}
+use Rattle.std.proofs.lemmas.Result.{err_from_is_err_and}
+use mathlib.Core.Path.{◌∙◌}
+use native.Mathlib.Omega.{arith}
 use Rattle.plan.specs.Value.{at}
+use Rattle.plan.specs.View.{viewed}
 use Rattle.school.specs.Tests.{is_mislong, is_untimely}
-use Rattle.school_judge.specs.Tests.{times_of, is_amiss, is_against_by}
-use Rattle.school_judge.proofs.TestLaws.{fault-is, said-wrong, said-mislong, said-against, said-last}
-use borrow.Author.Rules.{rules}
+use Rattle.school_judge.specs.Tests.{is_amiss}
+use Rattle.school_judge.proofs.ToldLaws.{fault-told}
+use Rattle.school_judge.proofs.TestLaws.{stop-wrong, stop-mislong, stop-against, last_told}
 use Rattle.school_judge.proofs.test_log.Goals as goal
 
-pub returns-then-wrong-ne0 : goal.returns-then-wrong-ne0
-returns-then-wrong-ne0 c = said-wrong (is_amiss c.args.right.now) (is_mislong (times_of c.args.ready.now c.args.begin.now c.args.finish.now) (at c.args.start.now) (at c.args.end.now)) (is_against_by c.args.waits.now (at c.args.start.now) (at c.args.end.now)) (is_untimely (times_of c.args.ready.now c.args.begin.now c.args.finish.now) (at c.args.start.now)) ((let by_count : c.places-n.result ≡ min c.args.tasks 64 = let size : length c.args.right.now ≡ 64 = search rules in
-    c.places-n.ensures ∙ ap (min c.args.tasks) size in by_count)) (fault-is 24 _ (is_amiss c.args.right.now) c.amiss.ensures c.task_fault-wrong.ensures) c.if-wrong-ne0.true
+pub returns-in_err-task_fault : goal.returns-in_err-task_fault
+returns-in_err-task_fault c =
+    let p = err_from_is_err_and c.from_residual.result c.from_residual.ensures.1 in
+    rw (p.1, p.2) (stop-wrong _ _ _ _ (c.from-tasks.ensures ∙ c.few.ensures) (c.in_err-task_fault.ensures ∙ fault-told 24 c.from-tasks.result (is_amiss c.args.right.now) (λ e. omega arith) c.amiss.ensures))
 
-pub returns-then-long-ne0 : goal.returns-then-long-ne0
-returns-then-long-ne0 c = said-mislong (is_amiss c.args.right.now) (is_mislong (times_of c.args.ready.now c.args.begin.now c.args.finish.now) (at c.args.start.now) (at c.args.end.now)) (is_against_by c.args.waits.now (at c.args.start.now) (at c.args.end.now)) (is_untimely (times_of c.args.ready.now c.args.begin.now c.args.finish.now) (at c.args.start.now)) ((let by_count : c.places-n.result ≡ min c.args.tasks 64 = let size : length c.args.right.now ≡ 64 = search rules in
-    c.places-n.ensures ∙ ap (min c.args.tasks) size in by_count)) (fault-is 24 _ (is_amiss c.args.right.now) c.amiss.ensures c.task_fault-wrong.ensures) c.if-wrong-ne0.false (fault-is 25 _ (is_mislong (times_of c.args.ready.now c.args.begin.now c.args.finish.now) (at c.args.start.now) (at c.args.end.now)) c.mislong.ensures c.task_fault-long.ensures) c.if-long-ne0.true
+pub returns-in_err-task_fault-2 : goal.returns-in_err-task_fault-2
+returns-in_err-task_fault-2 c =
+    let p = err_from_is_err_and c.from_residual-in_err-task_fault-2.result c.from_residual-in_err-task_fault-2.ensures.1 in
+    rw (p.1, p.2) (stop-mislong _ _ _ _ (c.from-tasks.ensures ∙ c.few.ensures) (c.in_ok-task_fault.ensures ∙ fault-told 24 c.from-tasks.result (is_amiss c.args.right.now) (λ e. omega arith) c.amiss.ensures) (c.in_err-task_fault-2.ensures ∙ fault-told 25 c.from-tasks.result (is_mislong (viewed c.args.plan.now) (at c.args.start.now) (at c.args.end.now)) (λ e. omega arith) c.mislong.ensures))
 
-pub returns-then-against-ne0 : goal.returns-then-against-ne0
-returns-then-against-ne0 c = said-against (is_amiss c.args.right.now) (is_mislong (times_of c.args.ready.now c.args.begin.now c.args.finish.now) (at c.args.start.now) (at c.args.end.now)) (is_against_by c.args.waits.now (at c.args.start.now) (at c.args.end.now)) (is_untimely (times_of c.args.ready.now c.args.begin.now c.args.finish.now) (at c.args.start.now)) ((let by_count : c.places-n.result ≡ min c.args.tasks 64 = let size : length c.args.right.now ≡ 64 = search rules in
-    c.places-n.ensures ∙ ap (min c.args.tasks) size in by_count)) (fault-is 24 _ (is_amiss c.args.right.now) c.amiss.ensures c.task_fault-wrong.ensures) c.if-wrong-ne0.false (fault-is 25 _ (is_mislong (times_of c.args.ready.now c.args.begin.now c.args.finish.now) (at c.args.start.now) (at c.args.end.now)) c.mislong.ensures c.task_fault-long.ensures) c.if-long-ne0.false c.pairs_fault-against.ensures c.if-against-ne0.true
+pub returns-in_err-fault : goal.returns-in_err-fault
+returns-in_err-fault c =
+    let p = err_from_is_err_and c.from_residual-in_err-fault.result c.from_residual-in_err-fault.ensures.1 in
+    rw (p.1, p.2) (stop-against _ _ _ _ (c.from-tasks.ensures ∙ c.few.ensures) (c.in_ok-task_fault.ensures ∙ fault-told 24 c.from-tasks.result (is_amiss c.args.right.now) (λ e. omega arith) c.amiss.ensures) (c.in_ok-task_fault-2.ensures ∙ fault-told 25 c.from-tasks.result (is_mislong (viewed c.args.plan.now) (at c.args.start.now) (at c.args.end.now)) (λ e. omega arith) c.mislong.ensures) c.in_err-fault.ensures)
 
 pub returns : goal.returns
-returns c = said-last (is_amiss c.args.right.now) (is_mislong (times_of c.args.ready.now c.args.begin.now c.args.finish.now) (at c.args.start.now) (at c.args.end.now)) (is_against_by c.args.waits.now (at c.args.start.now) (at c.args.end.now)) (is_untimely (times_of c.args.ready.now c.args.begin.now c.args.finish.now) (at c.args.start.now)) ((let by_count : c.places-n.result ≡ min c.args.tasks 64 = let size : length c.args.right.now ≡ 64 = search rules in
-    c.places-n.ensures ∙ ap (min c.args.tasks) size in by_count)) (fault-is 24 _ (is_amiss c.args.right.now) c.amiss.ensures c.task_fault-wrong.ensures) c.if-wrong-ne0.false (fault-is 25 _ (is_mislong (times_of c.args.ready.now c.args.begin.now c.args.finish.now) (at c.args.start.now) (at c.args.end.now)) c.mislong.ensures c.task_fault-long.ensures) c.if-long-ne0.false c.pairs_fault-against.ensures c.if-against-ne0.false (fault-is 27 _ (is_untimely (times_of c.args.ready.now c.args.begin.now c.args.finish.now) (at c.args.start.now)) c.untimely.ensures c.task_fault.ensures)
+returns c = c.task_fault-3.ensures ∙ fault-told 27 c.from-tasks.result (is_untimely (viewed c.args.plan.now) (at c.args.start.now)) (λ e. omega arith) c.untimely.ensures ∙ last_told _ _ _ _ (c.from-tasks.ensures ∙ c.few.ensures) (c.in_ok-task_fault.ensures ∙ fault-told 24 c.from-tasks.result (is_amiss c.args.right.now) (λ e. omega arith) c.amiss.ensures) (c.in_ok-task_fault-2.ensures ∙ fault-told 25 c.from-tasks.result (is_mislong (viewed c.args.plan.now) (at c.args.start.now) (at c.args.end.now)) (λ e. omega arith) c.mislong.ensures) c.in_ok-fault.ensures

@@ -6,22 +6,22 @@ use borrow.Author.Rules.{rules}
 use Rattle.school_read.proofs.read_log.Goals as goal
 
 pub loop-line-init : goal.loop-line-init
-loop-line-init c = walk_start _ _ _ _ c.few-most.ensures c.not_read-found.ensures (search rules)
+loop-line-init c = walk_start _ _ _ _ c.few-most.ensures c.blank-found.ensures (search rules)
 
-pub overflow_add-line : goal.overflow_add-line
-overflow_add-line c = record { fits = walk-room c.loop-line.invariant c.loop-line-test.true }
+pub overflow_add-result : goal.overflow_add-result
+overflow_add-result c = record { fits = walk-room c.loop-line.invariant c.loop-line-test.true }
 
 pub returns-then-end-rest : goal.returns-then-end-rest
-returns-then-end-rest c = walk-unended c.loop-line.invariant c.loop-line-test.true c.find-end.ensures c.if-end-rest.true c.not_read.ensures
+returns-then-end-rest c = walk-unended c.loop-line.invariant c.loop-line-test.true c.find-end.ensures c.if-end-rest.true
 
 pub slice_bounds-said-end : goal.slice_bounds-said-end
 slice_bounds-said-end c = sym (length-take-le _ _ (found-le _ _ c.find-end.ensures))
 
-pub overflow_add-line-then-not-what : goal.overflow_add-line-then-not-what
-overflow_add-line-then-not-what c = record { fits = walk-room c.loop-line.invariant c.loop-line-test.true }
+pub overflow_add-result-then-not-what : goal.overflow_add-result-then-not-what
+overflow_add-result-then-not-what c = record { fits = walk-room c.loop-line.invariant c.loop-line-test.true }
 
 pub returns-then-not-what : goal.returns-then-not-what
-returns-then-not-what c = walk-stops c.loop-line.invariant c.find-end.ensures c.if-end-rest.false c.said-what.ensures c.if-not-what.true c.not_read-then-not-what.ensures
+returns-then-not-what c = walk-stops c.loop-line.invariant c.find-end.ensures c.if-end-rest.false c.said-what.ensures c.if-not-what.true
 
 pub bounds-found-s : goal.bounds-found-s
 bounds-found-s c = (names-few _ _ _ _ _ c.few-most.ensures c.said-what.ensures).0
@@ -59,8 +59,8 @@ bounds-found-e-in-loop-line-4 c = (names-few _ _ _ _ _ c.few-most.ensures c.said
 pub bounds-found-e-in-loop-line-5 : goal.bounds-found-e-in-loop-line-5
 bounds-found-e-in-loop-line-5 c = (names-few _ _ _ _ _ c.few-most.ensures c.said-what.ensures).1
 
-pub overflow_add-line-in-loop-line : goal.overflow_add-line-in-loop-line
-overflow_add-line-in-loop-line c = record { fits = walk-room c.loop-line.invariant c.loop-line-test.true }
+pub overflow_add-line : goal.overflow_add-line
+overflow_add-line c = record { fits = walk-room c.loop-line.invariant c.loop-line-test.true }
 
 pub loop-line-smaller : goal.loop-line-smaller
 loop-line-smaller c = rest-less _ c.find-end.ensures c.if-end-rest.false c.past-next.ensures

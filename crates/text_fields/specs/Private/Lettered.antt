@@ -1,12 +1,18 @@
 -- Both list fields by one rule. In a lettered list, that of the holds, a letter stands before an item's number.
-use Rattle.std.specs.Prelude.{ℕ, ◌+◌, Bool, true, false, cond, ◌&&◌, ◌||◌, List, [], ◌∷◌, map, eqb, get_or, drop}
+use Rattle.std.specs.Prelude.{ℕ, ◌+◌, Bool, true, false, cond, ◌&&◌, ◌||◌, List, [], ◌∷◌, map, eqb, get_or, drop, Result, Err}
 use Rattle.laws.specs.Lists.{all_of, first_not, rising}
 use Rattle.laws.specs.Split.{split_on, begin_of}
 use Rattle.text.specs.Number.{is_number, value_of, number_stop, number_of}
 use Rattle.text_fields.specs.Items.{COMMA, between, is_list, list_of, drive_of, is_hold, hold_of, hold_stop, list_stop, items_of}
 use Rattle.text_fields.specs.declared.Items.{Items}
-use Rattle.text.specs.declared.Number.{Number}
-use Rattle.text.specs.declared.Number.TheVariants.{Misspelt}
+use Rattle.text.specs.declared.NumberFault.{NumberFault}
+use Rattle.text.specs.declared.NumberFault.TheVariants.{Misspelt}
+use Rattle.text_fields.specs.declared.list.ListKind.{ListKind}
+use Rattle.text_fields.specs.declared.list.ListKind.TheVariants.{Holds, After}
+
+abbrev pub lettered : ListKind → Bool
+lettered Holds = true
+lettered After = false
 
 unfoldable pub is_item : Bool → List ℕ → Bool
 is_item lettered = cond lettered is_hold is_number
@@ -28,8 +34,8 @@ unfoldable pub digits_in : Bool → List ℕ → List ℕ
 digits_in lettered part = cond lettered (drop 1 part) part
 
 -- what an item's number says, and a part that does not begin as an item does
-unfoldable pub item_number : Bool → List ℕ → Number
-item_number lettered part = cond (starts_item lettered part) (number_of (digits_in lettered part)) (Misspelt 0)
+unfoldable pub item_number : Bool → List ℕ → Result (ℕ × ℕ) NumberFault
+item_number lettered part = cond (starts_item lettered part) (number_of (digits_in lettered part)) (Err (Misspelt 0))
 
 -- the number of an item
 unfoldable pub key_of : Bool → ℕ → ℕ

@@ -1,25 +1,22 @@
-use mathlib.Core.Path.{◌≡◌, refl}
+use mathlib.Core.Path.{refl, sym, ◌∙◌}
 use native.Mathlib.Omega.{arith}
 use Rattle.laws.specs.Every.{every}
-use Rattle.book_view.proofs.Turns.{every_more}
-use Rattle.year_rules.specs.Totals.{board_ok}
+use Rattle.laws.proofs.Every.{every-pass, every-out, every-not}
 use Rattle.year_rules.proofs.are_boards_ok.Goals as goal
 
--- src/lib.rt:50:5
 pub loop-b-init : goal.loop-b-init
 unfolding every
-loop-b-init c = (omega arith, refl)
+loop-b-init c = refl
 
--- src/lib.rt:50:5
+pub returns-then-not-is_board_ok : goal.returns-then-not-is_board_ok
+returns-then-not-is_board_ok c =
+    let e = rw c.tally.ensures at c.is_board_ok.ensures in
+    sym (every-not 8 _ c.loop-b.b (omega arith) (sym e ∙ c.if-not-is_board_ok.true))
+
 pub loop-b-preserved : goal.loop-b-preserved
 loop-b-preserved c =
-    let l = c.loop-b in
-    let totals = c.args.totals in
-    (omega arith, every_more l.b (board_ok totals) c.is_board_ok-ok.ensures l.invariant.1)
+    let e = rw c.tally.ensures at c.is_board_ok.ensures in
+    every-pass c.loop-b.b _ c.loop-b.invariant (sym e ∙ c.if-not-is_board_ok.false)
 
--- src/lib.rt:45:1
 pub returns : goal.returns
-returns c =
-    let l = c.loop-b in
-    let e : l.b ≡ 8 = omega (arith, c.loop-b-test.false, l.invariant.0) in
-    rw (← e) l.invariant.1
+returns c = every-out _ c.loop-b.b _ c.loop-b.invariant (omega arith)

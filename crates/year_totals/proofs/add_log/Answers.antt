@@ -1,28 +1,24 @@
+use mathlib.Core.Path.{◌∙◌}
 use Rattle.year_totals.proofs.AddLaws.{call-nine, call-full, call-refused, call-accepted, has_room, tasks-few}
 use Rattle.year_totals.proofs.add_log.Goals as goal
+use Rattle.year_totals.proofs.add_log.Goals.{then-judged-eq0, else-judged-eq0}
 
--- src/lib.rt:226:9
 pub returns-then-not-are_in_bounds : goal.returns-then-not-are_in_bounds
 returns-then-not-are_in_bounds c =
-    call-nine c.args.totals c.args.plan c.args.log.now c.are_in_bounds.ensures c.if-not-are_in_bounds.true-raw c.refuse.ensures c.not_added.ensures
+    call-nine c.args.totals c.args.plan c.args.log.now c.are_in_bounds.ensures c.if-not-are_in_bounds.true c.refuse.ensures c.not_added.ensures
 
--- src/lib.rt:229:9
-pub returns-then-wide-ge-LOGS_MOST : goal.returns-then-wide-ge-LOGS_MOST
-returns-then-wide-ge-LOGS_MOST c =
-    call-full c.args.totals c.args.plan c.args.log.now c.are_in_bounds.ensures c.if-not-are_in_bounds.false-raw c.wide.ensures.0 c.wide-2.ensures.0 c.if-wide-ge-LOGS_MOST.true c.refuse-then-wide-ge-LOGS_MOST.ensures c.not_added-then-wide-ge-LOGS_MOST.ensures
+pub returns-then-from-ge-LOGS_MOST : goal.returns-then-from-ge-LOGS_MOST
+returns-then-from-ge-LOGS_MOST c =
+    call-full c.args.totals c.args.plan c.args.log.now c.are_in_bounds.ensures c.if-not-are_in_bounds.false c.from.ensures c.from-2.ensures c.if-from-ge-LOGS_MOST.true c.refuse-then-from-ge-LOGS_MOST.ensures c.not_added-then-from-ge-LOGS_MOST.ensures
 
--- src/lib.rt:236:9
-pub returns-then-found-ne0 : goal.returns-then-found-ne0
-returns-then-found-ne0 c =
-    call-refused c.args.totals c.args.plan c.args.log.now c.are_in_bounds.ensures c.if-not-are_in_bounds.false-raw c.wide.ensures.0 c.wide-2.ensures.0 c.if-wide-ge-LOGS_MOST.false c.judge_log-judged.ensures c.refuse-answer.ensures c.if-found-ne0.true c.with_refused-next.ensures
+pub with_accepted-after-requires : goal.with_accepted-after-requires
+with_accepted-after-requires c =
+    let room = has_room c.args.totals c.args.plan c.args.log.now c.are_in_bounds.ensures c.if-not-are_in_bounds.false c.from.ensures c.from-2.ensures c.if-from-ge-LOGS_MOST.false c.judge_log-judged.ensures in
+    (tasks-few c.args.totals c.args.plan c.args.log.now c.are_in_bounds.ensures c.if-not-are_in_bounds.false c.from.ensures c.from-2.ensures c.if-from-ge-LOGS_MOST.false c.judge_log-judged.ensures c.if-judged-eq0.true, room.0, room.1)
 
--- src/lib.rt:242:9
-pub with_accepted-next-requires : goal.with_accepted-next-requires
-with_accepted-next-requires c =
-    let room = has_room c.args.totals c.args.plan c.args.log.now c.are_in_bounds.ensures c.if-not-are_in_bounds.false-raw c.wide.ensures.0 c.wide-2.ensures.0 c.if-wide-ge-LOGS_MOST.false c.judge_log-judged.ensures in
-    (tasks-few c.args.totals c.args.plan c.args.log.now c.are_in_bounds.ensures c.if-not-are_in_bounds.false-raw c.wide.ensures.0 c.wide-2.ensures.0 c.if-wide-ge-LOGS_MOST.false c.judge_log-judged.ensures c.if-found-ne0.false, room.0, room.1)
-
--- src/lib.rt:222:1
 pub returns : goal.returns
 returns c =
-    call-accepted c.args.totals c.args.plan c.args.log.now c.are_in_bounds.ensures c.if-not-are_in_bounds.false-raw c.wide.ensures.0 c.wide-2.ensures.0 c.if-wide-ge-LOGS_MOST.false c.judge_log-judged.ensures c.refuse-answer.ensures c.if-found-ne0.false c.with_accepted-next.ensures
+    elim c.if-judged-eq0.branch [
+      | then-judged-eq0 w ↦ call-accepted c.args.totals c.args.plan c.args.log.now c.are_in_bounds.ensures c.if-not-are_in_bounds.false c.from.ensures c.from-2.ensures c.if-from-ge-LOGS_MOST.false c.judge_log-judged.ensures c.refuse-2.ensures w.if-judged-eq0.true (w.after-is ∙ w.with_accepted-after.ensures)
+      | else-judged-eq0 w ↦ call-refused c.args.totals c.args.plan c.args.log.now c.are_in_bounds.ensures c.if-not-are_in_bounds.false c.from.ensures c.from-2.ensures c.if-from-ge-LOGS_MOST.false c.judge_log-judged.ensures c.refuse-2.ensures w.if-judged-eq0.false (w.after-is ∙ w.with_refused-after.ensures)
+    ]

@@ -1,10 +1,6 @@
-use Prim.Native.Nat.{◌-◌, ◌≤◌}
 use Rattle.year_totals.proofs.TallyLaws.{Seen, Roomy}
 use Rattle.year_totals.proofs.board_after.Given as goal
 
 -- `board_after` meets its contract: the tally is that of the figures of the tasks below i.
 abbrev pub invariant-loop-i : goal.invariant-loop-i
-invariant-loop-i l = (l.i ≤ l.tasks) × Roomy l.tally l.i × Seen l.initial.tally l.number l.board l.finish l.end l.i l.tally
-
-abbrev pub decreases-loop-i : goal.decreases-loop-i
-decreases-loop-i l = l.tasks - l.i
+invariant-loop-i l = Roomy l.tally l.i × Seen l.fn.held l.number l.board l.finish l.end l.i l.tally

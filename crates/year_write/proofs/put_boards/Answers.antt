@@ -4,30 +4,20 @@ use Rattle.log_write.proofs.WriteLaws.{wrote-length}
 use Rattle.year_write.proofs.LineLaws.{boards-none, boards-turn}
 use Rattle.year_write.proofs.put_boards.Goals as goal
 
--- src/lib.rt:160:5
-pub loop-number-init : goal.loop-number-init
-loop-number-init c = (omega arith, boards-none c.args.totals c.args.out.now c.args.at)
+pub loop-b-init : goal.loop-b-init
+loop-b-init c = boards-none c.args.totals c.args.out.now c.args.at
 
--- src/lib.rt:169:9
 pub put_board-place-requires : goal.put_board-place-requires
 put_board-place-requires c =
-    let l = c.loop-number in
-    let w = l.invariant.1 in
-    let below = c.loop-number-test.true in
+    let w = c.loop-b.invariant in
     let size = wrote-length w in
-    omega (arith, w.place, w.small, size, below, c.requires)
+    omega (arith, w.place, w.small, size, c.requires)
 
--- src/lib.rt:160:5
-pub loop-number-preserved : goal.loop-number-preserved
-loop-number-preserved c = (omega arith, boards-turn c.args.totals c.loop-number.number c.loop-number.invariant.1 c.put_board-place.ensures)
+pub loop-b-preserved : goal.loop-b-preserved
+loop-b-preserved c = boards-turn c.args.totals c.loop-b.b c.loop-b.invariant (rw c.tally.ensures at c.put_board-place.ensures)
 
--- src/lib.rt:154:1
 pub shape_of-out : goal.shape_of-out
-shape_of-out c = wrote-length c.loop-number.invariant.1
+shape_of-out c = wrote-length c.loop-b.invariant
 
--- src/lib.rt:154:1
 pub returns : goal.returns
-returns c =
-    let l = c.loop-number in
-    let e : l.number ≡ 8 = omega (arith, c.loop-number-test.false, l.invariant.0) in
-    rw e at l.invariant.1
+returns c = let e : c.loop-b.b ≡ 8 = omega arith in rw e at c.loop-b.invariant

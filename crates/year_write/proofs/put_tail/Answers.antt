@@ -2,7 +2,6 @@ use native.Mathlib.Omega.{arith}
 use Rattle.year_write.proofs.LineLaws.{by-wrote, by_next, tail-wrote}
 use Rattle.year_write.proofs.put_tail.Goals as goal
 
--- src/lib.rt:59:1
 pub returns : goal.returns
 returns c =
     let x = c.put_short-past_ended.ensures in

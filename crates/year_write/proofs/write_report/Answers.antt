@@ -2,22 +2,17 @@ use Rattle.year_write.proofs.ReportLaws.{ran-short, ran-nine, in_bounds, ran-alo
 use Rattle.year_write.proofs.write_report.Goals as goal
 
 -- `write_report` meets its contract: a short buffer, 9, the report with 28 behind it, the report alone.
--- src/lib.rt:188:9
 pub returns-then-out-lt-REPORT_MOST : goal.returns-then-out-lt-REPORT_MOST
 returns-then-out-lt-REPORT_MOST c = ran-short _ _ _ c.if-out-lt-REPORT_MOST.true
 
--- src/lib.rt:191:9
 pub returns-then-not-are_in_bounds : goal.returns-then-not-are_in_bounds
-returns-then-not-are_in_bounds c = let a = c.args in ran-nine a.totals a.past a.out.now c.if-out-lt-REPORT_MOST.false c.are_in_bounds.ensures c.if-not-are_in_bounds.true-raw c.put_refused.ensures
+returns-then-not-are_in_bounds c = let a = c.args in ran-nine a.totals a.past a.out.now c.if-out-lt-REPORT_MOST.false c.are_in_bounds.ensures c.if-not-are_in_bounds.true c.put_refused.ensures
 
--- src/lib.rt:193:9
 pub put_report-place-requires : goal.put_report-place-requires
-put_report-place-requires c = let a = c.args in (c.if-out-lt-REPORT_MOST.false, in_bounds a.totals a.past a.out.now c.if-out-lt-REPORT_MOST.false c.are_in_bounds.ensures c.if-not-are_in_bounds.false-raw)
+put_report-place-requires c = let a = c.args in (c.if-out-lt-REPORT_MOST.false, in_bounds a.totals a.past a.out.now c.if-out-lt-REPORT_MOST.false c.are_in_bounds.ensures c.if-not-are_in_bounds.false)
 
--- src/lib.rt:195:9
 pub returns-then-past : goal.returns-then-past
-returns-then-past c = let a = c.args in ran-past a.totals a.past a.out.now c.if-out-lt-REPORT_MOST.false c.are_in_bounds.ensures c.if-not-are_in_bounds.false-raw c.put_report-place.ensures c.if-past.true c.put_refused-then-past.ensures
+returns-then-past c = let a = c.args in ran-past a.totals a.past a.out.now c.if-out-lt-REPORT_MOST.false c.are_in_bounds.ensures c.if-not-are_in_bounds.false c.put_report-place.ensures c.if-past.true c.put_refused-then-past.ensures
 
--- src/lib.rt:184:1
 pub returns : goal.returns
-returns c = let a = c.args in ran-alone a.totals a.past a.out.now c.if-out-lt-REPORT_MOST.false c.are_in_bounds.ensures c.if-not-are_in_bounds.false-raw c.put_report-place.ensures c.if-past.false
+returns c = let a = c.args in ran-alone a.totals a.past a.out.now c.if-out-lt-REPORT_MOST.false c.are_in_bounds.ensures c.if-not-are_in_bounds.false c.put_report-place.ensures c.if-past.false

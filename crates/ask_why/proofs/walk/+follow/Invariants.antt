@@ -4,4 +4,4 @@ use Rattle.ask_why.proofs.walk.+follow.Given as goal
 
 -- the planned start of the task
 abbrev pub decreases-follow : goal.decreases-follow
-decreases-follow l = at l.begin.now l.i
+decreases-follow l = at l.book.now.begin l.i

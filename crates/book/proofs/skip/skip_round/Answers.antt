@@ -1,4 +1,4 @@
-use Rattle.book.proofs.SkipLaws.{round-none, round-skips, round-stays, some-picked, some-passed}
+use Rattle.book.proofs.SkipLaws.{round-none, round-skips, round-stays, some-picked, some-passed, some-skipped, none-skipped}
 use Rattle.laws.specs.Every.{any}
 use native.Mathlib.Omega.{arith}
 use mathlib.Core.Path.{◌≡◌, refl, sym, ◌∙◌}
@@ -15,5 +15,11 @@ may_skip-requires c = record { i_bound = omega arith; small_row = λ z. c.requir
 pub loop-i-preserved : goal.loop-i-preserved
 loop-i-preserved c = elim c.if-may_skip.branch [ then-may_skip w ↦ (omega arith, w.next-is ∙ round-skips _ _ _ _ _ c.loop-i.invariant.1 (sym c.may_skip.ensures ∙ w.if-may_skip.true), w.some-is ∙ some-picked _ _ (sym c.may_skip.ensures ∙ w.if-may_skip.true)) | else-may_skip w ↦ (omega arith, w.next-is ∙ round-stays _ _ _ _ _ c.loop-i.invariant.1 (sym c.may_skip.ensures ∙ w.if-may_skip.false), w.some-is ∙ some-passed _ _ c.loop-i.invariant.2 (sym c.may_skip.ensures ∙ w.if-may_skip.false)) ]
 
-pub returns : goal.returns
-returns c = let e : c.loop-i.i ≡ c.args.tasks = omega arith in (rw e at c.loop-i.invariant.1, rw e at c.loop-i.invariant.2)
+pub returns-then-some : goal.returns-then-some
+returns-then-some c =
+    let e : c.loop-i.i ≡ c.args.book.now.tasks = omega arith in
+    some-skipped _ _ _ _ _ (rw e at c.loop-i.invariant.2) c.if-some.true (rw e at c.loop-i.invariant.1)
+
+pub returns-else-some : goal.returns-else-some
+returns-else-some c =
+    let e : c.loop-i.i ≡ c.args.book.now.tasks = omega arith in none-skipped c.args.book.now.dropped c.args.last.now c.args.clock c.args.book.now.tasks c.args.old (rw e at c.loop-i.invariant.2) c.if-some.false

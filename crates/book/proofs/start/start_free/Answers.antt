@@ -14,4 +14,4 @@ pub loop-i-preserved : goal.loop-i-preserved
 loop-i-preserved c = elim c.if-may_go.branch [ then-may_go w ↦ (omega arith, w.next-is ∙ starts-go _ _ _ _ _ c.loop-i.invariant.1 w.start_of.ensures (sym c.may_go.ensures ∙ w.if-may_go.true)) | else-may_go w ↦ (omega arith, w.next-is ∙ starts-stay _ _ _ _ _ c.loop-i.invariant.1 (sym c.may_go.ensures ∙ w.if-may_go.false)) ]
 
 pub returns : goal.returns
-returns c = let e : c.loop-i.i ≡ c.args.tasks = omega arith in rw e at c.loop-i.invariant.1
+returns c = let e : c.loop-i.i ≡ c.args.book.now.tasks = omega arith in rw e at c.loop-i.invariant.1

@@ -18,4 +18,4 @@ loop-i-preserved c = let few : c.loop-i.i < length c.loop-i.last = omega arith i
     elim c.if-mark-i-eq0.branch [ then-mark-i-eq0 w ↦ (omega arith, rw w.last-is (simp length-set c.loop-i.invariant.1), rw w.last-is (table-row _ _ _ _ _ c.loop-i.invariant.2 _ few w.row_of.ensures)) | else-mark-i-eq0 w ↦ (omega arith, rw w.last-is c.loop-i.invariant.1, rw w.last-is (table-skip _ _ _ _ _ c.loop-i.invariant.2 w.if-mark-i-eq0.false)) ]
 
 pub returns : goal.returns
-returns c = let e : c.loop-i.i ≡ c.args.tasks = omega arith in rw e at c.loop-i.invariant.2
+returns c = let e : c.loop-i.i ≡ c.args.book.now.tasks = omega arith in rw e at c.loop-i.invariant.2

@@ -11,11 +11,11 @@ use Rattle.book.proofs.table.row_of.Goals.{else-is_in, then-is_in}
 pub loop-k-init : goal.loop-k-init
 loop-k-init c = (omega arith, search rules, row-none _ _ _ _ (λ j l. get_or-replicate {A = ℕ} 8 j 0 0 l))
 
-pub overflow_sub-j : goal.overflow_sub-j
-overflow_sub-j c = omega (arith, c.requires.on_eight c.loop-k.k (omega arith))
+pub overflow_sub-book : goal.overflow_sub-book
+overflow_sub-book c = omega (arith, c.requires.on_eight c.loop-k.k (omega arith))
 
-pub overflow_cast-j : goal.overflow_cast-j
-overflow_cast-j c = omega (arith, c.requires.on_eight c.loop-k.k (omega arith))
+pub from-j-requires : goal.from-j-requires
+from-j-requires c = omega (arith, c.requires.on_eight c.loop-k.k (omega arith))
 
 pub bounds-row-j : goal.bounds-row-j
 bounds-row-j c = omega (arith, c.requires.on_eight c.loop-k.k (omega arith))
@@ -39,4 +39,4 @@ loop-k-preserved c = let seen = bit-seen c.loop-k.k _ (omega arith) c.is_in.ensu
     ]
 
 pub returns : goal.returns
-returns c = let e : c.loop-k.k ≡ c.args.tasks = omega arith in rw e at c.loop-k.invariant.2
+returns c = let e : c.loop-k.k ≡ c.args.book.now.tasks = omega arith in rw e at c.loop-k.invariant.2

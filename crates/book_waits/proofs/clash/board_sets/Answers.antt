@@ -38,4 +38,4 @@ loop-k-preserved c =
     )
 
 pub returns : goal.returns
-returns c = let e : c.loop-k.k ≡ c.args.tasks = omega arith in rw e at c.loop-k.invariant.1
+returns c = let e : c.loop-k.k ≡ c.args.plan.now.tasks = omega arith in rw e at c.loop-k.invariant.1

@@ -16,4 +16,4 @@ pub loop-j-preserved : goal.loop-j-preserved
 loop-j-preserved c = (omega arith, sets_more 64 _ _ c.loop-j.invariant.1 c.await_task.ensures)
 
 pub returns : goal.returns
-returns c = let e : c.loop-j.j ≡ c.args.tasks = omega arith in rw e at c.loop-j.invariant.1
+returns c = let e : c.loop-j.j ≡ c.args.plan.now.tasks = omega arith in rw e at c.loop-j.invariant.1

@@ -1,13 +1,16 @@
+use Rattle.desk_answers.proofs.AnswerLaws.{refusal-some, refusal-none}
 use native.Mathlib.Omega.{arith}
-use Rattle.desk_answers.proofs.ChainLaws.{links-sized, why-no, why-yes}
+use mathlib.Core.Path.{refl, sym, ◌∙◌}
+use lib.ListN.{length-take}
+use Rattle.desk_answers.proofs.ChainLaws.{why-no, why-yes}
 use borrow.Author.Rules.{rules}
 use Rattle.desk_answers.proofs.chain.answer_why.Goals as goal
 
-pub returns-then-answer-ne0 : goal.returns-then-answer-ne0
-returns-then-answer-ne0 c = why-no c.args.book _ c.why-chain.ensures c.if-answer-ne0.true c.answer_refused.ensures
+pub returns-in-Some : goal.returns-in-Some
+returns-in-Some c = let r = refusal-some _ (sym c.in-Some.is ∙ c.refusal.ensures) in why-no c.args.book _ c.why-chain.ensures r.0 (rw r.1 at c.answer_refused.ensures)
 
 pub put_links-place-requires : goal.put_links-place-requires
-put_links-place-requires c = (omega (arith, c.few.ensures), omega (arith, c.few.ensures, links-sized c.args.book _ c.why-chain.ensures), search rules)
+put_links-place-requires c = (omega (arith, c.min-count.ensures, length-take c.min-count.result c.why-chain.result.links), search rules)
 
 pub returns : goal.returns
-returns c = why-yes c.args.book _ c.why-chain.ensures c.if-answer-ne0.false (search rules) c.few.ensures c.put_links-place.ensures c.put_why.ensures
+returns c = why-yes c.args.book _ c.why-chain.ensures (refusal-none _ (sym c.in_default.is ∙ c.refusal.ensures)) (search rules) c.min-count.ensures refl c.put_links-place.ensures c.put_why.ensures

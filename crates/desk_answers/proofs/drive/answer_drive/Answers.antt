@@ -1,8 +1,10 @@
+use mathlib.Core.Path.{sym, ◌∙◌}
+use Rattle.desk_answers.proofs.AnswerLaws.{refusal-some, refusal-none}
 use Rattle.desk_answers.proofs.DriveLaws.{drive-no, drive-yes}
 use Rattle.desk_answers.proofs.drive.answer_drive.Goals as goal
 
-pub returns-then-answer-ne0 : goal.returns-then-answer-ne0
-returns-then-answer-ne0 c = drive-no c.args.book _ c.make_sheet-made.ensures c.on_drive-on.ensures c.if-answer-ne0.true c.answer_refused.ensures
+pub returns-in-Some : goal.returns-in-Some
+returns-in-Some c = let r = refusal-some _ (sym c.in-Some.is ∙ c.refusal.ensures) in drive-no c.args.book _ c.make_sheet-made.ensures c.on_drive-on.ensures r.0 (rw r.1 at c.answer_refused.ensures)
 
 pub returns : goal.returns
-returns c = drive-yes c.args.book _ c.make_sheet-made.ensures c.on_drive-on.ensures c.if-answer-ne0.false c.put_drive.ensures
+returns c = drive-yes c.args.book _ c.make_sheet-made.ensures c.on_drive-on.ensures (refusal-none _ (sym c.in_default.is ∙ c.refusal.ensures)) c.put_drive.ensures

@@ -17,10 +17,10 @@ pub put_after-place-requires-in-loop-i : goal.put_after-place-requires-in-loop-i
 put_after-place-requires-in-loop-i c = omega (arith, c.loop-i.invariant.3, c.loop-i.invariant.4, c.loop-i-test.true, c.loop-i.invariant.2)
 
 pub loop-i-preserved : goal.loop-i-preserved
-loop-i-preserved c = let w = c.put_after-place-in-loop-i.ensures in (omega arith, search rules, search rules, omega (arith, c.loop-i.invariant.3, wrote-length w), omega (arith, w.place, w.small, c.loop-i.invariant.4), rest-turn c.args.items.now c.loop-i.i (search rules) c.wide-in-loop-i.ensures c.loop-i.invariant.5 w)
+loop-i-preserved c = let w = c.put_after-place-in-loop-i.ensures in (omega arith, search rules, search rules, omega (arith, c.loop-i.invariant.3, wrote-length w), omega (arith, w.place, w.small, c.loop-i.invariant.4), rest-turn c.args.items.now c.loop-i.i (search rules) c.from-in-loop-i.ensures c.loop-i.invariant.5 w)
 
 pub returns : goal.returns
-returns c = items-wrote c.args.items.now c.loop-i.i c.if-items-eq0.false (omega (arith, c.loop-i.invariant.2, c.loop-i-test.false)) c.wide.ensures c.put_after-place.ensures c.loop-i.invariant.5 (omega (arith, c.loop-i.invariant.1, c.loop-i.invariant.4))
+returns c = items-wrote c.args.items.now c.loop-i.i c.if-items-eq0.false (omega (arith, c.loop-i.invariant.2, c.loop-i-test.false)) c.from.ensures c.put_after-place.ensures c.loop-i.invariant.5 (omega (arith, c.loop-i.invariant.1, c.loop-i.invariant.4))
 
 pub shape_of-out : goal.shape_of-out
 shape_of-out c = wrote-length (returns c)

@@ -1,11 +1,12 @@
 use native.Mathlib.Omega.{arith}
 use mathlib.Core.List.{[], ◌∷◌}
+use mathlib.Core.Path.{refl}
 use Rattle.text.specs.Bytes.{bytes}
 use Rattle.desk_answers.proofs.KnownLaws.{known-yes, known-not}
 use Rattle.desk_answers.proofs.lines.put_exact.Goals as goal
 
-pub returns-then-known : goal.returns-then-known
-returns-then-known c = known-yes (bytes "exact") (_ ∷ []) _ (omega arith) c.if-known.true c.put_line.ensures
+pub returns-in-Some : goal.returns-in-Some
+returns-in-Some c = rw c.in-Some.is (known-yes (bytes "exact") (_ ∷ []) _ (omega arith) refl c.put_line.ensures)
 
-pub returns : goal.returns
-returns c = known-not (bytes "exact") (_ ∷ []) _ (omega arith) c.if-known.false c.put_line_to.ensures
+pub returns-in-None : goal.returns-in-None
+returns-in-None c = rw c.in-None.is (known-not (bytes "exact") (_ ∷ []) _ (omega arith) refl c.put_line_to.ensures)

@@ -1,8 +1,10 @@
-use Rattle.log_run.proofs.ShortLaws.{short-made}
+use Rattle.log_run.proofs.ReportLaws.{told_names}
+use Rattle.log_run.proofs.AnswerLaws.{entry-logged}
+use borrow.Author.Rules.{rules}
 use Rattle.log_run.proofs.answers.log_entry.Goals as goal
 
-pub log_short-requires : goal.log_short-requires
-log_short-requires c = short-made c.args.entry _ c.shortened.ensures
+pub put_told-length-requires : goal.put_told-length-requires
+put_told-length-requires c = (search rules, told_names _ _ _ c.tell_entry-told.ensures)
 
 pub returns : goal.returns
-returns c = rw c.shortened.ensures at c.log_short.ensures
+returns c = entry-logged _ _ _ c.tell_entry-told.ensures c.put_told-length.ensures

@@ -1,4 +1,5 @@
 use Prim.{tt}
+use Rattle.book.proofs.WaitLaws.{its-figure}
 use Rattle.log_run.proofs.ToldLaws.{early-refused, early-granted}
 use Rattle.log_run.proofs.told.early_after.Goals as goal
 
@@ -11,4 +12,4 @@ least_early-requires c = tt
 pub returns : goal.returns
 returns c =
     let zero = c.if-code-ne0.false in
-    early-granted _ c.args.book.now zero (c.requires zero) c.least_early.ensures
+    early-granted _ c.args.book.now zero (c.requires zero) (its-figure c.view.result c.view.ensures c.least_early.ensures)

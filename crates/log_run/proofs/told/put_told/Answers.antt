@@ -1,15 +1,13 @@
 use Rattle.log_write.proofs.WriteLaws.{wrote-length}
-use Prim.{tt}
 use native.Mathlib.Omega.{arith}
+use Rattle.log_read.specs.Said.{said}
+use Rattle.log_run.specs.Answers.{within}
 use Rattle.log_run.proofs.ToldLaws.{told-no, told-yes}
 use Rattle.log_run.proofs.told.put_told.Goals as goal
 
-pub put_refused-requires : goal.put_refused-requires
-put_refused-requires c = tt
-
 pub returns-then-answer-ne0 : goal.returns-then-answer-ne0
 returns-then-answer-ne0 c =
-    told-no c.requires.0 c.args.entry c.args.old.now c.args.told.now c.if-answer-ne0.true c.put_refused.ensures
+    told-no c.requires.0 (within (said c.args.entry.now)) c.args.old.now c.args.told.now c.if-answer-ne0.true c.put_refused.ensures
 
 pub shape_of-out-then-answer-ne0 : goal.shape_of-out-then-answer-ne0
 shape_of-out-then-answer-ne0 c = wrote-length (returns-then-answer-ne0 c)
@@ -17,13 +15,11 @@ shape_of-out-then-answer-ne0 c = wrote-length (returns-then-answer-ne0 c)
 pub put_lines-next-requires : goal.put_lines-next-requires
 put_lines-next-requires c = let pre = c.requires in (omega (arith, pre.0), pre.1 c.if-answer-ne0.false)
 
-pub put_early-requires : goal.put_early-requires
-put_early-requires c = tt
-
 pub returns : goal.returns
 returns c =
     let zero = c.if-answer-ne0.false in
-    told-yes c.requires.0 c.args.entry c.args.old.now c.args.told.now zero (c.requires.1 zero) c.put_lines-next.ensures c.put_early.ensures
+    told-yes c.requires.0 (within (said c.args.entry.now)) c.args.old.now c.args.told.now zero (c.requires.1 zero) c.put_lines-next.ensures
+    c.put_early.ensures
 
 pub shape_of-out : goal.shape_of-out
 shape_of-out c = wrote-length (returns c)

@@ -1,5 +1,4 @@
 use mathlib.Core.Path.{refl, sym, ◌∙◌}
-use borrow.Author.Tests.{not-true, not-false}
 use Rattle.laws.specs.Every.{every}
 use Rattle.laws.proofs.Every.{every-not, every-pass, every-out}
 use Rattle.plan_judge.proofs.order.in_order.Goals as goal
@@ -10,11 +9,11 @@ loop-k-init c = refl
 
 pub returns-then-not-row_in_order : goal.returns-then-not-row_in_order
 returns-then-not-row_in_order c =
-    sym (every-not _ _ _ c.loop-k-test.true (sym c.row_in_order.ensures ∙ not-true _ c.if-not-row_in_order.true-raw))
+    sym (every-not _ _ _ c.loop-k-test.true (sym c.row_in_order.ensures ∙ c.if-not-row_in_order.true))
 
 pub loop-k-preserved : goal.loop-k-preserved
 loop-k-preserved c =
-    every-pass _ _ c.loop-k.invariant (sym c.row_in_order.ensures ∙ not-false _ c.if-not-row_in_order.false-raw)
+    every-pass _ _ c.loop-k.invariant (sym c.row_in_order.ensures ∙ c.if-not-row_in_order.false)
 
 pub returns : goal.returns
 returns c = every-out _ _ _ c.loop-k.invariant c.loop-k-test.false

@@ -1,18 +1,7 @@
-use Prim.Native.Nat.{◌-◌}
-use Rattle.plan_judge.specs.Tasks.{tasks_in}
-use Rattle.plan_judge.proofs.PairLaws.{RowsFrom, PairsFrom}
+use Rattle.plan.specs.View.{viewed}
+use Rattle.plan_judge.specs.Private.Arrays.{tasks_of}
+use Rattle.plan_judge.proofs.PairLaws.{RowsFrom}
 use Rattle.plan_judge.proofs.pairs.first_fault.Given as goal
 
-abbrev pub invariant-loop-b : goal.invariant-loop-b
-invariant-loop-b l =
-    PairsFrom l.tasks (tasks_in l.board l.begin l.finish l.holds l.after) l.a l.b
-
-abbrev pub invariant-search : goal.invariant-search
-invariant-search l =
-    RowsFrom l.tasks (tasks_in l.board l.begin l.finish l.holds l.after) l.a
-
-abbrev pub decreases-loop-b : goal.decreases-loop-b
-decreases-loop-b l = l.tasks - l.b
-
-abbrev pub decreases-search : goal.decreases-search
-decreases-search l = l.tasks - l.a
+abbrev pub invariant-loop-a : goal.invariant-loop-a
+invariant-loop-a l = RowsFrom l.plan.tasks (tasks_of (viewed l.plan)) l.a

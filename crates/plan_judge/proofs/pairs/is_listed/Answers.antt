@@ -2,25 +2,21 @@ use mathlib.Core.Path.{refl}
 use Rattle.plan_judge.proofs.ItemLaws.{search-stop, search-out, search-hit, search-pass}
 use borrow.Author.Tests.{eq-eqb, ne_eqb}
 use Rattle.plan.specs.Pairs.{is_listed}
-use borrow.Author.Rules.{rules}
 use Rattle.plan_judge.proofs.pairs.is_listed.Goals as goal
 
-pub loop-i-init : goal.loop-i-init
+pub loop-n-init : goal.loop-n-init
 unfolding is_listed
-loop-i-init c = (search rules, refl)
+loop-n-init c = refl
 
 pub returns-then-n-eq0 : goal.returns-then-n-eq0
-returns-then-n-eq0 c = search-stop _ _ _ c.loop-i.invariant.1 c.loop-i-test.true c.if-n-eq0.true
+returns-then-n-eq0 c = search-stop _ _ _ c.loop-n.invariant c.loop-n-test.true c.if-n-eq0.true
 
 pub returns-then-number-n : goal.returns-then-number-n
 returns-then-number-n c =
-    search-hit _ _ _ c.loop-i.invariant.1 c.loop-i-test.true c.if-n-eq0.false (eq-eqb _ _ c.if-number-n.true)
+    search-hit _ _ _ c.loop-n.invariant c.loop-n-test.true c.if-n-eq0.false (eq-eqb _ _ c.if-number-n.true)
 
-pub loop-i-preserved : goal.loop-i-preserved
-loop-i-preserved c = (
-  search rules,
-  search-pass _ _ _ c.loop-i.invariant.1 c.loop-i-test.true c.if-n-eq0.false (ne_eqb _ _ c.if-number-n.false),
-)
+pub loop-n-preserved : goal.loop-n-preserved
+loop-n-preserved c = search-pass _ _ _ c.loop-n.invariant c.loop-n-test.true c.if-n-eq0.false (ne_eqb _ _ c.if-number-n.false)
 
 pub returns : goal.returns
-returns c = search-out _ _ _ c.loop-i.invariant.1 c.loop-i-test.false
+returns c = search-out _ _ _ c.loop-n.invariant c.loop-n-test.false

@@ -1,24 +1,21 @@
 use mathlib.Core.Bool.{Bool, ◌&&◌}
 use mathlib.Core.Path.{ap, ◌∙◌}
 use Rattle.text_fields.specs.Items.{between}
+use Rattle.plan.specs.View.{viewed}
 use Rattle.plan_judge.proofs.PlaceLaws.{tasks-nine, tasks-in-range, tasks-judged}
 use Rattle.plan_judge.proofs.tasks.judge_tasks.Goals as goal
 
-pub returns-then-not-tasks-places_ok : goal.returns-then-not-tasks-places_ok
-returns-then-not-tasks-places_ok c =
-    let s = c.args in
-    c.refuse.ensures
-    ∙ tasks-nine s.board.now s.begin.now s.finish.now s.holds.now s.after.now s.tasks
-    (ap (λ (b : Bool). between 1 64 s.tasks && b) c.places_ok.ensures) c.if-not-tasks-places_ok.true-raw
+pub returns-then-not-plan-places_ok : goal.returns-then-not-plan-places_ok
+returns-then-not-plan-places_ok c =
+    let p = viewed c.args.plan.now in
+    c.refuse.ensures ∙ tasks-nine p (ap (λ (b : Bool). between 1 64 p.tasks && b) c.places_ok.ensures) c.if-not-plan-places_ok.true
 
 pub judge_kept-requires : goal.judge_kept-requires
 judge_kept-requires c =
-    let s = c.args in
-    tasks-in-range s.board.now s.begin.now s.finish.now s.holds.now s.after.now s.tasks
-    (ap (λ (b : Bool). between 1 64 s.tasks && b) c.places_ok.ensures) c.if-not-tasks-places_ok.false-raw
+    let p = viewed c.args.plan.now in
+    tasks-in-range p (ap (λ (b : Bool). between 1 64 p.tasks && b) c.places_ok.ensures) c.if-not-plan-places_ok.false
 
 pub returns : goal.returns
 returns c =
-    let s = c.args in
-    tasks-judged s.board.now s.begin.now s.finish.now s.holds.now s.after.now s.tasks
-    (ap (λ (b : Bool). between 1 64 s.tasks && b) c.places_ok.ensures) c.if-not-tasks-places_ok.false-raw c.judge_kept.ensures
+    let p = viewed c.args.plan.now in
+    tasks-judged p (ap (λ (b : Bool). between 1 64 p.tasks && b) c.places_ok.ensures) c.if-not-plan-places_ok.false c.judge_kept.ensures

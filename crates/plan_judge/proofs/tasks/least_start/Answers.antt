@@ -6,8 +6,7 @@ pub loop-k-init : goal.loop-k-init
 loop-k-init c = (omega arith, least_first c.args.begin.now)
 
 pub loop-k-preserved : goal.loop-k-preserved
-loop-k-preserved c =
-    (omega arith, least-next c.args.begin.now _ _ c.loop-k.invariant.1 c.lesser-least.ensures)
+loop-k-preserved c = (omega arith, least-next c.args.begin.now _ _ c.loop-k.invariant.1 c.min-least.ensures)
 
 pub returns : goal.returns
 returns c =

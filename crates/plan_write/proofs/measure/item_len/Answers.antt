@@ -2,8 +2,8 @@ use native.Mathlib.Omega.{arith}
 use Rattle.plan_write.proofs.WriteLaws.{letter-length, plain-length}
 use Rattle.plan_write.proofs.measure.item_len.Goals as goal
 
-pub returns-then-lettered : goal.returns-then-lettered
-returns-then-lettered c = omega (arith, letter-length _ _ c.if-lettered.true c.wide.ensures)
+pub returns-in-Holds : goal.returns-in-Holds
+returns-in-Holds c = omega (arith, letter-length _ _ c.in-Holds.is c.from.ensures)
 
-pub returns : goal.returns
-returns c = omega (arith, plain-length _ _ c.if-lettered.false c.wide-2.ensures)
+pub returns-in-Tasks : goal.returns-in-Tasks
+returns-in-Tasks c = omega (arith, plain-length _ _ c.in-Tasks.is c.from-in-Tasks.ensures)

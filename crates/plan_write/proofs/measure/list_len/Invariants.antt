@@ -1,4 +1,4 @@
-use Prim.Native.Nat.{◌+◌, ◌-◌, ◌*◌, ◌≤◌}
+use Prim.Native.Nat.{◌+◌, ◌*◌, ◌≤◌}
 use mathlib.Core.Path.{◌≡◌}
 use lib.ListN.{length, drop}
 use Rattle.text_fields.specs.Items.{list_text}
@@ -10,7 +10,4 @@ abbrev pub invariant-loop-i : goal.invariant-loop-i
 invariant-loop-i l =
     (l.i ≤ length l.items)
     × (l.n + 1 ≤ 12 * l.i)
-    × (l.n + length (later_text (item_text l.lettered) (drop l.i l.items)) ≡ length (list_text (item_text l.lettered) l.items))
-
-abbrev pub decreases-loop-i : goal.decreases-loop-i
-decreases-loop-i l = length l.items - l.i
+    × (l.n + length (later_text (item_text l.listed) (drop l.i l.items)) ≡ length (list_text (item_text l.listed) l.items))

@@ -1,7 +1,8 @@
 use mathlib.Core.Path.{refl}
 use native.Mathlib.Omega.{arith}
 use Rattle.text.specs.Line.{lines_below}
-use Rattle.plan_write.specs.Private.WriteParts.{tasks_in}
+use Rattle.plan.specs.Value.{task_at}
+use Rattle.plan.specs.View.{viewed}
 use Rattle.plan_write.proofs.WriteLaws.{texts-length, all-length}
 use Rattle.plan_write.proofs.measure.tasks_len.Goals as goal
 
@@ -14,7 +15,7 @@ loop-k-preserved c = (
   omega arith,
   omega arith,
   omega
-      (arith, texts-length c.args.edition (tasks_in c.args.board.now c.args.ready.now c.args.begin.now c.args.finish.now c.args.holds.now c.args.after.now) c.loop-k.k),
+      (arith, texts-length c.args.plan.now.edition (task_at (viewed c.args.plan.now)) c.loop-k.k),
 )
 
 pub returns : goal.returns

@@ -18,7 +18,7 @@ pub put_item-place-requires : goal.put_item-place-requires
 put_item-place-requires c =
     next-room
     (all_left
-    (item_text c.args.lettered (get_or c.args.items.now 0 0) ∷ later_text (item_text c.args.lettered) (drop 1 c.args.items.now) ∷ [])
+    (item_text c.args.listed (get_or c.args.items.now 0 0) ∷ later_text (item_text c.args.listed) (drop 1 c.args.items.now) ∷ [])
     (list-some _ _ c.if-items-eq0.false ∙ two _ _) c.requires)
 
 pub loop-i-init : goal.loop-i-init
@@ -27,19 +27,19 @@ loop-i-init c =
     (next-room
     (turn
     (all_left
-    (item_text c.args.lettered (get_or c.args.items.now 0 0) ∷ later_text (item_text c.args.lettered) (drop 1 c.args.items.now) ∷ [])
+    (item_text c.args.listed (get_or c.args.items.now 0 0) ∷ later_text (item_text c.args.listed) (drop 1 c.args.items.now) ∷ [])
     (list-some _ _ c.if-items-eq0.false ∙ two _ _) c.requires)
     c.put_item-place.ensures))
 
 pub put_next_item-place-requires : goal.put_next_item-place-requires
 put_next_item-place-requires c =
     next-room
-    (next-item (item_text c.args.lettered) c.args.items.now c.loop-i.i c.loop-i-test.true c.loop-i.invariant)
+    (next-item (item_text c.args.listed) c.args.items.now c.loop-i.i c.loop-i-test.true c.loop-i.invariant)
 
 pub loop-i-preserved : goal.loop-i-preserved
 loop-i-preserved c =
     turn
-    (next-item (item_text c.args.lettered) c.args.items.now c.loop-i.i c.loop-i-test.true c.loop-i.invariant)
+    (next-item (item_text c.args.listed) c.args.items.now c.loop-i.i c.loop-i-test.true c.loop-i.invariant)
     c.put_next_item-place.ensures
 
 pub returns : goal.returns
@@ -48,7 +48,7 @@ returns c =
     (turn
     (turn
     (all_left
-    (item_text c.args.lettered (get_or c.args.items.now 0 0) ∷ later_text (item_text c.args.lettered) (drop 1 c.args.items.now) ∷ [])
+    (item_text c.args.listed (get_or c.args.items.now 0 0) ∷ later_text (item_text c.args.listed) (drop 1 c.args.items.now) ∷ [])
     (list-some _ _ c.if-items-eq0.false ∙ two _ _) c.requires)
     c.put_item-place.ensures)
     (done_at (later-end _ _ _ c.loop-i-test.false) c.loop-i.invariant))

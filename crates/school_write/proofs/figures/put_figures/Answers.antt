@@ -1,19 +1,24 @@
 use native.Mathlib.Omega.{arith}
 use Rattle.log_write.proofs.WriteLaws.{wrote-length}
-use Rattle.school_write.proofs.LineLaws.{figures-none, figures-turn, figures-room, figures-end}
+use Rattle.school_write.proofs.LineLaws.{known-none, known-line, figures-none, figures-turn, figures-room, figures-end}
 use Rattle.school_write.proofs.figures.put_figures.Goals as goal
+use Rattle.school_write.proofs.figures.put_figures.Goals.{then-known-i-eq1, else-known-i-eq1}
 
-pub loop-number-init : goal.loop-number-init
-loop-number-init c = (omega arith, figures-none c.args.finish.now c.args.known.now c.args.end.now c.args.out.now)
+pub loop-i-init : goal.loop-i-init
+loop-i-init c = figures-none c.args.finish.now c.args.known.now c.args.end.now c.args.out.now
 
-pub put_known-place-requires : goal.put_known-place-requires
-put_known-place-requires c = figures-room c.args.finish.now c.args.known.now c.args.end.now c.requires.0 c.loop-number-test.true c.requires.1 c.requires.2 c.loop-number.invariant.1
+pub put_figure-place-requires : goal.put_figure-place-requires
+put_figure-place-requires c = figures-room c.args.finish.now c.args.known.now c.args.end.now c.requires.0 (omega arith) c.requires.1 c.loop-i.invariant
 
-pub loop-number-preserved : goal.loop-number-preserved
-loop-number-preserved c = (omega arith, figures-turn c.args.finish.now c.args.known.now c.args.end.now _ c.loop-number.invariant.1 c.put_known-place.ensures)
+pub loop-i-preserved : goal.loop-i-preserved
+loop-i-preserved c =
+    elim c.if-known-i-eq1.branch [
+      | then-known-i-eq1 w ↦ rw (w.out-is, w.place-is) (figures-turn c.args.finish.now c.args.known.now c.args.end.now c.loop-i.i c.loop-i.invariant (known-line w.if-known-i-eq1.true w.put_figure-place.ensures))
+      | else-known-i-eq1 w ↦ rw (w.out-is, w.place-is) (figures-turn c.args.finish.now c.args.known.now c.args.end.now c.loop-i.i c.loop-i.invariant (known-none _ _ _ w.if-known-i-eq1.false))
+    ]
 
 pub returns : goal.returns
-returns c = figures-end c.args.finish.now c.args.known.now c.args.end.now c.requires.0 c.loop-number.invariant.0 c.loop-number-test.false c.loop-number.invariant.1
+returns c = figures-end c.args.finish.now c.args.known.now c.args.end.now c.requires.0 (omega arith) (omega arith) c.loop-i.invariant
 
 pub shape_of-out : goal.shape_of-out
 shape_of-out c = wrote-length (returns c)

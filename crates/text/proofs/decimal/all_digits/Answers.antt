@@ -1,17 +1,12 @@
+use Rattle.std.proofs.Common.{rules, ◌∙◌}
+use Rattle.std.proofs.lemmas.Iterator.{YieldsList-from_slice}
+use Rattle.std.proofs.lemmas.Iterator.Search.{all_from_yields_List}
+use borrow.Author.Tests.{tests}
 use Rattle.text.specs.Number.{is_digit}
-use Rattle.text.proofs.Spell.{all-stop, all-next, all_done}
-use native.Mathlib.Omega.{arith}
+use Rattle.text.proofs.Library.{all-is}
 use Rattle.text.proofs.decimal.all_digits.Goals as goal
 
-pub returns-then-not-is_digit : goal.returns-then-not-is_digit
-returns-then-not-is_digit c =
-    all-stop is_digit _ _ 0 _ _ c.loop-i-test.true c.is_digit.ensures c.if-not-is_digit.true-raw c.loop-i.invariant.1
-
-pub loop-i-preserved : goal.loop-i-preserved
-loop-i-preserved c = (
-  omega arith,
-  all-next is_digit _ _ 0 _ _ c.loop-i-test.true c.is_digit.ensures c.if-not-is_digit.false-raw c.loop-i.invariant.1,
-)
-
 pub returns : goal.returns
-returns c = all_done is_digit _ _ _ c.loop-i-test.false c.loop-i.invariant.1
+returns c =
+    all_from_yields_List is_digit _ _ _ c.all.ensures.ran (YieldsList-from_slice c.args.s.now cc) (λ x b q k. search (rules, tests))
+    ∙ all-is _ _

@@ -1,12 +1,9 @@
-use mathlib.Core.Path.{sym, ap, ◌∙◌}
-use Rattle.text.proofs.Spell.{stop_of, stop-at}
+use mathlib.Core.Path.{◌∙◌}
+use Rattle.text.proofs.Spell.{stop-at}
 use Rattle.text.proofs.decimal.number_stop.Goals as goal
 
-pub returns-in-Value : goal.returns-in-Value
-returns-in-Value c = sym (ap stop_of c.in-Value.is) ∙ stop-at _ _ c.read_number.ensures
+pub returns-in-Ok : goal.returns-in-Ok
+returns-in-Ok c = stop-at _ _ c.in-Ok.ensures
 
-pub returns-in-Over : goal.returns-in-Over
-returns-in-Over c = sym (ap stop_of c.in-Over.is) ∙ stop-at _ _ c.read_number.ensures
-
-pub returns-in-Misspelt : goal.returns-in-Misspelt
-returns-in-Misspelt c = sym (ap stop_of c.in-Misspelt.is) ∙ stop-at _ _ c.read_number.ensures
+pub returns-in-Err : goal.returns-in-Err
+returns-in-Err c = c.stop.ensures ∙ stop-at _ _ c.in-Err.ensures

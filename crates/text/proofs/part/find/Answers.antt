@@ -1,11 +1,13 @@
-use Rattle.text.proofs.Parts.{found_here, found-next, found_none}
+use Rattle.std.proofs.Common.{rules}
+use Rattle.std.proofs.lemmas.Iterator.{YieldsList-from_slice}
+use Rattle.std.proofs.lemmas.Iterator.Search.{position_from_yields_List}
+use borrow.Author.Tests.{tests}
+use lib.Dec.{eqb}
+use Rattle.text.proofs.Library.{found-is}
 use Rattle.text.proofs.part.find.Goals as goal
 
-pub returns-then-s-i : goal.returns-then-s-i
-returns-then-s-i c = found_here _ _ _ c.loop-i-test.true c.if-s-i.true c.loop-i.invariant.1
-
-pub loop-i-preserved : goal.loop-i-preserved
-loop-i-preserved c = found-next _ _ _ c.loop-i-test.true c.if-s-i.false c.loop-i.invariant.1
-
 pub returns : goal.returns
-returns c = found_none _ _ _ c.loop-i-test.false c.loop-i.invariant.1
+returns c =
+    found-is _ _ _
+    (position_from_yields_List (λ b. eqb b c.args.c) _ _ _ c.position.ensures.ran (YieldsList-from_slice c.args.s.now cc) (λ x b q k. search (rules, tests)))
+    c.unwrap_or.ensures

@@ -1,8 +1,12 @@
-use Rattle.text_fields.proofs.FaultLaws.{end-right, end-wrong}
+use Rattle.text_fields.proofs.FaultLaws.{end-right, end-many, end-open}
 use Rattle.text_fields.proofs.faults.end_code.Goals as goal
+use Rattle.text_fields.proofs.faults.end_code.Goals.{else-ended-via-then-ended+else-count_fields-n, else-ended-via-else-ended}
 
-pub returns-then-ended-count_fields : goal.returns-then-ended-count_fields
-returns-then-ended-count_fields c = end-right _ _ _ c.count_fields.ensures c.if-ended-count_fields.true
+pub returns-then-count_fields-n : goal.returns-then-count_fields-n
+returns-then-count_fields-n c = end-right _ _ _ c.count_fields.ensures c.if-ended.true c.if-count_fields-n.true
 
-pub returns : goal.returns
-returns c = end-wrong _ _ _ c.count_fields.ensures c.if-ended-count_fields.false
+pub returns-else-ended : goal.returns-else-ended
+returns-else-ended c = elim c.else-ended.branch [
+  | else-ended-via-then-ended+else-count_fields-n w ↦ end-many _ _ _ w.count_fields.ensures w.if-count_fields-n.false
+  | else-ended-via-else-ended w ↦ end-open _ _ _ w.if-ended.false
+]

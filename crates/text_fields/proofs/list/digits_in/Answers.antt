@@ -1,9 +1,8 @@
 use Rattle.text_fields.proofs.ItemLaws.{digits-plain, digits-past}
 use Rattle.text_fields.proofs.list.digits_in.Goals as goal
 
--- `lists::digits_in` meets its contract: the whole part, or what stands past its letter.
-pub returns-then-not-lettered : goal.returns-then-not-lettered
-returns-then-not-lettered c = digits-plain _ _ c.if-not-lettered.true-raw
+pub returns-in-Holds : goal.returns-in-Holds
+returns-in-Holds c = rw c.in-Holds.is (digits-past _ c.past.ensures)
 
-pub returns : goal.returns
-returns c = digits-past _ _ c.if-not-lettered.false-raw c.past.ensures
+pub returns-in-After : goal.returns-in-After
+returns-in-After c = rw c.in-After.is (digits-plain _)

@@ -1,11 +1,11 @@
 use Rattle.text_fields.proofs.Shared.{shared_start, shared-turn, shared-out}
 use Rattle.text_fields.proofs.list.has_shared.Goals as goal
 
-pub loop-i-init : goal.loop-i-init
-loop-i-init c = shared_start _
+pub loop-hold-init : goal.loop-hold-init
+loop-hold-init c = shared_start _
 
-pub loop-i-preserved : goal.loop-i-preserved
-loop-i-preserved c = shared-turn _ _ _ c.loop-i.invariant c.loop-i-test.true
+pub loop-hold-preserved : goal.loop-hold-preserved
+loop-hold-preserved c = shared-turn _ _ _ c.loop-hold.invariant c.loop-hold-test.true
 
 pub returns : goal.returns
-returns c = shared-out _ _ _ c.loop-i.invariant c.loop-i-test.false
+returns c = shared-out _ _ _ c.loop-hold.invariant c.loop-hold-test.false

@@ -1,15 +1,14 @@
-use borrow.Author.Tests.{not-false}
 use Rattle.text_fields.proofs.ItemLaws.{item-some, item-plain, item-shared, item-alone}
 use Rattle.text_fields.proofs.list.item_of.Goals as goal
 
-pub returns-then-not-lettered : goal.returns-then-not-lettered
-returns-then-not-lettered c = item-plain _ _ _ c.if-not-lettered.true-raw c.requires.1
-
 pub bounds-part-0 : goal.bounds-part-0
-bounds-part-0 c = item-some _ _ (not-false _ c.if-not-lettered.false-raw) c.requires.2
+bounds-part-0 c = item-some _ (rw c.in-Holds.is at c.requires.2)
 
-pub returns-then-part-eq115 : goal.returns-then-part-eq115
-returns-then-part-eq115 c = item-shared _ _ _ c.if-not-lettered.false-raw c.requires.1 c.if-part-eq115.true
+pub returns-in-Holds : goal.returns-in-Holds
+returns-in-Holds c = rw c.in-Holds.is (item-shared _ _ (rw c.in-Holds.is at c.requires.1) c.if-part-eq115.true)
 
-pub returns : goal.returns
-returns c = item-alone _ _ _ c.if-not-lettered.false-raw c.requires.1 c.if-part-eq115.false
+pub returns-in-Holds-2 : goal.returns-in-Holds-2
+returns-in-Holds-2 c = rw c.in-Holds-2.is (item-alone _ _ (rw c.in-Holds-2.is at c.requires.1) c.if-part-eq115.false)
+
+pub returns-in-After : goal.returns-in-After
+returns-in-After c = rw c.in-After.is (item-plain _ _ (rw c.in-After.is at c.requires.1))

@@ -1,7 +1,5 @@
-use borrow.Enum.Refused.{opened}
 use borrow.Author.Rules.{rules}
 use mathlib.Core.Path.{sym, ◌∙◌, refl}
-use mathlib.Core.Bool.{true}
 use native.Mathlib.Omega.{arith}
 use lib.ListN.{length-set}
 use Rattle.text_fields.specs.Items.{COMMA}
@@ -21,25 +19,23 @@ returns-in_default c =
     ∙ refused-is _ _ _
     (λ t.
     let spelt = first_passes (is_item _) _ _ part (c.loop-n.invariant.3 ∙ t) in
-    let over = over-is _ _ (item-digits _ _ spelt) (number-spelt _ _ _ spelt c.item_number.ensures) (opened c.in_default.in_default-own.keys2) in
+    let over = over-is _ (item-digits _ _ spelt) (number-spelt _ _ spelt c.in_default.ensures) in
     refuse _ _ _ _ _ _ _ _ _ _ part refl c.loop-n.invariant.4 (refuse-over _ _ _ c.requires over))
 
 pub returns-then-n-last : goal.returns-then-n-last
 returns-then-n-last c =
     let part = c.part_before-part.ensures in
-    let number = c.item_number.ensures in
-    let spelt = value-item _ _ _ _ _ number c.in-Value.is in
+    let spelt = value-item _ _ c.in-Ok.ensures in
     c.refused_items-then-n-last.ensures
     ∙ refused-is _ _ _
-    (λ t. refuse _ _ _ _ _ _ _ _ _ _ part (value-is _ _ _ _ (number-spelt _ _ _ spelt number) c.in-Value.is) c.loop-n.invariant.4 c.if-n-last.true)
+    (λ t. refuse _ _ _ _ _ _ _ _ _ _ part (value-is _ _ _ (number-spelt _ _ spelt c.in-Ok.ensures)) c.loop-n.invariant.4 c.if-n-last.true)
 
 pub item_of-requires : goal.item_of-requires
 item_of-requires c =
-    let number = c.item_number.ensures in
-    let spelt = value-item _ _ _ _ _ number c.in-Value.is in
+    let spelt = value-item _ _ c.in-Ok.ensures in
     let p = passed c.loop-n.last c.args.high _ c.if-n-last.false in (
       omega arith,
-      value-is _ _ _ _ (number-spelt _ _ _ spelt number) c.in-Value.is,
+      value-is _ _ _ (number-spelt _ _ spelt c.in-Ok.ensures),
       spelt,
     )
 
@@ -50,35 +46,33 @@ bounds-items-count c =
 pub returns-then-part-rest : goal.returns-then-part-rest
 returns-then-part-rest c =
     let part = c.part_before-part.ensures in
-    let number = c.item_number.ensures in
-    let spelt = value-item _ _ _ _ _ number c.in-Value.is in
+    let spelt = value-item _ _ c.in-Ok.ensures in
     keep-last _ _ _ _ _ _ _ _ _ _ part
-    (value-is _ _ _ _ (number-spelt _ _ _ spelt number) c.in-Value.is)
+    (value-is _ _ _ (number-spelt _ _ spelt c.in-Ok.ensures))
     c.loop-n.invariant.4
     _
     c.if-n-last.false
     c.item_of.ensures
     c.if-part-rest.true
-    ∙ all-spelt _ _ _ (sym (parts-end (is_item _) _ _ _ part c.loop-n.invariant.3 true (sym spelt) refl c.if-part-rest.true))
+    ∙ all-spelt _ _ _ (sym (parts-end (is_item _) _ _ _ part c.loop-n.invariant.3 (sym spelt) c.if-part-rest.true))
 
 pub loop-n-smaller : goal.loop-n-smaller
 loop-n-smaller c =
     let part = c.part_before-part.ensures in
-    after_less COMMA _ _ part _ c.if-part-rest.false (past-part COMMA _ _ part _ c.past-next.ensures)
+    after_less COMMA _ _ part _ c.if-part-rest.false (past-part COMMA _ _ part _ c.past-rest.ensures)
 
 pub loop-n-preserved : goal.loop-n-preserved
 loop-n-preserved c =
     let part = c.part_before-part.ensures in
-    let number = c.item_number.ensures in
-    let spelt = value-item _ _ _ _ _ number c.in-Value.is in
-    let next = past-part COMMA _ _ part _ c.past-next.ensures in
+    let spelt = value-item _ _ c.in-Ok.ensures in
+    let next = past-part COMMA _ _ part _ c.past-rest.ensures in
     let p = passed c.loop-n.last c.args.high _ c.if-n-last.false in (
       omega arith,
       p.1,
       simp length-set c.loop-n.invariant.2,
-      parts_next (is_item _) _ _ _ part c.loop-n.invariant.3 _ true (sym spelt) refl c.if-part-rest.false next,
+      parts_next (is_item _) _ _ _ part c.loop-n.invariant.3 _ (sym spelt) c.if-part-rest.false next,
       keep-more _ _ _ _ _ _ _ _ _ _ part
-          (value-is _ _ _ _ (number-spelt _ _ _ spelt number) c.in-Value.is)
+          (value-is _ _ _ (number-spelt _ _ spelt c.in-Ok.ensures))
           c.loop-n.invariant.4
           _
           _

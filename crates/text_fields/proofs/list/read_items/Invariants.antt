@@ -4,7 +4,7 @@ use lib.ListN.{length}
 use Rattle.laws.specs.Lists.{all_of}
 use Rattle.laws.specs.Split.{split_on}
 use Rattle.text_fields.specs.Items.{COMMA}
-use Rattle.text_fields.specs.Private.Lettered.{is_item}
+use Rattle.text_fields.specs.Private.Lettered.{lettered, is_item}
 use Rattle.text_fields.proofs.Rise.{items_left, spelt_read}
 use Rattle.text_fields.proofs.list.read_items.Given as goal
 
@@ -14,8 +14,8 @@ invariant-loop-n l =
     (l.count ≤ l.last)
     × (l.last ≤ l.high)
     × (length l.items ≡ 64)
-    × (all_of (is_item l.lettered) (split_on COMMA l.rest) ≡ all_of (is_item l.lettered) (split_on COMMA l.s))
-    × (items_left l.lettered l.high (length l.s) l.items l.count l.last (split_on COMMA l.rest) ≡ spelt_read l.lettered l.high (length l.s) (split_on COMMA l.s))
+    × (all_of (is_item (lettered l.kind)) (split_on COMMA l.rest) ≡ all_of (is_item (lettered l.kind)) (split_on COMMA l.s))
+    × (items_left (lettered l.kind) l.high (length l.s) l.items l.count l.last (split_on COMMA l.rest) ≡ spelt_read (lettered l.kind) l.high (length l.s) (split_on COMMA l.s))
 
 abbrev pub decreases-loop-n : goal.decreases-loop-n
 decreases-loop-n l = length l.rest

@@ -4,15 +4,15 @@ use lib.ListN.{length}
 use Rattle.laws.specs.Lists.{all_of}
 use Rattle.laws.specs.Split.{split_on}
 use Rattle.text_fields.specs.Items.{COMMA}
-use Rattle.text_fields.specs.Private.Lettered.{is_item, parts_stop}
+use Rattle.text_fields.specs.Private.Lettered.{lettered, is_item, parts_stop}
 use Rattle.text_fields.proofs.list.refused_items.Given as goal
 
 -- `lists::refused_items` meets its contract: where the rest stops, after the bytes passed, is where the whole stops.
 abbrev pub invariant-loop-rest : goal.invariant-loop-rest
 invariant-loop-rest l =
     (length l.rest ≤ length l.s)
-    × (all_of (is_item l.lettered) (split_on COMMA l.rest) ≡ all_of (is_item l.lettered) (split_on COMMA l.s))
-    × (length l.s - length l.rest + parts_stop l.lettered l.rest ≡ parts_stop l.lettered l.s)
+    × (all_of (is_item (lettered l.kind)) (split_on COMMA l.rest) ≡ all_of (is_item (lettered l.kind)) (split_on COMMA l.s))
+    × (length l.s - length l.rest + parts_stop (lettered l.kind) l.rest ≡ parts_stop (lettered l.kind) l.s)
 
 abbrev pub decreases-loop-rest : goal.decreases-loop-rest
 decreases-loop-rest l = length l.rest

@@ -1,0 +1,14 @@
+use mathlib.Core.Path.{sym, ◌∙◌}
+use Rattle.book.specs.Drop.{dropped_of}
+use Rattle.ask_drives.proofs.Keep.{step-kept, other-kept}
+use Rattle.ask_drives.proofs.Steps.{drop-step}
+use Rattle.ask_drives.proofs.drop.drop_kept.Goals as goal
+
+pub returns-in_default : goal.returns-in_default
+returns-in_default c =
+    sym (rw c.refuse.ensures (other-kept c.args.book.now c.args.sheet (sym c.in_default.is ∙ c.seen_in.ensures) (dropped_of c.args.book.now c.args.task)))
+
+pub returns : goal.returns
+returns c =
+    let book = c.args.book.now in
+    sym (step-kept book c.args.sheet c.requires (dropped_of book c.args.task) (drop-step book c.args.task) (sym c.in-Some.is ∙ c.seen_in.ensures) (sym c.drop_in_place-answer.ensures) c.kept_sheet-next.ensures)

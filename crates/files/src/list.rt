@@ -1,0 +1,80 @@
+// A list of names on standard input, line by line.
+ghost use Rattle.std.specs.Prelude.{◌≡◌, ◌≤◌, length, IfOk, IfSome};
+
+use crate::read_piece;
+use crate::say::{Say, Told};
+use text::part::LF;
+
+const PART: usize = 4096;
+
+// A part of the list, of which the bytes before `at` are taken.
+#[derive(Drop)]
+pub struct ListPart {
+    bytes: [u8; PART],
+    at: usize,
+    filled: usize,
+    ghost within: { filled ≤ 4096 },
+}
+
+// A line of the list; of one that is longer than the room for it, as much as there is room for.
+#[derive(Drop)]
+pub struct Line<'n> {
+    pub name: &'n [u8],
+    pub is_over: bool,
+}
+
+impl ListPart {
+    // Of a list of which nothing is read yet.
+    pub fn new() -> ListPart
+        ensures { (result.at ≡ 0) × (result.filled ≡ 0) }
+    {
+        ListPart {
+            bytes: [0; PART],
+            at: 0,
+            filled: 0,
+        }
+    }
+
+    // The next byte, and none at the end of the list. Where the part has been taken, the next one is read.
+    fn next(&mut self, rt: &(impl Input + Say)) -> Result<Option<u8>, Told> {
+        if self.at >= self.filled {
+            self.filled = read_piece(rt, &mut self.bytes)?.len();
+            self.at = 0;
+        }
+        if self.filled == 0 {
+            return Ok(None);
+        }
+        let byte = self.bytes[self.at];
+        self.at += 1;
+        Ok(Some(byte))
+    }
+
+    // The bytes up to the next LF, or to the end of the list.
+    pub fn next_line<'n>(
+        &mut self,
+        rt: &(impl Input + Say),
+        name: &'n mut [u8],
+    ) -> Result<Option<Line<'n>>, Told>
+        ensures { IfOk result (λ found. IfSome found (λ line. length line.name.now ≤ length name.old)) }
+    {
+        let mut length = 0;
+        while let Some(byte) = self.next(rt)? {
+            let ends = byte == LF;
+            if ends || length >= name.len() {
+                return Ok(Some(Line {
+                    name: &name[..length],
+                    is_over: !ends,
+                }));
+            }
+            name[length] = byte;
+            length += 1;
+        }
+        if length == 0 {
+            return Ok(None);
+        }
+        Ok(Some(Line {
+            name: &name[..length],
+            is_over: false,
+        }))
+    }
+}
