@@ -53,15 +53,16 @@ fn put_links<'a>(out: &mut [u8], links: &'a [u8], book: &'a Book) -> usize
     place
 }
 
-pub fn answer_why(book: Book, task: u32, out: &mut [u8; ANSWER_MOST]) -> usize
-    ensures { Answered out.old (why_answer book task) out.new result }
+#[inline(never)]
+pub fn answer_why(book: &Book, task: u32, out: &mut [u8; ANSWER_MOST]) -> usize
+    ensures { Answered out.old (why_answer book.now task) out.new result }
 {
-    let chain = ask_why::why(book, task);
+    let chain = ask_why::why(*book, task);
     if let Some(answer) = refusal(chain.answer) {
         return answer_refused(answer, out);
     }
     // a chain has room for 64 links
     let count = chain.count.min(64) as usize;
-    let place = put_links(out, &chain.links[..count], &book);
+    let place = put_links(out, &chain.links[..count], book);
     put_why(out, place, task, chain.count)
 }

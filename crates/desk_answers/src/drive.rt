@@ -9,7 +9,7 @@ ghost use Rattle.log_write.specs.Private.Wrote.{Wrote};
 ghost use Rattle.desk_answers.specs.Questions.{drive_line, drive_answer};
 
 use crate::{answer_refused, refusal};
-use ask_drives::{make_sheet, on_drive};
+use ask_drives::{SheetResult, make_sheet, on_drive};
 use book::Book;
 use log_write::ANSWER_MOST;
 use text::part::{LF, TAB, part_before};
@@ -62,12 +62,12 @@ fn put_drive(out: &mut [u8; ANSWER_MOST], drive: u32, running: &[u8; 8], next: u
     put_byte(out, past_next, LF)
 }
 
-pub fn answer_drive(book: Book, drive: u32, out: &mut [u8; ANSWER_MOST]) -> usize
-    ensures { Answered out.old (drive_answer book drive) out.new result }
+#[inline(never)]
+pub fn answer_drive(book: &Book, drive: u32, out: &mut [u8; ANSWER_MOST]) -> usize
+    ensures { Answered out.old (drive_answer book.now drive) out.new result }
 {
-    let made = make_sheet(book);
-    let sheet = made.sheet;
-    let on = on_drive(book, sheet, drive);
+    let SheetResult { sheet, .. } = make_sheet(*book);
+    let on = on_drive(*book, sheet, drive);
     if let Some(answer) = refusal(on.answer) {
         return answer_refused(answer, out);
     }

@@ -35,8 +35,10 @@ pub fn answer_refused(answer: Answer, out: &mut [u8; ANSWER_MOST]) -> usize
     put_refused(out, 0, answer.code, answer.first, answer.second)
 }
 
-pub fn answer_early(book: Book, out: &mut [u8; ANSWER_MOST]) -> usize
-    ensures { Answered out.old (early_answer book) out.new result }
+// A question is a call of its own: its copies of a book are given back before a step needs its part of the stack.
+#[inline(never)]
+pub fn answer_early(book: &Book, out: &mut [u8; ANSWER_MOST]) -> usize
+    ensures { Answered out.old (early_answer book.now) out.new result }
 {
     let figure = book.minimum_early();
     if let Some(answer) = refusal(figure.answer) {
@@ -45,10 +47,11 @@ pub fn answer_early(book: Book, out: &mut [u8; ANSWER_MOST]) -> usize
     put_early(out, 0, book.clock, figure.early)
 }
 
-pub fn answer_exact(book: Book, out: &mut [u8; ANSWER_MOST]) -> usize
-    ensures { Answered out.old (exact_answer book) out.new result }
+#[inline(never)]
+pub fn answer_exact(book: &Book, out: &mut [u8; ANSWER_MOST]) -> usize
+    ensures { Answered out.old (exact_answer book.now) out.new result }
 {
-    let exact = exact_early(book);
+    let exact = exact_early(*book);
     if let Some(answer) = refusal(exact.answer) {
         return answer_refused(answer, out);
     }

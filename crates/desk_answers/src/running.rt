@@ -50,12 +50,13 @@ fn put_running(out: &mut [u8], book: &Book) -> LinesWritten
     LinesWritten { place, count }
 }
 
-pub fn answer_now(book: Book, out: &mut [u8; ANSWER_MOST]) -> usize
-    ensures { Answered out.old (now_answer book) out.new result }
+#[inline(never)]
+pub fn answer_now(book: &Book, out: &mut [u8; ANSWER_MOST]) -> usize
+    ensures { Answered out.old (now_answer book.now) out.new result }
 {
-    if !is_sound(&book) {
+    if !is_sound(book) {
         return answer_refused(refuse(9, 0, 0), out);
     }
-    let written = put_running(out, &book);
+    let written = put_running(out, book);
     put_now(out, written.place, book.clock, written.count)
 }

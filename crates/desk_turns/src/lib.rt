@@ -165,15 +165,29 @@ pub fn take_line(
 ) -> Turn
     ensures { Took out.old (turn_of morning number ended line.now) out.new result }
 {
-    let book = morning.book;
     match read_asked(line, ended, morning.kept == 0) {
         Ok(DeskLine::Step(entry)) => take_entry(morning, number, line.len(), Ok(entry), out),
         Ok(DeskLine::Rule) => take_rule(morning, line.len(), out),
-        Ok(DeskLine::Early) => said(morning, answer_early(book, out)),
-        Ok(DeskLine::Exact) => said(morning, answer_exact(book, out)),
-        Ok(DeskLine::Now) => said(morning, answer_now(book, out)),
-        Ok(DeskLine::Drive(drive)) => said(morning, answer_drive(book, drive, out)),
-        Ok(DeskLine::Why(task)) => said(morning, answer_why(book, task, out)),
+        Ok(DeskLine::Early) => {
+            let length = answer_early(&morning.book, out);
+            said(morning, length)
+        }
+        Ok(DeskLine::Exact) => {
+            let length = answer_exact(&morning.book, out);
+            said(morning, length)
+        }
+        Ok(DeskLine::Now) => {
+            let length = answer_now(&morning.book, out);
+            said(morning, length)
+        }
+        Ok(DeskLine::Drive(drive)) => {
+            let length = answer_drive(&morning.book, drive, out);
+            said(morning, length)
+        }
+        Ok(DeskLine::Why(task)) => {
+            let length = answer_why(&morning.book, task, out);
+            said(morning, length)
+        }
         Err(fault) => take_entry(morning, number, line.len(), Err(fault), out),
     }
 }

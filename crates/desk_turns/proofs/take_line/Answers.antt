@@ -22,23 +22,23 @@ returns-in-Ok-Rule c =
 
 pub returns-in-Ok-Early : goal.returns-in-Ok-Early
 returns-in-Ok-Early c =
-    turn-early c.args.morning _ _ c.args.line.now c.read_asked.ensures c.said.ensures (asks c.in-Ok-Early.is c.in-Ok-Early.field-0-is) c.answer_early.ensures
+    turn-early c.args.morning _ _ c.args.line.now c.read_asked.ensures c.said.ensures (asks c.in-Ok-Early.is c.in-Ok-Early.field-0-is) c.answer_early-length.ensures
 
 pub returns-in-Ok-Exact : goal.returns-in-Ok-Exact
 returns-in-Ok-Exact c =
-    turn-exact c.args.morning _ _ c.args.line.now c.read_asked.ensures c.said-in-Ok-Exact.ensures (asks c.in-Ok-Exact.is c.in-Ok-Exact.field-0-is) c.answer_exact.ensures
+    turn-exact c.args.morning _ _ c.args.line.now c.read_asked.ensures c.said-in-Ok-Exact.ensures (asks c.in-Ok-Exact.is c.in-Ok-Exact.field-0-is) c.answer_exact-length.ensures
 
 pub returns-in-Ok-Now : goal.returns-in-Ok-Now
 returns-in-Ok-Now c =
-    turn-now c.args.morning _ _ c.args.line.now c.read_asked.ensures c.said-in-Ok-Now.ensures (asks c.in-Ok-Now.is c.in-Ok-Now.field-0-is) c.answer_now.ensures
+    turn-now c.args.morning _ _ c.args.line.now c.read_asked.ensures c.said-in-Ok-Now.ensures (asks c.in-Ok-Now.is c.in-Ok-Now.field-0-is) c.answer_now-length.ensures
 
 pub returns-in-Ok-Drive : goal.returns-in-Ok-Drive
 returns-in-Ok-Drive c =
-    turn-drive c.args.morning _ _ c.args.line.now c.read_asked.ensures c.said-in-Ok-Drive.ensures (asks c.in-Ok-Drive.is c.in-Ok-Drive.field-0-is) c.answer_drive.ensures
+    turn-drive c.args.morning _ _ c.args.line.now c.read_asked.ensures c.said-in-Ok-Drive.ensures (asks c.in-Ok-Drive.is c.in-Ok-Drive.field-0-is) c.answer_drive-length.ensures
 
 pub returns-in-Ok-Why : goal.returns-in-Ok-Why
 returns-in-Ok-Why c =
-    turn-why c.args.morning _ _ c.args.line.now c.read_asked.ensures c.said-in-Ok-Why.ensures (asks c.in-Ok-Why.is c.in-Ok-Why.field-0-is) c.answer_why.ensures
+    turn-why c.args.morning _ _ c.args.line.now c.read_asked.ensures c.said-in-Ok-Why.ensures (asks c.in-Ok-Why.is c.in-Ok-Why.field-0-is) c.answer_why-length.ensures
 
 pub returns-in-Err : goal.returns-in-Err
 returns-in-Err c =
