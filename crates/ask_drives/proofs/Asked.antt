@@ -3,10 +3,10 @@ use Prim.Native.Nat.{ℕ, ◌-◌, ◌≤◌, ◌<◌}
 use native.Mathlib.Omega.{arith}
 use Rattle.std.specs.Prelude.{Option, is_some}
 use mathlib.Core.Path.{◌≡◌, sym, ap, ◌∙◌}
-use mathlib.Core.Bool.{Bool, true, false, not, ◌&&◌}
+use mathlib.Core.Bool.{Bool, true, false, ◌&&◌}
 use mathlib.Core.List.{List}
 use lib.Dec.{leb}
-use borrow.Author.Tests.{leb-true, not-true, not-false}
+use borrow.Author.Tests.{leb-true}
 use Rattle.laws.proofs.Cases.{and_l, and_r}
 use Rattle.text_fields.specs.Items.{between}
 use Rattle.plan.specs.Answer.{refuse, granted}
@@ -45,33 +45,32 @@ module _ (book : Book) {sound : Bool} (known_is : sound ≡ is_sound book) where
     own_is = λ i. known_is i && (ap (λ (o : Option SheetCheck). is_some o) look ∙ some-own book sheet) i
 
     pub asked-other :
-        not (sound && is_some seen) ≡ true → {answer : Answer} → answer ≡ refuse 9 0 0 → {r : OnDrive} → r ≡ no_drive answer
+        (sound && is_some seen) ≡ false → {answer : Answer} → answer ≡ refuse 9 0 0 → {r : OnDrive} → r ≡ no_drive answer
         → r ≡ on_drive_of book sheet drive
     unfolding on_drive_of
     asked-other h e q =
-        let s : is_own book sheet ≡ false = sym own_is ∙ not-true (sound && is_some seen) h in
+        let s : is_own book sheet ≡ false = sym own_is ∙ h in
         q ∙ ap no_drive e ∙ (rw s)
 
     pub asked-far :
-        not (sound && is_some seen) ≡ false → not (between 1 32 drive) ≡ true → {answer : Answer} → answer ≡ refuse 21 drive 0
+        (sound && is_some seen) ≡ true → between 1 32 drive ≡ false → {answer : Answer} → answer ≡ refuse 21 drive 0
         → {r : OnDrive} → r ≡ no_drive answer → r ≡ on_drive_of book sheet drive
     unfolding on_drive_of
     asked-far h far e q =
-        let s : is_own book sheet ≡ true = sym own_is ∙ not-false (sound && is_some seen) h in
+        let s : is_own book sheet ≡ true = sym own_is ∙ h in
         q ∙ ap no_drive e ∙ (rw (s, far))
 
     pub asked-near :
-        not (sound && is_some seen) ≡ false → not (between 1 32 drive) ≡ false → {answer : Answer} → answer ≡ granted
+        (sound && is_some seen) ≡ true → between 1 32 drive ≡ true → {answer : Answer} → answer ≡ granted
         → {running : List ℕ} → running ≡ row 8 sheet.running (drive - 1)
         → record { answer = answer; running = running; next = at sheet.next (drive - 1) } ≡ on_drive_of book sheet drive
     unfolding on_drive_of
     asked-near h near e q =
-        let s : is_own book sheet ≡ true = sym own_is ∙ not-false (sound && is_some seen) h in
+        let s : is_own book sheet ≡ true = sym own_is ∙ h in
         rw (s, near) (λ i. record { answer = e i; running = q i; next = at sheet.next (drive - 1) })
 
-pub drive-low : (drive : ℕ) → not (between 1 32 drive) ≡ false → (1 ≤ drive) × (drive - 1 < 32)
+pub drive-low : (drive : ℕ) → between 1 32 drive ≡ true → (1 ≤ drive) × (drive - 1 < 32)
 drive-low drive near =
-    let b = not-false (between 1 32 drive) near in
-    let from : 1 ≤ drive = leb-true 1 drive (and_l (leb 1 drive) (leb drive 32) b) in
-    let to : drive ≤ 32 = leb-true drive 32 (and_r (leb 1 drive) (leb drive 32) b) in
+    let from : 1 ≤ drive = leb-true 1 drive (and_l (leb 1 drive) (leb drive 32) near) in
+    let to : drive ≤ 32 = leb-true drive 32 (and_r (leb 1 drive) (leb drive 32) near) in
     (from, omega arith)

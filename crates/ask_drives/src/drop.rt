@@ -5,7 +5,7 @@ ghost use Rattle.ask_drives.specs.Sheets.{dropped_with};
 use crate::{BookAndSheet, SheetResult, kept_sheet, seen_in};
 use ask_sheet::Sheet;
 use book::{Book, BookResult, drop_in_place};
-use plan::refuse;
+use plan::{Refusal, granted};
 
 // As `report_kept`.
 #[inline(never)]
@@ -15,7 +15,7 @@ fn drop_kept(book: &mut Book, sheet: Sheet, task: u32) -> SheetResult
 {
     let Some(seen) = seen_in(book, sheet) else {
         return SheetResult {
-            answer: refuse(9, 0, 0),
+            answer: Refusal::Unsound.answer(0, 0),
             sheet,
         };
     };
@@ -32,7 +32,7 @@ pub fn drop_sheet(book: Book, sheet: Sheet, task: u32) -> BookAndSheet
 {
     let mut both = BookAndSheet {
         result: BookResult {
-            answer: refuse(0, 0, 0),
+            answer: granted(),
             book,
         },
         sheet,

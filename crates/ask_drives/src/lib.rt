@@ -12,7 +12,7 @@ ghost use Rattle.ask_drives.specs.Seen.{seen_of};
 use ask_sheet::{Sheet, Standing, fresh_sheet, is_same, renew_sheet, standing_of, zero_sheet};
 use book::{Book, BookResult, is_sound, report_in_place};
 use book_holders::holders_of;
-use plan::{Answer, refuse};
+use plan::{Answer, Refusal, granted};
 
 // An answer, and the sheet.
 #[repr(C)]
@@ -74,12 +74,12 @@ pub fn make_sheet(book: Book) -> SheetResult
 {
     if !is_sound(&book) {
         return SheetResult {
-            answer: refuse(9, 0, 0),
+            answer: Refusal::Unsound.answer(0, 0),
             sheet: zero_sheet(),
         };
     }
     SheetResult {
-        answer: refuse(0, 0, 0),
+        answer: granted(),
         sheet: fresh(&book),
     }
 }
@@ -101,7 +101,7 @@ pub fn seen_in(book: &Book, sheet: Sheet) -> Option<SheetCheck>
 }
 
 // The sheet after an accepted step, by the book after it; else as it was.
-pub fn kept_sheet<'a>(answer: Answer, sheet: Sheet, seen: &'a SheetCheck, book: &'a Book) -> Sheet
+pub fn kept_sheet(answer: Answer, sheet: Sheet, seen: &SheetCheck, book: &Book) -> Sheet
     ensures { result ≡ cond (eqb answer.code 0) (renewed_by seen.now.held book.now.begin seen.now.before (standing_in book.now) sheet) sheet }
 {
     if answer.code != 0 {
@@ -118,7 +118,7 @@ fn report_kept(book: &mut Book, sheet: Sheet, task: u32, tick: u32) -> SheetResu
 {
     let Some(seen) = seen_in(book, sheet) else {
         return SheetResult {
-            answer: refuse(9, 0, 0),
+            answer: Refusal::Unsound.answer(0, 0),
             sheet,
         };
     };
@@ -135,7 +135,7 @@ pub fn report_sheet(book: Book, sheet: Sheet, task: u32, tick: u32) -> BookAndSh
 {
     let mut both = BookAndSheet {
         result: BookResult {
-            answer: refuse(0, 0, 0),
+            answer: granted(),
             book,
         },
         sheet,
@@ -173,14 +173,14 @@ pub fn on_drive(book: Book, sheet: Sheet, drive: u32) -> OnDrive
 {
     let seen = seen_in(&book, sheet);
     if !(is_sound(&book) & seen.is_some()) {
-        return refused(refuse(9, 0, 0));
+        return refused(Refusal::Unsound.answer(0, 0));
     }
     if !((1 <= drive) & (drive <= 32)) {
-        return refused(refuse(21, drive, 0));
+        return refused(Refusal::NoDrive.answer(drive, 0));
     }
     let d = (drive - 1) as usize;
     OnDrive {
-        answer: refuse(0, 0, 0),
+        answer: granted(),
         running: line_at(&sheet.running, d),
         next: sheet.next[d],
     }

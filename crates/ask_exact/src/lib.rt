@@ -1,7 +1,7 @@
 // The exact figure of a book: the largest that is still true. It does not run ahead: one step from the started tasks gives the same number.
 #![tactic(auto)]
 
-ghost use Rattle.std.specs.Prelude.{◌≡◌, [], cond, ◌-◌, ◌<◌, ◌≤◌, max, eqb};
+ghost use Rattle.std.specs.Prelude.{◌≡◌, [], ◌<◌, ◌≤◌};
 ghost use Rattle.laws.specs.Bits.{has};
 ghost use Rattle.laws.specs.Picked.{latest, least};
 ghost use Rattle.plan.specs.Value.{at};
@@ -14,7 +14,7 @@ ghost use Rattle.ask_exact.specs.Private.Step.{early_step, answered_by};
 
 use book::{Book, judged};
 use book_view::{is_in, limit_of, places};
-use plan::{Answer, refuse};
+use plan::{Answer, Refusal, granted};
 
 // Has the task not started at the clock?
 fn not_started(book: &Book, i: usize) -> bool
@@ -49,7 +49,8 @@ fn ends_at_latest(book: &Book, tasks: usize) -> [u64; 64]
     ends
 }
 
-// The latest of those in a set. A limit may lie past a u32, so this is book_view's `latest_end` with wider ends.
+// The latest of those in a set. A limit may lie past a u32, so this is book_view's `latest_end` with wider ends:
+// what `latest` looks at are numbers, and values of a type parameter are none.
 fn due_at(awaited: u64, ends: &[u64; 64], tasks: usize) -> u64
     requires { tasks ≤ 64 }
     ensures { result ≡ latest tasks (has awaited) (at ends.now) }
@@ -63,36 +64,22 @@ fn due_at(awaited: u64, ends: &[u64; 64], tasks: usize) -> u64
     last
 }
 
-// Planned start less the later of its ready tick, not of a dropped one, and what is due.
-fn early_if_due(begin: u32, ready: u32, dropped: u8, due: u64) -> u32
-    ensures { result ≡ begin - max (cond (eqb dropped 1) 0 ready) due }
-{
-    let since = if dropped == 1 { 0 } else { ready };
-    let from = u64::from(since).max(due);
-    u64::from(begin).saturating_sub(from) as u32
-}
-
-// How early task i is at the least, by the ends of the started tasks.
-fn early_at<'a>(
-    book: &'a Book,
-    waits: &'a [u64; 64],
-    ends: &'a [u64; 64],
-    n: usize,
-    i: usize,
-) -> u32
+// How early task i is at the least: its planned start less the later of its ready tick, not of a dropped one, and what is due by the ends of the started tasks.
+fn early_at(book: &Book, waits: &[u64; 64], ends: &[u64; 64], n: usize, i: usize) -> u32
     requires { (n ≤ 64) × (i < 64) }
     ensures { result ≡ early_step book.now waits.now ends.now n i }
 {
-    early_if_due(
-        book.begin[i],
-        book.ready[i],
-        book.dropped[i],
-        due_at(waits[i], ends, n),
-    )
+    let since = if book.dropped[i] == 1 {
+        0
+    } else {
+        book.ready[i]
+    };
+    let from = u64::from(since).max(due_at(waits[i], ends, n));
+    u64::from(book.begin[i]).saturating_sub(from) as u32
 }
 
 // The least of those of the first n tasks that have not started.
-fn least_of<'a>(book: &'a Book, waits: &'a [u64; 64], ends: &'a [u64; 64], n: usize) -> Option<u32>
+fn least_of(book: &Book, waits: &[u64; 64], ends: &[u64; 64], n: usize) -> Option<u32>
     requires { n ≤ 64 }
     ensures { result ≡ handed (least n (not_started (book_view book.now)) (early_step book.now waits.now ends.now n)) }
 {
@@ -107,7 +94,7 @@ fn least_of<'a>(book: &'a Book, waits: &'a [u64; 64], ends: &'a [u64; 64], n: us
 }
 
 // The figure by wait sets, whatever they and the book hold, so that who has judged a book need not judge it again.
-pub fn step_early<'a>(book: &'a Book, waits: &'a [u64; 64]) -> Option<u32>
+pub fn step_early(book: &Book, waits: &[u64; 64]) -> Option<u32>
     ensures { result ≡ handed (step_early (plan_by book.now waits.now) (book_view book.now)) }
 {
     let n = places(book.tasks, &book.mark);
@@ -143,7 +130,7 @@ pub fn exact_early(book: Book) -> Exact
     ensures { result ≡ exact_of book }
 {
     let Some(waits) = judged(&book) else {
-        return answered(refuse(9, 0, 0), None);
+        return answered(Refusal::Unsound.answer(0, 0), None);
     };
-    answered(refuse(0, 0, 0), step_early(&book, &waits))
+    answered(granted(), step_early(&book, &waits))
 }

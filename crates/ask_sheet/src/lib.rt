@@ -56,6 +56,7 @@ fn waiting_set(book: &BookView<'_>, n: usize) -> u64
 pub fn standing_of(book: &BookView<'_>) -> Standing
     ensures { result ≡ standing_of book.now.plan.tasks (book_shown book.now) }
 {
+    // an array that a field shows is lent as a slice by a variable: the checker asks for the copy of the reference
     let mark = book.mark;
     let n = places(book.plan.tasks, mark);
     Standing {
@@ -131,7 +132,7 @@ fn renew_running(running: &mut [u8; 256], held: &[u64; 32], was: u64, is: u64)
 }
 
 // Who is next on the drives whose holders do not wait as before; 0 in the sheet for nobody.
-fn renew_next<'a>(next: &mut [u8; 32], held: &'a [u64; 32], begin: &'a [u32; 64], was: u64, is: u64)
+fn renew_next(next: &mut [u8; 32], held: &[u64; 32], begin: &[u32; 64], was: u64, is: u64)
     ensures { next.new ≡ next_again held.now begin.now was is next.old }
 {
     for d in 0..32 {
@@ -142,10 +143,10 @@ fn renew_next<'a>(next: &mut [u8; 32], held: &'a [u64; 32], begin: &'a [u32; 64]
 }
 
 // Only the drives whose holders have moved are looked at.
-pub fn renew_sheet<'a>(
+pub fn renew_sheet(
     sheet: Sheet,
-    held: &'a [u64; 32],
-    begin: &'a [u32; 64],
+    held: &[u64; 32],
+    begin: &[u32; 64],
     before: Standing,
     after: Standing,
 ) -> Sheet
@@ -171,7 +172,7 @@ pub fn zero_sheet() -> Sheet
 }
 
 // The sheet of those who run and wait, of whom nothing was known before.
-pub fn fresh_sheet<'a>(held: &'a [u64; 32], begin: &'a [u32; 64], after: Standing) -> Sheet
+pub fn fresh_sheet(held: &[u64; 32], begin: &[u32; 64], after: Standing) -> Sheet
     ensures { result ≡ sheet_by held.now begin.now after }
 {
     let nobody = Standing { runs: 0, waits: 0 };

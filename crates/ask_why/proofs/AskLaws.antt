@@ -16,6 +16,9 @@ use Rattle.theory.specs.Book as theory-book
 use Rattle.theory.specs.Chain.{chain_of}
 use Rattle.theory.proofs.Chain.{chain_length}
 use Rattle.plan.specs.Answer.{refuse, granted}
+use Rattle.plan.specs.Refusal.{refusal_number}
+use Rattle.plan.specs.declared.Refusal.{Refusal}
+use Rattle.plan.specs.declared.Refusal.TheVariants.{NoTask, NotRunning}
 use Rattle.plan.specs.Value.{at}
 use Rattle.plan.specs.declared.Answer.{Answer}
 use Rattle.book.specs.declared.Book.{Book}
@@ -71,22 +74,24 @@ module _ (book : Book) (waits : List ℕ) (task : ℕ) {n : ℕ} (e : n ≡ min 
   abbrev answered : Chain → Type 0
   answered r = r ≡ chain_for (plan_by (min book.tasks 64) book waits) seen task
 
-  pub lent-refused : {code : ℕ} → Err code ≡ asked_of n book.mark task → {r : Chain} → r ≡ chained (refuse code task 0) [] → answered r
-  lent-refused {code} q {r} a =
+  pub lent-refused :
+      {refusal : Refusal} → Err refusal ≡ asked_of n book.mark task → {r : Chain}
+      → r ≡ chained (refuse (refusal_number refusal) task 0) [] → answered r
+  lent-refused {refusal} q {r} a =
       by_bool (missing n task)
       (λ t.
-      let z : Err code ≡ Err 10 = q ∙ rw t in
-      let c : code ≡ 10 = cc in
+      let z : Err refusal ≡ Err NoTask = q ∙ rw t in
+      let c : refusal ≡ NoTask = cc in
       a ∙ rw c (rw (← e) (asked-missing plan seen task t)))
       (λ f.
       by-eq (at book.mark (task - 1)) 0
       (λ m.
-      let z : Err code ≡ Err 11 = q ∙ rw (f, eq-eqb _ 0 m) in
-      let c : code ≡ 11 = cc in
+      let z : Err refusal ≡ Err NotRunning = q ∙ rw (f, eq-eqb _ 0 m) in
+      let c : refusal ≡ NotRunning = cc in
       a ∙ rw c (rw (← e) (asked-waiting plan seen task f m)))
-      (λ m. let z : Err code ≡ Ok (task - 1) = q ∙ rw (f, ne_eqb _ 0 m) in absurd (err-ok z)))
+      (λ m. let z : Err refusal ≡ Ok (task - 1) = q ∙ rw (f, ne_eqb _ 0 m) in absurd (err-ok z)))
     where
-      err-ok : {a b : ℕ} → ◌≡◌ {A = Result ℕ ℕ} (Err a) (Ok b) → ⊥
+      err-ok : {a : Refusal} {b : ℕ} → ◌≡◌ {A = Result ℕ Refusal} (Err a) (Ok b) → ⊥
       err-ok h = let x : ◌≡◌ {A = ℕ} 0 1 = cc in absurd (omega arith)
 
   module _ {i : ℕ} (q : Ok i ≡ asked_of n book.mark task) where
@@ -94,13 +99,13 @@ module _ (book : Book) (waits : List ℕ) (task : ℕ) {n : ℕ} (e : n ≡ min 
     facts : (missing n task ≡ false) × (at book.mark (task - 1) ≢ 0) × (i ≡ task - 1)
     facts =
         by_bool (missing n task)
-        (λ t. let z : Ok i ≡ Err 10 = q ∙ rw t in absurd (ok-err z))
+        (λ t. let z : Ok i ≡ Err NoTask = q ∙ rw t in absurd (ok-err z))
         (λ f.
         by-eq (at book.mark (task - 1)) 0
-        (λ m. let z : Ok i ≡ Err 11 = q ∙ rw (f, eq-eqb _ 0 m) in absurd (ok-err z))
+        (λ m. let z : Ok i ≡ Err NotRunning = q ∙ rw (f, eq-eqb _ 0 m) in absurd (ok-err z))
         (λ m. let z : Ok i ≡ Ok (task - 1) = q ∙ rw (f, ne_eqb _ 0 m) in (f, m, cc)))
       where
-        ok-err : {a b : ℕ} → ◌≡◌ {A = Result ℕ ℕ} (Ok a) (Err b) → ⊥
+        ok-err : {a : ℕ} {b : Refusal} → ◌≡◌ {A = Result ℕ Refusal} (Ok a) (Err b) → ⊥
         ok-err h = let x : ◌≡◌ {A = ℕ} 0 1 = cc in absurd (omega arith)
 
     pub started-low : i < n

@@ -13,7 +13,7 @@ ghost use Rattle.ask_why.specs.Why.{why_of};
 
 use book::{Book, judged};
 use book_view::places;
-use plan::{Answer, refuse};
+use plan::{Answer, Refusal, granted, refuse};
 use walk::follow;
 
 // links: task numbers, first the asked one; places past the last hold nothing.
@@ -25,7 +25,7 @@ pub struct Chain {
     pub links: [u8; 64],
 }
 
-// A refusal gives an empty chain, and says a task or 0.
+// A refusal gives an empty chain, and says a task or 0. The code is a number: a narrower type would ask more of callers.
 pub fn no_chain(code: u32, task: u32) -> Chain
     ensures { result ≡ chained (refuse code task 0) [] }
 {
@@ -36,34 +36,34 @@ pub fn no_chain(code: u32, task: u32) -> Chain
     }
 }
 
-// The place of a started task, or the refusal's number: 10 for a task that is none of them, 11 for one that waits.
-fn started(mark: &[u8; 64], tasks: usize, task: u32) -> Result<usize, u32>
+// The place of a started task.
+fn started(mark: &[u8; 64], tasks: usize, task: u32) -> Result<usize, Refusal>
     requires { tasks ≤ 64 }
     ensures { result ≡ asked_of tasks mark.now task }
 {
     if (task == 0) | (tasks < task as usize) {
-        return Err(10);
+        return Err(Refusal::NoTask);
     }
     let i = (task - 1) as usize;
     if mark[i] == 0 {
-        return Err(11);
+        return Err(Refusal::NotRunning);
     }
     Ok(i)
 }
 
 // The chain of a task of a book that was judged before, with the wait sets that judging handed back.
-pub fn chain_by<'a>(book: &'a Book, waits: &'a [u64; 64], task: u32) -> Chain
+pub fn chain_by(book: &Book, waits: &[u64; 64], task: u32) -> Chain
     ensures { result ≡ chain_for (plan_by (min book.now.tasks 64) book.now waits.now) (seen_in book.now) task }
 {
     let n = places(book.tasks, &book.mark);
     let i = match started(&book.mark, n, task) {
         Ok(i) => i,
-        Err(code) => return no_chain(code, task),
+        Err(refusal) => return no_chain(refusal.number(), task),
     };
     let mut links = [0u8; 64];
     let count = follow(&mut links, book, waits, n, i, 0);
     Chain {
-        answer: refuse(0, 0, 0),
+        answer: granted(),
         count: count as u32,
         links,
     }
@@ -73,7 +73,7 @@ pub fn why(book: Book, task: u32) -> Chain
     ensures { result ≡ why_of book task }
 {
     let Some(waits) = judged(&book) else {
-        return no_chain(9, 0);
+        return no_chain(Refusal::Unsound.number(), 0);
     };
     chain_by(&book, &waits, task)
 }

@@ -12,7 +12,7 @@ use book::Book;
 use book_view::is_in;
 
 // Does task i wait for task j, which is planned to start before it?
-fn awaits<'a>(book: &'a Book, waits: &'a [u64; 64], i: usize, j: usize) -> bool
+fn awaits(book: &Book, waits: &[u64; 64], i: usize, j: usize) -> bool
     requires { (i < 64) × (j < 64) }
     ensures { result ≡ (plan_by 64 book.now waits.now).waits i j }
 {
@@ -20,7 +20,7 @@ fn awaits<'a>(book: &'a Book, waits: &'a [u64; 64], i: usize, j: usize) -> bool
 }
 
 // The latest end of those that task i waits for.
-fn due_at<'a>(book: &'a Book, waits: &'a [u64; 64], tasks: usize, i: usize) -> u32
+fn due_at(book: &Book, waits: &[u64; 64], tasks: usize, i: usize) -> u32
     requires { (tasks ≤ 64) × (i < tasks) }
     ensures { result ≡ due (plan_by tasks book.now waits.now) (at book.now.end) i }
 {
@@ -34,13 +34,7 @@ fn due_at<'a>(book: &'a Book, waits: &'a [u64; 64], tasks: usize, i: usize) -> u
 }
 
 // The lowest of them that ended then.
-fn lowest_at<'a>(
-    book: &'a Book,
-    waits: &'a [u64; 64],
-    tasks: usize,
-    i: usize,
-    due: u32,
-) -> Option<usize>
+fn lowest_at(book: &Book, waits: &[u64; 64], tasks: usize, i: usize, due: u32) -> Option<usize>
     requires { (tasks ≤ 64) × (i < tasks) }
     ensures { result ≡ below tasks (scan_to (λ j. (plan_by tasks book.now waits.now).waits i j && eqb (at book.now.end j) due) tasks (λ j. j) 0 tasks) }
 {
@@ -53,7 +47,7 @@ fn lowest_at<'a>(
 }
 
 // The task whose end let task i start, if one did.
-fn cause_of<'a>(book: &'a Book, waits: &'a [u64; 64], tasks: usize, i: usize) -> Option<usize>
+fn cause_of(book: &Book, waits: &[u64; 64], tasks: usize, i: usize) -> Option<usize>
     requires { (tasks ≤ 64) × (i < tasks) }
     ensures { result ≡ cause_in (plan_by tasks book.now waits.now) (seen_in book.now) i }
 {
@@ -65,10 +59,10 @@ fn cause_of<'a>(book: &'a Book, waits: &'a [u64; 64], tasks: usize, i: usize) ->
 }
 
 // A cause is planned to start before the task it let go, so the planned start falls from call to call; in arrays that say otherwise such a task is not waited for.
-pub(crate) fn follow<'a>(
+pub(crate) fn follow(
     links: &mut [u8; 64],
-    book: &'a Book,
-    waits: &'a [u64; 64],
+    book: &Book,
+    waits: &[u64; 64],
     tasks: usize,
     i: usize,
     count: usize,

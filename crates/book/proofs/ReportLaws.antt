@@ -18,9 +18,6 @@ use Rattle.plan.specs.declared.Answer.{Answer}
 use Rattle.plan.specs.declared.Plan.{Plan}
 use Rattle.book_view.specs.View.{is_rule}
 use Rattle.book_view.proofs.Accepted.{PlanFacts, plan-facts}
-use Rattle.book_codes.specs.Refused.{number_of}
-use Rattle.book_codes.specs.declared.Refusal.{Refusal}
-use Rattle.book_codes.specs.declared.Refusal.TheVariants.{Unsound, NoTask, NotRunning, BeforeClock, NotPastStart, PastLimit, OtherPastLimit, KnownOrDropped}
 use Rattle.book.specs.View.{plan_in, plan_view, book_view}
 use Rattle.book.specs.Sound.{is_sound}
 use Rattle.book.specs.Open.{rule_number, blank_book, opened_on, opening_of}
@@ -34,30 +31,22 @@ use Rattle.book.specs.declared.Figure.{Figure}
 use Rattle.book.proofs.Soundness.{SoundFacts, is-sound-facts, number-is-rule}
 
 -- opening
-either : {A : Type 0} (test : Bool) (x : A) → cond test x x ≡ x
-either true x = refl
-either false x = refl
-
 -- each of the two rules has a number
 accepted-by : (plan : Plan) (rule : Rule) {ok : Bool} → ok ≡ (is_accepted plan && is_rule (rule_number rule)) → ok ≡ is_accepted plan
 accepted-by plan rule p = p ∙ ap (λ (known : Bool). is_accepted plan && known) (number-is-rule rule) ∙ and-true (is_accepted plan)
 
-module _ (plan : Plan) (rule : Rule) {ok : Bool} (p : ok ≡ (is_accepted plan && is_rule (rule_number rule))) {code : ℕ} {answer : Answer}
-    (a : answer ≡ cond (eqb code 0 || eqb code 9) (refuse code 0 0) (refuse code 0 0)) where
-  opening-says : answer ≡ refuse code 0 0
-  opening-says = a ∙ either (eqb code 0 || eqb code 9) (refuse code 0 0)
-
+module _ (plan : Plan) (rule : Rule) {ok : Bool} (p : ok ≡ (is_accepted plan && is_rule (rule_number rule))) {answer : Answer} where
   pub opening-refused :
-      {book : Book} → ok ≡ false → code ≡ 9 → book ≡ blank_book 0 zero_plan
+      {book : Book} → ok ≡ false → answer ≡ refuse 9 0 0 → book ≡ blank_book 0 zero_plan
       → ◌≡◌ {A = BookResult} (record { answer = answer; book = book }) (opening_of plan rule)
   unfolding opening_of
-  opening-refused h n b = rw (sym (accepted-by plan rule p) ∙ h, opening-says, n, b)
+  opening-refused h a b = rw (sym (accepted-by plan rule p) ∙ h, a, b)
 
   pub opening-granted :
-      {book : Book} → ok ≡ true → code ≡ 0 → book ≡ opened_on plan rule
+      {book : Book} → ok ≡ true → answer ≡ granted → book ≡ opened_on plan rule
       → ◌≡◌ {A = BookResult} (record { answer = answer; book = book }) (opening_of plan rule)
   unfolding opening_of
-  opening-granted h z b = rw (sym (accepted-by plan rule p) ∙ h, opening-says, z, b)
+  opening-granted h a b = rw (sym (accepted-by plan rule p) ∙ h, a, b)
 
 pub sound-plan : (book : Book) → is_sound book ≡ true → PlanFacts (plan_in book)
 sound-plan book h = plan-facts (plan_in book) ((is-sound-facts book).0 h).accepted
@@ -137,17 +126,6 @@ not-granted : (sound : Bool) (inner code first second : ℕ) → code ≡ cond (
 not-granted true inner code first second c z =
     let m : inner ≢ 0 = λ q. z (c ∙ q) in rw (ne_eqb inner 0 m) (ne_eqb inner 0 m)
 not-granted false inner code first second c z = refl
-
--- a refusal has a number
-pub is_refused : (refusal : Refusal) {code : ℕ} → code ≡ number_of refusal → code ≢ 0
-is_refused Unsound e z = omega arith
-is_refused NoTask e z = omega arith
-is_refused NotRunning e z = omega arith
-is_refused BeforeClock e z = omega arith
-is_refused NotPastStart e z = omega arith
-is_refused PastLimit e z = omega arith
-is_refused OtherPastLimit e z = omega arith
-is_refused KnownOrDropped e z = omega arith
 
 -- a report
 module _ (book : Book) (task tick : ℕ) {code : ℕ} (c : code ≡ cond (not (is_sound book)) 9 (code_of book task tick))

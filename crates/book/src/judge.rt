@@ -2,15 +2,16 @@
 ghost use Rattle.std.specs.Prelude.{◌≡◌, not, cond, IfOk};
 ghost use Rattle.plan.specs.View.{viewed};
 ghost use Rattle.book_waits.specs.Waits.{sets_by};
-ghost use Rattle.book_codes.specs.Refused.{number_in};
+ghost use Rattle.plan.specs.Refusal.{number_in};
 ghost use Rattle.book.specs.Drop.{drop_code_of};
 ghost use Rattle.book.specs.Report.{code_of};
 ghost use Rattle.book.specs.Sound.{is_sound};
 ghost use Rattle.book.specs.View.{shown};
 
-use book_codes::{Refusal, check_drop, check_report};
+use book_codes::{check_drop, check_report};
 use book_sound::sound_waits;
 use book_view::BookView;
+use plan::Refusal;
 
 // The wait sets of the book's tasks, or the first of 9 to 15 that applies.
 pub(crate) fn judge_report(book: &BookView<'_>, task: u32, tick: u32) -> Result<[u64; 64], Refusal>

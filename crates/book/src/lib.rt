@@ -23,7 +23,7 @@ use book_view::BookView;
 use book_waits::wait_sets;
 use judge::{judge_drop, judge_report};
 use open::{blank_book, zero_book};
-use plan::{Answer, Plan, PlanView, refuse};
+use plan::{Answer, Plan, PlanView, Refusal, granted, refuse};
 use settle::{ended_at, settle, unmoved};
 
 // Whom a task waits for: all that are planned to finish by its planned start, or those of them that clash with it.
@@ -44,6 +44,7 @@ pub fn number_of(rule: Rule) -> u8
 }
 
 // rule: 0 Early Start, 1 clash; mark: 0 waiting, 1 running, 2 ended; dropped: 1 for a dropped task, 0 for any other.
+// These are bytes of the C interface, which may be any, so no enum is made of them.
 #[repr(C)]
 #[derive(Clone, Copy)]
 pub struct Book {
@@ -79,7 +80,7 @@ pub struct Figure {
     pub early: u32,
 }
 
-// The arrays that a step changes.
+// The arrays that a step changes, as the C struct `Book` has them.
 #[derive(Clone, Copy)]
 pub(crate) struct StepArrays {
     pub mark: [u8; 64],
@@ -87,7 +88,7 @@ pub(crate) struct StepArrays {
     pub end: [u32; 64],
 }
 
-// 0 and 9 say 0 and 0 besides.
+// 0 and 9 say 0 and 0 besides. The code is a number: a narrower type would ask more of callers.
 pub fn answer_of(code: u32, first: u32, second: u32) -> Answer
     ensures { result ≡ cond (eqb code 0 || eqb code 9) (refuse code 0 0) (refuse code first second) }
 {
@@ -116,22 +117,21 @@ pub fn open_book(plan: Plan, rule: Rule) -> BookResult
 {
     let mut book = blank_book(number_of(rule), plan);
     let planned = book.view().plan;
-    let mut code = 9;
-    match wait_sets(book.rule, &planned) {
+    let answer = match wait_sets(book.rule, &planned) {
         Some(sets) => {
             let moved = settle(&book, &sets, unmoved(), 0);
             let StepArrays { mark, start, end } = moved;
             book.mark = mark;
             book.start = start;
             book.end = end;
-            code = 0;
+            granted()
         }
-        None => book = zero_book(),
-    }
-    BookResult {
-        answer: answer_of(code, 0, 0),
-        book,
-    }
+        None => {
+            book = zero_book();
+            Refusal::Unsound.answer(0, 0)
+        }
+    };
+    BookResult { answer, book }
 }
 
 // A report where the book stands, so that no second copy of it is on the stack: its answer, and the book after it in place of the one before.
@@ -149,7 +149,7 @@ pub fn report_in_place(book: &mut Book, task: u32, tick: u32) -> Answer
             book.mark = mark;
             book.start = start;
             book.end = end;
-            answer_of(0, task, tick)
+            granted()
         }
     }
 }
@@ -163,7 +163,7 @@ pub fn drop_in_place(book: &mut Book, task: u32) -> Answer
         Ok(()) => {
             let k = (task - 1) as usize;
             book.dropped[k] = 1;
-            answer_of(0, task, 0)
+            granted()
         }
     }
 }
@@ -214,12 +214,12 @@ impl Book {
         let view = self.view();
         if sound_waits(&view).is_none() {
             return Figure {
-                answer: answer_of(9, 0, 0),
+                answer: Refusal::Unsound.answer(0, 0),
                 early: 0,
             };
         }
         Figure {
-            answer: answer_of(0, 0, 0),
+            answer: granted(),
             early: least_early(&view),
         }
     }

@@ -40,7 +40,7 @@ pub(crate) fn blank_book(rule: u8, plan: Plan) -> Book
     }
 }
 
-// What a refused opening gives.
+// What a refused opening gives. Its fields stand here one by one: of an array a derived `Default` says only that each place holds 0.
 pub(crate) fn zero_book() -> Book
     ensures { result ≡ blank_book 0 zero_plan }
 {

@@ -9,12 +9,7 @@ use crate::start::start_free;
 use crate::table::last_tasks;
 use crate::{Book, StepArrays};
 
-pub(crate) fn settle<'a>(
-    book: &'a Book,
-    waits: &'a [u64; 64],
-    moved: StepArrays,
-    clock: u32,
-) -> StepArrays
+pub(crate) fn settle(book: &Book, waits: &[u64; 64], moved: StepArrays, clock: u32) -> StepArrays
     requires { Fit (plan_by book.now waits.now) (at book.now.board) (seen_as moved book.now.dropped clock) }
     ensures { result ≡ moved_to book.now.tasks (let_go (plan_by book.now waits.now) (skip_times book.now.tasks (plan_by book.now waits.now) (seen_as moved book.now.dropped clock))) }
 {

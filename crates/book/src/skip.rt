@@ -7,32 +7,27 @@ ghost use Rattle.book.specs.Private.Table.{row_ended, SmallRow, SmallTable, skip
 use crate::start::may_go;
 use crate::{Book, StepArrays};
 
-fn may_skip(mark: &[u8; 64], gone: u8, row: [u8; 8], i: usize) -> bool
+// A dropped task that may go.
+fn may_skip(mark: &[u8; 64], book: &Book, row: [u8; 8], i: usize) -> bool
     requires i_bound { i < 64 }
     requires small_row { at mark.now i ≡ 0 → SmallRow row }
-    ensures { result ≡ (eqb gone 1 && (waiting (at mark.now) i && row_ended (at mark.now) row)) }
+    ensures { result ≡ (eqb (at book.now.dropped i) 1 && (waiting (at mark.now) i && row_ended (at mark.now) row)) }
 {
-    if gone != 1 {
+    if book.dropped[i] != 1 {
         return false;
     }
     may_go(mark, row, i)
 }
 
 // Whoever may be skipped by the marks as they were; none where nobody may.
-fn skip_round<'a>(
-    old: StepArrays,
-    book: &'a Book,
-    last: &'a [[u8; 8]; 64],
-    clock: u32,
-) -> Option<StepArrays>
+fn skip_round(old: StepArrays, book: &Book, last: &[[u8; 8]; 64], clock: u32) -> Option<StepArrays>
     requires { (book.now.tasks ≤ 64) × SmallTable (at old.mark) book.now.tasks last.now }
     ensures { result ≡ skipped_by book.now.dropped last.now clock book.now.tasks old }
 {
-    let mark = old.mark;
     let mut next = old;
     let mut some = false;
     for i in 0..usize::from(book.tasks) {
-        if may_skip(&mark, book.dropped[i], last[i], i) {
+        if may_skip(&old.mark, book, last[i], i) {
             next.mark[i] = 2;
             next.start[i] = clock;
             next.end[i] = clock;
@@ -43,10 +38,10 @@ fn skip_round<'a>(
 }
 
 // Round after round, until nobody was skipped.
-pub(crate) fn skip_free<'a>(
+pub(crate) fn skip_free(
     old: StepArrays,
-    book: &'a Book,
-    last: &'a [[u8; 8]; 64],
+    book: &Book,
+    last: &[[u8; 8]; 64],
     clock: u32,
 ) -> StepArrays
     requires { (book.now.tasks ≤ 64) × SmallTable (at old.mark) book.now.tasks last.now }

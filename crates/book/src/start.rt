@@ -43,19 +43,18 @@ pub(crate) fn may_go(mark: &[u8; 64], row: [u8; 8], i: usize) -> bool
 }
 
 // Whoever may go by the marks as they were: its start is fixed, even if it lies past the clock.
-pub(crate) fn start_free<'a>(
+pub(crate) fn start_free(
     old: StepArrays,
-    book: &'a Book,
-    last: &'a [[u8; 8]; 64],
+    book: &Book,
+    last: &[[u8; 8]; 64],
     clock: u32,
 ) -> StepArrays
     requires { (book.now.tasks ≤ 64) × SmallTable (at old.mark) book.now.tasks last.now }
     ensures { result ≡ starts_by (at book.now.ready) last.now clock book.now.tasks old }
 {
-    let mark = old.mark;
     let mut next = old;
     for i in 0..usize::from(book.tasks) {
-        if may_go(&mark, last[i], i) {
+        if may_go(&old.mark, last[i], i) {
             next.start[i] = start_of(book.ready[i], clock);
             next.mark[i] = 1;
         }

@@ -24,7 +24,7 @@ pub(crate) fn later_of(key: &[u32; 64], held: u8, k: usize) -> u8
 }
 
 // For every board, the last task that the task waits for.
-fn row_of<'a>(book: &'a Book, waits: &'a [u64; 64], i: usize) -> [u8; 8]
+fn row_of(book: &Book, waits: &[u64; 64], i: usize) -> [u8; 8]
     requires tasks_bound { (book.now.tasks ≤ 64) × (i < 64) }
     requires on_eight { OnEight (plan_by book.now waits.now) (at book.now.board) }
     ensures { RowTo (plan_by book.now waits.now) (at book.now.board) i book.now.tasks result }
@@ -41,11 +41,7 @@ fn row_of<'a>(book: &'a Book, waits: &'a [u64; 64], i: usize) -> [u8; 8]
 }
 
 // The rows of those who wait; nobody asks for the others.
-pub(crate) fn last_tasks<'a>(
-    book: &'a Book,
-    waits: &'a [u64; 64],
-    mark: &'a [u8; 64],
-) -> [[u8; 8]; 64]
+pub(crate) fn last_tasks(book: &Book, waits: &[u64; 64], mark: &[u8; 64]) -> [[u8; 8]; 64]
     requires tasks_bound { book.now.tasks ≤ 64 }
     requires on_eight { OnEight (plan_by book.now waits.now) (at book.now.board) }
     ensures { TableTo (plan_by book.now waits.now) (at book.now.board) (at mark.now) book.now.tasks result }

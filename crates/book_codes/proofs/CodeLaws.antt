@@ -19,16 +19,16 @@ use Rattle.book_view.specs.View.{plan_seen, book_seen}
 use Rattle.book_view.specs.Shown.{plan_shown, book_shown}
 use Rattle.book_view.specs.declared.BookView.{BookView}
 use Rattle.book_view.proofs.Short.{at-past, every-short}
-use Rattle.book_codes.specs.Refused.{number_of, number_in}
+use Rattle.plan.specs.Refusal.{refusal_number, number_in}
 use Rattle.book_codes.specs.Private.Place.{place_in}
-use Rattle.book_codes.specs.declared.Refusal.{Refusal}
-use Rattle.book_codes.specs.declared.Refusal.TheVariants.{NoTask}
+use Rattle.plan.specs.declared.Refusal.{Refusal}
+use Rattle.plan.specs.declared.Refusal.TheVariants.{NoTask}
 
 -- a task's place among those of the plan, or none
 module _ (tasks task : ℕ) where
   place-none :
       {refusal : Refusal} → Err refusal ≡ place_in tasks task → {code : ℕ → ℕ} → ((k : ℕ) → tasks ≤ k → 10 ≡ code k)
-      → number_of refusal ≡ from_one code task
+      → refusal_number refusal ≡ from_one code task
   place-none {refusal} e ten =
       by_bool (eqb task 0)
       (λ z. let no : ◌≡◌ {A = Result ℕ Refusal} (Err refusal) (Err NoTask) = rw z at e in ap number_in no ∙ rw z)
@@ -148,12 +148,12 @@ module _ (v : BookView) (task : ℕ) where
     drop-placed q = placed v.plan.tasks task e (drop_code (plan_shown v) (book_shown v)) q
 
   module _ {refusal : Refusal} (e : Err refusal ≡ place_in v.plan.tasks task) where
-    pub report-none : (tick : ℕ) → number_of refusal ≡ from_one (λ k. report_code (plan_shown v) (book_shown v) k tick) task
+    pub report-none : (tick : ℕ) → refusal_number refusal ≡ from_one (λ k. report_code (plan_shown v) (book_shown v) k tick) task
     report-none tick =
         place-none v.plan.tasks task e {code = λ k. report_code (plan_shown v) (book_shown v) k tick}
         (λ k h. code-10 (plan_shown v) (book_shown v) k tick h)
 
-    pub drop-none : number_of refusal ≡ from_one (drop_code (plan_shown v) (book_shown v)) task
+    pub drop-none : refusal_number refusal ≡ from_one (drop_code (plan_shown v) (book_shown v)) task
     drop-none =
         place-none v.plan.tasks task e {code = drop_code (plan_shown v) (book_shown v)}
         (λ k h. drop-10 (plan_shown v) (book_shown v) k h)

@@ -1,3 +1,2 @@
 pub mod CodeLaws
 pub mod EarlyLaws
-pub mod NumberLaws

@@ -4,36 +4,16 @@
 
 ghost use Rattle.std.specs.Prelude.{◌≡◌, [], ◌≤◌};
 ghost use Rattle.laws.specs.Picked.{least};
+ghost use Rattle.plan.specs.Refusal.{number_in};
 ghost use Rattle.theory.specs.Report.{none_past, report_code, drop_code, from_one};
 ghost use Rattle.theory.specs.Figure.{minimum_early, early_by, counts};
 ghost use Rattle.book_view.specs.View.{plan_seen, book_seen};
 ghost use Rattle.book_view.specs.Shown.{plan_shown, book_shown};
-ghost use Rattle.book_codes.specs.Refused.{number_of, number_in};
 ghost use Rattle.book_codes.specs.Private.Place.{place_in};
 ghost use Rattle.book_codes.specs.Private.Held.{held};
 
 use book_view::{BookView, limit_of, places};
-
-// Why a report or a drop is refused, with its number.
-#[derive(Clone, Copy, PartialEq, Eq)]
-pub enum Refusal {
-    Unsound = 9,
-    NoTask = 10,
-    NotRunning = 11,
-    BeforeClock = 12,
-    NotPastStart = 13,
-    PastLimit = 14,
-    OtherPastLimit = 15,
-    KnownOrDropped = 19,
-}
-
-impl Refusal {
-    pub fn number(self) -> u32
-        ensures { result ≡ number_of self }
-    {
-        self as u32
-    }
-}
+use plan::Refusal;
 
 // The place of a task of the plan.
 fn place_of(tasks: u8, task: u32) -> Result<usize, Refusal>
@@ -54,10 +34,9 @@ fn none_past(book: &BookView<'_>, n: usize, tick: u32) -> bool
     requires { n ≤ 64 }
     ensures { result ≡ none_past (plan_seen n [] book.now.plan.begin.now book.now.plan.finish.now []) (book_seen book.now.mark.now book.now.start.now [] [] 0) tick }
 {
-    let plan = book.plan;
     let mut all = true;
     for j in 0..n {
-        let limit = limit_of(plan.begin[j], plan.finish[j], book.start[j]);
+        let limit = limit_of(book.plan.begin[j], book.plan.finish[j], book.start[j]);
         all = (!(book.mark[j] == 1) | (u64::from(tick) <= limit)) & all;
     }
     all
@@ -67,10 +46,11 @@ fn none_past(book: &BookView<'_>, n: usize, tick: u32) -> bool
 pub fn check_report(book: &BookView<'_>, task: u32, tick: u32) -> Result<(), Refusal>
     ensures { number_in result ≡ from_one (λ k. report_code (plan_shown book.now) (book_shown book.now) k tick) task }
 {
-    let (plan, mark) = (book.plan, book.mark);
-    let k = place_of(plan.tasks, task)?;
+    // an array that a field shows is lent as a slice by a variable: the checker asks for the copy of the reference
+    let mark = book.mark;
+    let k = place_of(book.plan.tasks, task)?;
     // a task without a place holds nothing, so it waits
-    let n = places(plan.tasks, mark);
+    let n = places(book.plan.tasks, mark);
     if n <= k {
         return Err(Refusal::NotRunning);
     }
@@ -83,7 +63,7 @@ pub fn check_report(book: &BookView<'_>, task: u32, tick: u32) -> Result<(), Ref
     if tick <= book.start[k] {
         return Err(Refusal::NotPastStart);
     }
-    if limit_of(plan.begin[k], plan.finish[k], book.start[k]) < u64::from(tick) {
+    if limit_of(book.plan.begin[k], book.plan.finish[k], book.start[k]) < u64::from(tick) {
         return Err(Refusal::PastLimit);
     }
     if !none_past(book, n, tick) {
@@ -115,15 +95,18 @@ fn least_of(book: &BookView<'_>, n: usize) -> Option<u32>
     requires { n ≤ 64 }
     ensures { held result ≡ least n (counts (book_shown book.now)) (early_by (plan_shown book.now) (book_shown book.now)) }
 {
-    let plan = book.plan;
     let mut least = None;
     for i in 0..n {
         let begun = (book.mark[i] == 1) & (book.start[i] <= book.clock);
         let to_begin = (book.mark[i] == 1) | (book.mark[i] == 0);
         if begun | (!(book.dropped[i] == 1) & to_begin) {
             // planned start − start of one that has begun, planned start − ready of any other
-            let since = if begun { book.start[i] } else { plan.ready[i] };
-            let early = plan.begin[i].saturating_sub(since);
+            let since = if begun {
+                book.start[i]
+            } else {
+                book.plan.ready[i]
+            };
+            let early = book.plan.begin[i].saturating_sub(since);
             least = match least {
                 None => Some(early),
                 Some(other) => Some(other.min(early)),

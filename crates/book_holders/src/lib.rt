@@ -11,7 +11,7 @@ ghost use Rattle.book_holders.specs.Holders.{holders_of, rivals_on};
 
 use book_view::bit_of;
 
-// For each drive all that hold it, and those that hold it exclusively.
+// For each drive all that hold it, and those that hold it exclusively: flat arrays of numbers can be lent, an array of structs cannot.
 #[derive(Drop)]
 pub struct Holders {
     pub held: [u64; 32],
@@ -60,7 +60,7 @@ pub fn holders_of(holds: &[u8; 2048]) -> Holders
 }
 
 // Whom a hold clashes with: all holders of its drive, or where it is shared those that hold it exclusively.
-fn rivals_on<'a>(held: &'a [u64; 32], exclusive: &'a [u64; 32], hold: u8) -> u64
+fn rivals_on(held: &[u64; 32], exclusive: &[u64; 32], hold: u8) -> u64
     ensures { result ≡ rivals_on held.now exclusive.now hold }
 {
     let drive = hold / 2;

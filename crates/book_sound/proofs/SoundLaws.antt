@@ -7,7 +7,7 @@ use mathlib.Core.Path.{◌≡◌, sym, ap, ◌∙◌}
 use mathlib.Core.Logic.{◌≢◌}
 use lib.Bits.{bit_and}
 use lib.Dec.{eqb, ltb, leb}
-use borrow.Author.Tests.{eq-eqb, ne_eqb, eqb-true, le-leb, lt-leb, lt-ltb, ltb-true, not-true, not-false}
+use borrow.Author.Tests.{eq-eqb, ne_eqb, eqb-true, le-leb, lt-leb, lt-ltb, ltb-true}
 use Rattle.laws.proofs.Cases.{by-eq, true-false, same_test, and_no, and_l, and_r, and-of}
 use Rattle.laws.specs.Bits.{has, set_of}
 use Rattle.laws.proofs.Bits.{has-and, has-none, has-set, some-bit}
@@ -119,20 +119,20 @@ module _ (tasks : ℕ) (ready begin finish waits mark start end dropped : List �
 
 -- the test, part by part
 module _ (on : Plan) (mark start end dropped : List ℕ) (clock : ℕ) {past : Bool} (q : past ≡ nothing_past on.tasks mark start end dropped) where
-  pub unsound-past : not past ≡ true → false ≡ sound_on on mark start end dropped clock
+  pub unsound-past : past ≡ false → false ≡ sound_on on mark start end dropped clock
   unfolding sound_on
-  unsound-past h = rw (sym q ∙ not-true past h, and-false)
+  unsound-past h = rw (sym q ∙ h, and-false)
 
-  module _ (nothing : not past ≡ false) {tasks : Bool}
+  module _ (nothing : past ≡ true) {tasks : Bool}
       (r : tasks ≡ every on.tasks (task_test on (book_seen mark start end dropped clock))) where
-    pub unsound-task : not tasks ≡ true → false ≡ sound_on on mark start end dropped clock
+    pub unsound-task : tasks ≡ false → false ≡ sound_on on mark start end dropped clock
     unfolding sound_on sound_test
-    unsound-task h = rw (sym r ∙ not-true tasks h)
+    unsound-task h = rw (sym r ∙ h)
 
     pub sound-clock :
-        not tasks ≡ false → {last : ℕ} → last ≡ latest on.tasks (ended (at mark)) (at end)
+        tasks ≡ true → {last : ℕ} → last ≡ latest on.tasks (ended (at mark)) (at end)
         → eqb clock last ≡ sound_on on mark start end dropped clock
     unfolding sound_on sound_test
     sound-clock h e =
-        rw (sym q ∙ not-false past nothing, sym r ∙ not-false tasks h, e)
+        rw (sym q ∙ nothing, sym r ∙ h, e)
         (sym (and-true (eqb clock _)))

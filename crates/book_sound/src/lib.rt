@@ -28,7 +28,7 @@ fn unended_set(book: &BookView<'_>) -> u64
     set
 }
 
-// The greatest end, or 0.
+// The greatest end; 0 where nothing has ended, as the rule of the clock has it. A walk that gathers, as those beside it.
 fn last_end(book: &BookView<'_>) -> u32
     requires { book.now.plan.tasks ≤ 64 }
     ensures { result ≡ latest book.now.plan.tasks (ended (at book.now.mark.now)) (at book.now.end.now) }
@@ -58,7 +58,6 @@ fn task_sound(book: &BookView<'_>, waits: &[u64; 64], unended: u64, i: usize) ->
     ensures { result ≡ task_test (plan_by book.now waits.now) (book_shown book.now) i }
 {
     let tasks = book.plan.tasks as usize;
-    let clock = book.clock;
     let state = book.mark[i];
     let gone = book.dropped[i];
     let started = book.start[i];
@@ -73,15 +72,15 @@ fn task_sound(book: &BookView<'_>, waits: &[u64; 64], unended: u64, i: usize) ->
     let from = start_of(ready_at, due);
     if gone == 1 {
         let some = waits_at_all(awaited, tasks);
-        let at_once = (started == due) & ((over == started) & (over <= clock));
+        let at_once = (started == due) & ((over == started) & (over <= book.clock));
         return (state == 2) & (some & (free & at_once));
     }
     let limit = limit_of(book.plan.begin[i], book.plan.finish[i], started);
     if state == 1 {
-        let runs = (started == from) & ((over == 0) & (u64::from(clock) <= limit));
+        let runs = (started == from) & ((over == 0) & (u64::from(book.clock) <= limit));
         return (gone == 0) & (free & runs);
     }
-    let in_time = (started < over) & ((u64::from(over) <= limit) & (over <= clock));
+    let in_time = (started < over) & ((u64::from(over) <= limit) & (over <= book.clock));
     (state == 2) & ((gone == 0) & (free & ((started == from) & in_time)))
 }
 
@@ -102,6 +101,7 @@ fn past_nothing(book: &BookView<'_>) -> bool
     ensures { result ≡ nothing_past book.now.plan.tasks book.now.mark.now book.now.start.now book.now.end.now book.now.dropped.now }
 {
     let tasks = book.plan.tasks as usize;
+    // an array that a field shows is lent as a slice by a variable: the checker asks for the copies of the references
     let (start, end) = (book.start, book.end);
     let (mark, dropped) = (book.mark, book.dropped);
     let ticks = is_blank(0, start, tasks) & is_blank(0, end, tasks);
@@ -127,8 +127,7 @@ fn is_sound(book: &BookView<'_>, waits: &[u64; 64]) -> bool
 pub fn sound_waits(book: &BookView<'_>) -> Option<[u64; 64]>
     ensures { result ≡ sound_waits book.now.rule (viewed book.now.plan) book.now.mark.now book.now.start.now book.now.end.now book.now.dropped.now book.now.clock }
 {
-    let plan = book.plan;
-    let waits = wait_sets(book.rule, &plan)?;
+    let waits = wait_sets(book.rule, &book.plan)?;
     if is_sound(book, &waits) {
         return Some(waits);
     }

@@ -41,7 +41,7 @@ pub fn places(tasks: u8, array: &[u8]) -> usize
     usize::from(tasks).min(array.len())
 }
 
-// The bit of a task, or none. A set has 64.
+// The bit of a task, or none. A set has 64. The fact is data and nothing branches on it, so that walks that gather by it can use wide instructions.
 pub fn bit_of(stands: bool, task: usize) -> u64
     ensures { result ≡ cond stands (2 ^ (task % 64)) 0 }
 {
@@ -55,7 +55,7 @@ pub fn is_in(set: u64, task: usize) -> bool
     (set >> (task % 64)) % 2 == 1
 }
 
-// The later of two ends; the first counts only if it is picked.
+// The later of two ends; the first counts only if it is picked. No branch, as in `bit_of`.
 pub fn later(picked: bool, end: u32, last: u32) -> u32
     ensures { result ≡ max last (cond picked end 0) }
 {

@@ -2,11 +2,11 @@
 use Prim.Native.Nat.{ℕ, ◌+◌, ◌<◌, ◌≤◌}
 use native.Mathlib.Omega.{arith}
 use mathlib.Core.Path.{◌≡◌, sym, ap, ◌∙◌}
-use mathlib.Core.Bool.{Bool, true, false, not, ◌&&◌}
+use mathlib.Core.Bool.{Bool, true, false, ◌&&◌}
 use mathlib.Core.List.{List}
 use Rattle.std.specs.Prelude.{Some, None}
 use lib.Dec.{leb, ltb}
-use borrow.Author.Tests.{not-true, not-false, leb-true, le-leb, lt-leb, lt-ltb}
+use borrow.Author.Tests.{leb-true, le-leb, lt-leb, lt-ltb}
 use Rattle.laws.proofs.Cases.{by-eq, by_le, and_l, and_r, and_no}
 use Rattle.plan.specs.Pairs.{is_listed}
 use Rattle.plan.specs.Value.{at, row, items, blank_from, is_accepted, task_at}
@@ -28,12 +28,12 @@ module _ (rule : ℕ) (plan : Plan) where
   no-rule h = unknown (ap (λ (b : Bool). is_accepted plan && b) (lt-leb rule 1 h) ∙ and_no (is_accepted plan))
 
   module _ {ok : Bool} (e : ok ≡ is_accepted plan) where
-    pub not-accepted : not ok ≡ true → None ≡ waits_of rule plan
-    not-accepted h = unknown (ap (λ (b : Bool). b && leb rule 1) (sym e ∙ not-true ok h))
+    pub not-accepted : ok ≡ false → None ≡ waits_of rule plan
+    not-accepted h = unknown (ap (λ (b : Bool). b && leb rule 1) (sym e ∙ h))
 
-    module _ (yes : not ok ≡ false) where
+    module _ (yes : ok ≡ true) where
       accepted : is_accepted plan ≡ true
-      accepted = sym e ∙ not-false ok yes
+      accepted = sym e ∙ yes
 
       facts : PlanFacts plan
       facts = plan-facts plan accepted

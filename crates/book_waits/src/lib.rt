@@ -13,7 +13,7 @@ use plan::PlanView;
 use plan_judge::value::is_accepted;
 use sets::fill_sets;
 
-// None where the plan is not accepted or the rule is none of the two.
+// None where the plan is not accepted or the rule is none of the two. `rule` is a book's byte, which may be any (C interface).
 pub fn wait_sets(rule: u8, plan: &PlanView<'_>) -> Option<[u64; 64]>
     ensures { result ≡ waits_of rule (viewed plan.now) }
 {

@@ -27,9 +27,8 @@ fn early_sets(sets: &mut [u64; 64], plan: &PlanView<'_>)
     requires { (plan.now.tasks ≤ 64) × (sets.old ≡ replicate 64 0) }
     ensures { sets.new ≡ sets_to 64 plan.now.tasks (λ i j. leb (at plan.now.finish.now j) (at plan.now.begin.now i)) }
 {
-    let begin = plan.begin;
     for j in 0..plan.tasks as usize {
-        await_task(sets, begin, plan.finish[j], j);
+        await_task(sets, plan.begin, plan.finish[j], j);
     }
 }
 

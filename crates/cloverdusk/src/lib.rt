@@ -31,7 +31,7 @@ use ask_drives::{BookAndSheet, OnDrive, SheetResult};
 use ask_exact::Exact;
 use ask_sheet::Sheet;
 use ask_why::Chain;
-use book::{Book, BookResult, Figure, Rule};
+use book::{Book, BookResult, Figure, Rule, number_of};
 use engine::{Lengths, Timetable};
 use engine_read::EngineInput;
 use plan::{Answer, Plan, Reading, WriteResult};
@@ -140,21 +140,14 @@ pub struct LengthsResult {
     pub given: Lengths,
 }
 
-fn number_of(rule: Rule) -> u8
-    ensures { result ≡ rule_number rule }
-{
-    match rule {
-        Rule::EarlyStart => 0,
-        Rule::Clash => 1,
-    }
-}
-
 fn handed_over(asked: EngineInput) -> LengthsResult
     ensures { result ≡ record { answer = asked.answer; rule = rule_number asked.rule; given = asked.given } }
 {
-    let answer = asked.answer;
-    let rule = asked.rule;
-    let given = asked.given;
+    let EngineInput {
+        answer,
+        rule,
+        given,
+    } = asked;
     LengthsResult {
         answer,
         rule: number_of(rule),

@@ -42,7 +42,7 @@ fn put_start(plan: &[u8], ends: &[u8], out: &mut [u8; LOG_MOST]) -> DeskOpening
     begin(plan, ends, out)
 }
 
-// The first bytes of the buffer are the whole answer, whatever the line is.
+// The first bytes of the buffer are the whole answer, whatever the line is. `ended`: whether it had its LF, a fact handed on.
 fn put_turn(
     morning: Morning,
     number: u32,
@@ -58,11 +58,9 @@ fn put_turn(
 
 // A line that is kept is on the disk before its answer is printed; where it cannot be kept, nothing is. Lines are counted from 1, up to the largest number that can be told.
 fn answer(rt: &(impl Files + Print + Say), session: &mut Session, ended: bool) -> Result<(), Told> {
-    let Morning { book, kept } = session.morning;
-    let morning = Morning { book, kept };
     let mut out = [0u8; ANSWER_MOST];
     let turn = put_turn(
-        morning,
+        session.morning,
         session.number,
         session.typed.as_slice(),
         ended,
@@ -120,9 +118,8 @@ fn listen(rt: &(impl Input + Files + Print + Say), morning: Morning) -> Result<(
 
 // What follows the last LF of ends.txt is cut off, where the desk goes on.
 fn cut_tail(rt: &(impl Files + Say), begun: &DeskOpening, length: usize) -> Result<(), Told> {
-    let kept = begun.morning.kept;
     match begun.way {
-        Way::Goes if kept < length => cut(rt, kept),
+        Way::Goes if begun.morning.kept < length => cut(rt, begun.morning.kept),
         Way::Goes | Way::Refused | Way::Stops => Ok(()),
     }
 }
@@ -136,14 +133,13 @@ fn run(rt: &(impl Input + Files + Print + Say)) -> Result<(), Told> {
     let begun = put_start(read.plan, read.text, &mut out);
     cut_tail(rt, &begun, read.text.len())?;
     print(rt, &out[..begun.length])?;
-    let morning = begun.morning;
     match begun.way {
         Way::Refused => Ok(()),
         Way::Stops => {
             rt.say(b"ends.txt: runlog stops in it; nothing was changed\n");
             Ok(())
         }
-        Way::Goes => listen(rt, morning),
+        Way::Goes => listen(rt, begun.morning),
     }
 }
 

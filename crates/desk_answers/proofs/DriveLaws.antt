@@ -43,16 +43,16 @@ dash-wrote l {out} {p} {m} {q} h fits w =
     let e = sym (list-none digits_of l h) in
     subst (λ (s : List ℕ). Wrote out p (9 ∷ s) (2 + 11 * length l) m q) e (looser (omega arith) (whole fits w))
 
--- what is left of them while they are written
+-- what is left of the items after the first while they are written
 abbrev pub Rest : List ℕ → ℕ → List ℕ → ℕ → List ℕ → ℕ → Type 0
-Rest l i out from m p = Left out from (later_text digits_of (drop 1 l)) m p (later_text digits_of (drop i l))
+Rest l i out from m p = Left out from (later_text digits_of l) m p (later_text digits_of (drop i l))
 
 pub rest-turn :
     (l : List ℕ) (i : ℕ) {out : List ℕ} {from : ℕ} {m : List ℕ} {p : ℕ} {m' : List ℕ} {p' n : ℕ} → i < length l → n ≡ get_or l i 0 → Rest l i out from m p
     → Wrote m p (44 ∷ digits_of n) 11 m' p' → Rest l (i + 1) out from m' p'
 rest-turn l i {out} {from} {m} {p} {m'} {p'} h q s w =
-    let s' : Left out from (later_text digits_of (drop 1 l)) m p ((44 ∷ digits_of (get_or l i 0)) ++ later_text digits_of (drop (i + 1) l)) =
-    subst (λ (t : List ℕ). Left out from (later_text digits_of (drop 1 l)) m p t) (later-turn digits_of l i h) s in
+    let s' : Left out from (later_text digits_of l) m p ((44 ∷ digits_of (get_or l i 0)) ++ later_text digits_of (drop (i + 1) l)) =
+    subst (λ (t : List ℕ). Left out from (later_text digits_of l) m p t) (later-turn digits_of l i h) s in
     let w' : Wrote m p (44 ∷ digits_of (get_or l i 0)) 11 m' p' = rw q at w in
     left-turn (44 ∷ digits_of (get_or l i 0)) (later_text digits_of (drop (i + 1) l)) s' w'
 
@@ -61,18 +61,18 @@ unfolding later_text
 later-end l i h = ap (later_text digits_of) (drop_of_length-le l h)
 
 pub items-wrote :
-    (l : List ℕ) (i : ℕ) {n : ℕ} {out : List ℕ} {p : ℕ} {m : List ℕ} {q : ℕ} {m' : List ℕ} {q' : ℕ} → length l ≢ 0 → length l ≤ i → n ≡ get_or l 0 0
-    → Wrote out p (9 ∷ digits_of n) 11 m q → Rest l i m q m' q' → q' ≤ p + 11 * length l
+    {l : List ℕ} (first : ℕ) (others : List ℕ) (i : ℕ) {n : ℕ} {out : List ℕ} {p : ℕ} {m : List ℕ} {q : ℕ} {m' : List ℕ} {q' : ℕ} → l ≡ first ∷ others
+    → length others ≤ i → n ≡ first → Wrote out p (9 ∷ digits_of n) 11 m q → Rest others i m q m' q' → q' ≤ p + 11 * length l
     → Wrote out p (9 ∷ list_text digits_of l) (2 + 11 * length l) m' q'
-items-wrote l i {n} {out} {p} {m} {q} {m'} {q'} some h e v s few =
-    let r : Left m q (later_text digits_of (drop 1 l)) m' q' [] =
-    subst (λ (t : List ℕ). Left m q (later_text digits_of (drop 1 l)) m' q' t) (later-end l i h) s in
-    let w : Wrote m q (later_text digits_of (drop 1 l)) (length (later_text digits_of (drop 1 l))) m' q' = left-last r (nothing m' q' 0) (omega arith) in
-    let v' : Wrote out p (9 ∷ digits_of (get_or l 0 0)) 11 m q = rw e at v in
+items-wrote {l} first others i {n} {out} {p} {m} {q} {m'} {q'} some h e v s few =
+    let r : Left m q (later_text digits_of others) m' q' [] =
+    subst (λ (t : List ℕ). Left m q (later_text digits_of others) m' q' t) (later-end others i h) s in
+    let w : Wrote m q (later_text digits_of others) (length (later_text digits_of others)) m' q' = left-last r (nothing m' q' 0) (omega arith) in
+    let v' : Wrote out p (9 ∷ digits_of first) 11 m q = rw e at v in
     let x = also v' w in
-    let t = ap (λ (s : List ℕ). 9 ∷ s) (sym (list-some digits_of l (λ z. some z))) in
-    let y : Wrote out p (9 ∷ list_text digits_of l) (11 + length (later_text digits_of (drop 1 l))) m' q' =
-    subst (λ (s : List ℕ). Wrote out p s (11 + length (later_text digits_of (drop 1 l))) m' q') t x in
+    let t = ap (λ (s : List ℕ). 9 ∷ s) (sym (list-some digits_of first others some)) in
+    let y : Wrote out p (9 ∷ list_text digits_of l) (11 + length (later_text digits_of others)) m' q' =
+    subst (λ (s : List ℕ). Wrote out p s (11 + length (later_text digits_of others)) m' q') t x in
     record { place = y.place; bytes = y.bytes; small = omega (arith, y.place) }
 
 -- ---- who is next

@@ -42,7 +42,7 @@ fn put_one(out: &mut [u8], at: usize, task: u8, book: &Book) -> usize
     )
 }
 
-fn put_links<'a>(out: &mut [u8], links: &'a [u8], book: &'a Book) -> usize
+fn put_links(out: &mut [u8], links: &[u8], book: &Book) -> usize
     requires { (length links.now ≤ 64) × (3328 ≤ length out.old) }
     ensures { Wrote out.old 0 (lines_each (link_line book.now) links.now) (52 * length links.now) out.new result }
 {

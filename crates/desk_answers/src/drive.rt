@@ -31,12 +31,12 @@ fn put_items(out: &mut [u8], at: usize, items: &[u8]) -> usize
     requires { at + 2 + 11 * length items.now ≤ length out.old }
     ensures { Wrote out.old at (9 ∷ list_text digits_of items.now) (2 + 11 * length items.now) out.new result }
 {
-    if items.len() == 0 {
+    let Some((first, others)) = items.split_first() else {
         return put_text(out, at, b"\t-");
-    }
-    let mut place = put_after(out, at, TAB, u32::from(items[0]));
-    for i in 1..items.len() {
-        place = put_after(out, place, COMMA, u32::from(items[i]));
+    };
+    let mut place = put_after(out, at, TAB, u32::from(*first));
+    for task in others {
+        place = put_after(out, place, COMMA, u32::from(*task));
     }
     place
 }

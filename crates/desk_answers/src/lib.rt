@@ -32,7 +32,7 @@ fn refusal(answer: Answer) -> Option<Answer>
 pub fn answer_refused(answer: Answer, out: &mut [u8; ANSWER_MOST]) -> usize
     ensures { Answered out.old (refused_line answer) out.new result }
 {
-    put_refused(out, 0, answer.code, answer.first, answer.second)
+    put_refused(out, 0, answer)
 }
 
 // A question is a call of its own: its copies of a book are given back before a step needs its part of the stack.

@@ -9,7 +9,7 @@ use crate::lines::{put_now, put_runs};
 use book::{Book, is_sound};
 use book_view::limit_of;
 use log_write::ANSWER_MOST;
-use plan::refuse;
+use plan::Refusal;
 
 // The place after the lines, and how many there are.
 #[derive(Drop)]
@@ -55,7 +55,7 @@ pub fn answer_now(book: &Book, out: &mut [u8; ANSWER_MOST]) -> usize
     ensures { Answered out.old (now_answer book.now) out.new result }
 {
     if !is_sound(book) {
-        return answer_refused(refuse(9, 0, 0), out);
+        return answer_refused(Refusal::Unsound.answer(0, 0), out);
     }
     let written = put_running(out, book);
     put_now(out, written.place, book.clock, written.count)

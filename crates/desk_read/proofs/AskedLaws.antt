@@ -2,6 +2,7 @@
 use mathlib.Core.Path.{◌≡◌, refl, sym, ap, ◌∙◌}
 use Rattle.std.specs.Prelude.{Result, Ok, Err}
 use Rattle.text_fields.specs.declared.Fault.{Fault}
+use Rattle.text_fields.proofs.SaidLaws.{kind_for, of-fault}
 use Rattle.log_read.specs.Said.Entry.{End, Drop, Refused}
 use Rattle.log_read.specs.declared.Entry.TheVariants as entry
 use Rattle.desk_read.specs.Asked.{DeskLine, asked}
@@ -12,7 +13,7 @@ use Rattle.desk_read.specs.declared.DeskLine.TheVariants as read
 abbrev answer_of : DeskLine → Result line.DeskLine Fault
 answer_of (Step (End task tick)) = Ok (read.Step (entry.End task tick))
 answer_of (Step (Drop task)) = Ok (read.Step (entry.Drop task))
-answer_of (Step (Refused code column)) = Err (record { code = code; column = column })
+answer_of (Step (Refused code column)) = Err (record { kind = kind_for code; column = column })
 answer_of Rule = Ok read.Rule
 answer_of Early = Ok read.Early
 answer_of Exact = Ok read.Exact
@@ -29,7 +30,7 @@ of-asked (Ok read.Exact) = refl
 of-asked (Ok read.Now) = refl
 of-asked (Ok (read.Drive drive)) = refl
 of-asked (Ok (read.Why task)) = refl
-of-asked (Err fault) = refl
+of-asked (Err fault) = ap (λ (f : Fault). Err f) (of-fault fault)
 
 pub asked-whole : (a b : Result line.DeskLine Fault) → asked a ≡ asked b → a ≡ b
 asked-whole a b e = sym (of-asked a) ∙ ap answer_of e ∙ of-asked b

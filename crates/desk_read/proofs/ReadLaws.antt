@@ -2,23 +2,25 @@
 use Prim.Native.Nat.{ℕ, ◌≤◌, ◌<◌}
 use mathlib.Core.Path.{◌≡◌, refl, sym, ap, ◌∙◌}
 use mathlib.Core.Logic.{◌≢◌}
-use mathlib.Core.Bool.{Bool, true, false, not}
+use mathlib.Core.Bool.{Bool, true, false}
 use mathlib.Core.List.{List, [], ◌∷◌}
 use native.Mathlib.Omega.{arith}
 use lib.Dec.{eqb}
 use lib.ListN.{length}
-use borrow.Author.Tests.{eq-eqb, ne_eqb, eqb-false, lt-ltb, le-ltb, not-true, not-false}
-use Rattle.laws.proofs.Cases.{by_bool, by_le, and-of}
+use borrow.Author.Tests.{eqb-false, lt-ltb, le-ltb}
+use Rattle.laws.proofs.Cases.{by_bool, by_le}
 use Rattle.laws.specs.Lists.{all_of, same}
 use Rattle.text.specs.Bytes.{bytes}
 use Rattle.text.specs.Number.{value_of, most}
 use Rattle.text.specs.Line.{field}
-use Rattle.text_fields.specs.Faults.{word_code, field_code, end_code, field_codes, line_codes, fault_of, unless_fault, ranged_read}
-use Rattle.text_fields.specs.declared.Fault.{Fault}
-use Rattle.text_fields.specs.declared.Ranged.{Ranged}
-use Rattle.text_fields.proofs.RangedLaws.{ranged-code, ranged-value}
-use Rattle.text_fields.proofs.FaultLaws.{is_code, field-is-code, word-is-code, end-is-code, zero-at, column-most}
-use Rattle.text_fields.proofs.UnlessLaws.{no-fault}
+use Rattle.std.specs.Prelude.{Option, Result, Ok, IsOk}
+use Rattle.std.specs.Result.{result_err}
+use Rattle.text_fields.specs.Faults.{Fault, word_code, field_code, end_code, field_codes, line_codes, fault_of, unless_fault, ranged_read}
+use Rattle.text_fields.specs.Said.{fault_number, code_in, codes_in, ranged_in}
+use Rattle.text_fields.specs.declared.FieldFault.{FieldFault}
+use Rattle.text_fields.proofs.RangedLaws.{err-code, ok-there, ok-value}
+use Rattle.text_fields.proofs.FaultLaws.{zero-at, column-most, number-some}
+use Rattle.text_fields.proofs.UnlessLaws.{right-codes}
 use Rattle.log_read.specs.Entries.{end_codes, drop_codes, entry_of}
 use Rattle.log_read.specs.Rules.{rule_codes, choice_in}
 use Rattle.log_read.specs.Said.{Choice}
@@ -34,53 +36,43 @@ use Rattle.desk_read.specs.Asked.DeskLine.{Step, Rule, Early, Exact, Now, Drive,
 abbrev number : List (List ℕ → ℕ)
 number = field_code 0 most ∷ []
 
-module _ (line word : List ℕ) (ended : Bool) {first : List ℕ} (f : first ≡ field line 0) {w : ℕ} (c : w ≡ word_code word first) where
-  word-is : w ≡ word_code word (field line 0)
+module _ (line word : List ℕ) (ended : Bool) {first : List ℕ} (f : first ≡ field line 0) (w : Option FieldFault) (c : code_in w ≡ word_code word first) where
+  word-is : code_in w ≡ word_code word (field line 0)
   word-is = rw f at c
 
-  pub alone-is : {e : ℕ} → e ≡ end_code ended 1 line → {r : Fault} → r ≡ fault_of line (w ∷ e ∷ []) → r ≡ fault_of line (line_codes word [] ended line)
+  pub alone-is :
+      (e : Option FieldFault) → code_in e ≡ end_code ended 1 line
+      → {r : Fault} → r ≡ fault_of line (codes_in (w ∷ e ∷ [])) → r ≡ fault_of line (line_codes word [] ended line)
   unfolding field_codes
-  alone-is l r = let v = word-is in r ∙ (λ i. fault_of line (v i ∷ l i ∷ []))
+  alone-is e l r = let v = word-is in r ∙ (λ i. fault_of line (v i ∷ l i ∷ []))
 
-  pub one-is :
-      {second : List ℕ} → second ≡ field line 1 → {x : Ranged} → x ≡ ranged_read 0 most second → {e : ℕ} → e ≡ end_code ended 2 line
-      → {r : Fault} → r ≡ fault_of line (w ∷ x.code ∷ e ∷ []) → r ≡ fault_of line (line_codes word number ended line)
-  unfolding field_codes
-  one-is g {x} n l r =
-      let v = word-is in
-      let y : x.code ≡ field_code 0 most (field line 1) = ranged-code 0 most (field line 1) (rw g at n) in
-      r ∙ (λ i. fault_of line (v i ∷ y i ∷ l i ∷ []))
+  module _ {second : List ℕ} (g : second ≡ field line 1) (x : Result ℕ FieldFault) (n : ranged_in x ≡ ranged_read 0 most second)
+      (y : Option FieldFault) (m : y ≡ result_err x) (e : Option FieldFault) (l : code_in e ≡ end_code ended 2 line) where
+    number-is : codes_in (w ∷ y ∷ e ∷ []) ≡ line_codes word number ended line
+    unfolding field_codes
+    number-is =
+        let v = word-is in
+        let u : code_in y ≡ field_code 0 most (field line 1) = rw m (err-code 0 most (field line 1) x (rw g at n)) in
+        λ i. v i ∷ u i ∷ l i ∷ []
 
-pub number_is : (line : List ℕ) {second : List ℕ} → second ≡ field line 1 → {x : Ranged} → x ≡ ranged_read 0 most second → x.value ≡ (ranged_read 0 most (field line 1)).value
-number_is line g n = ap (λ (x : Ranged). x.value) n ∙ ap (λ (s : List ℕ). (ranged_read 0 most s).value) g
+    pub one-is : {r : Fault} → r ≡ fault_of line (codes_in (w ∷ y ∷ e ∷ [])) → r ≡ fault_of line (line_codes word number ended line)
+    one-is r = r ∙ ap (fault_of line) number-is
 
-module _ (fault : Fault) (asked : DeskLine) where
-  pub unless-no : fault.code ≢ 0 → refused_by fault.code fault.column ≡ unless_fault fault refused_by asked
-  unless-no n = rw (ne_eqb fault.code 0 n)
+    -- where it has no fault, the number is there
+    pub number-there : record { code = 0; column = 0 } ≡ fault_of line (codes_in (w ∷ y ∷ e ∷ [])) → IsOk x
+    unfolding field_codes
+    number-there r =
+        let all : all_of (eqb 0) (line_codes word number ended line) ≡ true = ap (all_of (eqb 0)) (sym number-is) ∙ right-codes line (w ∷ y ∷ e ∷ []) r in
+        ok-there 0 most (field line 1) x (rw g at n) (zero-at (line_codes word number ended line) all 1 (omega arith))
 
-  pub unless-yes : fault.code ≡ 0 → asked ≡ unless_fault fault refused_by asked
-  unless-yes z = rw (eq-eqb fault.code 0 z)
+pub number_is :
+    (line : List ℕ) {second : List ℕ} → second ≡ field line 1 → (x : Result ℕ FieldFault) → ranged_in x ≡ ranged_read 0 most second
+    → {n : ℕ} → x ≡ Ok n → n ≡ value_of (field line 1)
+number_is line g x n e = ok-value 0 most (field line 1) x (rw g at n) e
 
--- the number of a faultless line is what its field says
-module _ (ended : Bool) (line word : List ℕ) where
-  number-kinds : all_of is_code (line_codes word number ended line) ≡ true
-  unfolding field_codes all_of
-  number-kinds = and-of (word-is-code word (field line 0)) (and-of (field-is-code 0 most (field line 1)) (and-of (end-is-code ended 2 line) refl))
-
-  number-zero : all_of (eqb 0) (line_codes word number ended line) ≡ true → field_code 0 most (field line 1) ≡ 0
-  unfolding field_codes
-  number-zero all = zero-at (line_codes word number ended line) all 1 (omega arith)
-
-  asks-number :
-      (asked : ℕ → DeskLine) {fault : Fault} → fault ≡ fault_of line (line_codes word number ended line) → {n : ℕ} → n ≡ (ranged_read 0 most (field line 1)).value
-      → unless_fault fault refused_by (asked n) ≡ unless_fault (fault_of line (line_codes word number ended line)) refused_by (asked (value_of (field line 1)))
-  asks-number asked f m =
-      rw f
-      (by_bool (eqb (fault_of line (line_codes word number ended line)).code 0)
-      (λ z.
-      let v = ranged-value 0 most (field line 1) refl (number-zero (no-fault line (line_codes word number ended line) number-kinds z)) in
-      rw z (ap asked (m ∙ v)))
-      (λ z. rw z))
+-- the refusal of a faulty line
+pub unless-no : (kind : FieldFault) (column : ℕ) (asked : DeskLine) → refused_by (fault_number kind) column ≡ unless_fault (record { code = fault_number kind; column = column }) refused_by asked
+unless-no kind column asked = rw (number-some kind)
 
 -- ---- the word
 
@@ -107,17 +99,17 @@ module _ (ended : Bool) (line : List ℕ) {r : DeskLine} where
 
       module _ (d : same (field line 0) (bytes "now") ≡ false) where
         pub drive-word :
-            same (field line 0) (bytes "drive") ≡ true → {fault : Fault} → fault ≡ fault_of line (line_codes (bytes "drive") number ended line) → {n : ℕ} → n ≡ (ranged_read 0 most (field line 1)).value
-            → r ≡ unless_fault fault refused_by (Drive n) → r ≡ word_asked ended line
+            same (field line 0) (bytes "drive") ≡ true → {fault : Fault} → fault ≡ fault_of line (line_codes (bytes "drive") number ended line)
+            → r ≡ unless_fault fault refused_by (Drive (value_of (field line 1))) → r ≡ word_asked ended line
         unfolding word_asked
-        drive-word t f m e = rw (a, b, d, t) (e ∙ asks-number ended line (bytes "drive") Drive f m)
+        drive-word t f e = rw (a, b, d, t) (e ∙ ap (λ (x : Fault). unless_fault x refused_by (Drive (value_of (field line 1)))) f)
 
         module _ (g : same (field line 0) (bytes "drive") ≡ false) where
           pub why-word :
-              same (field line 0) (bytes "why") ≡ true → {fault : Fault} → fault ≡ fault_of line (line_codes (bytes "why") number ended line) → {n : ℕ} → n ≡ (ranged_read 0 most (field line 1)).value
-              → r ≡ unless_fault fault refused_by (Why n) → r ≡ word_asked ended line
+              same (field line 0) (bytes "why") ≡ true → {fault : Fault} → fault ≡ fault_of line (line_codes (bytes "why") number ended line)
+              → r ≡ unless_fault fault refused_by (Why (value_of (field line 1))) → r ≡ word_asked ended line
           unfolding word_asked
-          why-word t f m e = rw (a, b, d, g, t) (e ∙ asks-number ended line (bytes "why") Why f m)
+          why-word t f e = rw (a, b, d, g, t) (e ∙ ap (λ (x : Fault). unless_fault x refused_by (Why (value_of (field line 1)))) f)
 
           pub other_word : same (field line 0) (bytes "why") ≡ false → {entry : Entry} → entry ≡ entry_of ended line → r ≡ Step entry → r ≡ word_asked ended line
           unfolding word_asked
@@ -131,15 +123,15 @@ module _ (free ended : Bool) (line : List ℕ) where
   asked-long h e = rw (lt-ltb 64 (length line) h) e
 
   module _ (short : length line ≤ 64) {r : DeskLine} where
-    pub asked-bound : not free ≡ true → r ≡ word_asked ended line → r ≡ asked_of free ended line
+    pub asked-bound : free ≡ false → r ≡ word_asked ended line → r ≡ asked_of free ended line
     unfolding asked_of
-    asked-bound n e = rw (le-ltb 64 (length line) short, not-true free n) e
+    asked-bound n e = rw (le-ltb 64 (length line) short, n) e
 
     pub asked-free :
-        not free ≡ false → {choice : Choice} {otherwise : DeskLine} → choice ≡ choice_in ended line → otherwise ≡ word_asked ended line
+        free ≡ true → {choice : Choice} {otherwise : DeskLine} → choice ≡ choice_in ended line → otherwise ≡ word_asked ended line
         → r ≡ choice_asked choice otherwise → r ≡ asked_of free ended line
     unfolding asked_of
-    asked-free n k o e = rw (le-ltb 64 (length line) short, not-false free n) (e ∙ (λ i. choice_asked (k i) (o i)))
+    asked-free n k o e = rw (le-ltb 64 (length line) short, n) (e ∙ (λ i. choice_asked (k i) (o i)))
 
 -- ---- a refused line names a column that an answer can say
 

@@ -1,5 +1,6 @@
 -- What a line typed at the desk asks, refusals too, and that a reader's answer asks the same: nothing is lost on the way.
 use Rattle.std.specs.Prelude.{ℕ, Result, Ok, Err}
+use Rattle.text_fields.specs.Said.{fault_number}
 use Rattle.text_fields.specs.declared.Fault.{Fault}
 use Rattle.log_read.specs.Said.{Entry, said}
 use Rattle.log_read.specs.Said.Entry.{Refused}
@@ -25,4 +26,4 @@ asked (Ok read.Exact) = Exact
 asked (Ok read.Now) = Now
 asked (Ok (read.Drive drive)) = Drive drive
 asked (Ok (read.Why task)) = Why task
-asked (Err fault) = Step (Refused fault.code fault.column)
+asked (Err fault) = Step (Refused (fault_number fault.kind) fault.column)

@@ -1,10 +1,11 @@
 // A line that is typed at the desk: what it asks, or its fault.
 #![tactic(auto)]
 
-ghost use Rattle.std.specs.Prelude.{◌≡◌, ◌≢◌, [], ◌∷◌, MatchResult};
-ghost use Rattle.text.specs.Number.{most};
+ghost use Rattle.std.specs.Prelude.{◌≡◌, [], ◌∷◌, IfOk};
+ghost use Rattle.text.specs.Number.{value_of, most};
 ghost use Rattle.text.specs.Line.{field};
-ghost use Rattle.text_fields.specs.Faults.{field_code, ranged_read, line_codes, fault_of};
+ghost use Rattle.text_fields.specs.Faults.{field_code, line_codes, fault_of};
+ghost use Rattle.text_fields.specs.Said.{fault_in};
 ghost use Rattle.desk_read.specs.Asked.{asked};
 ghost use Rattle.desk_read.specs.Lines.{word_asked, asked_of};
 
@@ -12,8 +13,8 @@ use log_read::rules::read_choice;
 use log_read::{Choice, Entry, read_entry};
 use text::decimal::NUMBER_MOST;
 use text::part::{field, same};
-use text_fields::Fault;
-use text_fields::faults::{end_code, fault_of, read_ranged, word_code};
+use text_fields::faults::{check_line, end_fault, read_ranged, word_fault};
+use text_fields::{Fault, FieldFault};
 
 // A line has no more bytes before its LF.
 pub const TYPED_MOST: usize = 64;
@@ -30,36 +31,30 @@ pub enum DeskLine {
     Why(u32),
 }
 
-// A line that is a word alone.
-fn read_word<'a>(line: &'a [u8], word: &'a [u8], ended: bool) -> Result<(), Fault>
-    ensures { MatchResult result (λ done. (fault_of line.now (line_codes word.now [] ended line.now)).code ≡ 0) (λ fault. (fault.code ≢ 0) × (fault ≡ fault_of line.now (line_codes word.now [] ended line.now))) }
+// A line that is a word alone. `ended`: whether it had its LF, a fact handed on.
+fn read_word(line: &[u8], word: &[u8], ended: bool) -> Result<(), Fault>
+    ensures { fault_in result ≡ fault_of line.now (line_codes word.now [] ended line.now) }
 {
-    let codes = [word_code(field(line, 0), word), end_code(line, 1, ended)];
-    let fault = fault_of(line, &codes);
-    if fault.code != 0 {
-        return Err(fault);
-    }
-    Ok(())
+    let faults = [word_fault(field(line, 0), word), end_fault(line, 1, ended)];
+    check_line(line, &faults)
 }
 
-// The number of a line that is a word and a number.
-fn read_number<'a>(line: &'a [u8], word: &'a [u8], ended: bool) -> Result<u32, Fault>
-    ensures { MatchResult result (λ n. ((fault_of line.now (line_codes word.now (field_code 0 most ∷ []) ended line.now)).code ≡ 0) × (n ≡ (ranged_read 0 most (field line.now 1)).value)) (λ fault. (fault.code ≢ 0) × (fault ≡ fault_of line.now (line_codes word.now (field_code 0 most ∷ []) ended line.now))) }
+// The number of a line that is a word and a number. `ended` as above.
+fn read_number(line: &[u8], word: &[u8], ended: bool) -> Result<u32, Fault>
+    ensures fault { fault_in result ≡ fault_of line.now (line_codes word.now (field_code 0 most ∷ []) ended line.now) }
+    ensures number { IfOk result (λ n. n ≡ value_of (field line.now 1)) }
 {
     let number = read_ranged(field(line, 1), 0, NUMBER_MOST);
-    let codes = [
-        word_code(field(line, 0), word),
-        number.code,
-        end_code(line, 2, ended),
+    let faults = [
+        word_fault(field(line, 0), word),
+        number.err(),
+        end_fault(line, 2, ended),
     ];
-    let fault = fault_of(line, &codes);
-    if fault.code != 0 {
-        return Err(fault);
-    }
-    Ok(number.value)
+    check_line(line, &faults)?;
+    Ok(number.unwrap())
 }
 
-// By its word; any other is an `end` or a `drop` line.
+// By its word; any other is an `end` or a `drop` line. `ended` as above.
 fn by_word(line: &[u8], ended: bool) -> Result<DeskLine, Fault>
     ensures { asked result ≡ word_asked ended line.now }
 {
@@ -94,7 +89,7 @@ pub fn read_asked(line: &[u8], ended: bool, free: bool) -> Result<DeskLine, Faul
 {
     if TYPED_MOST < line.len() {
         return Err(Fault {
-            code: 3,
+            kind: FieldFault::Misspelt,
             column: TYPED_MOST + 1,
         });
     }
@@ -104,6 +99,9 @@ pub fn read_asked(line: &[u8], ended: bool, free: bool) -> Result<DeskLine, Faul
     match read_choice(line, ended) {
         Ok(Choice::Unsaid) => by_word(line, ended),
         Ok(Choice::Chosen) => Ok(DeskLine::Rule),
-        Err(column) => Err(Fault { code: 3, column }),
+        Err(column) => Err(Fault {
+            kind: FieldFault::Misspelt,
+            column,
+        }),
     }
 }

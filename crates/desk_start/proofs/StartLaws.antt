@@ -140,9 +140,6 @@ module _ (book : Book) (s : List ℕ) where
         more ∙ walk_turn (length s) book s (λ z. omega arith) t
         ∙ fuel (length s) (length (after LF s)) (next_book book s) (after LF s) (omega (arith, line-used s t)) (omega arith)
 
-pub walked-less : (rest : List ℕ) → entry_code (next_entry rest) ≡ 0 → {next : List ℕ} → next ≡ after LF rest → length next < length rest
-walked-less rest z u = rw u (omega (arith, line-used rest z))
-
 -- what the code has: an entry and the book after it
 module _ (book : Book) (rest : List ℕ) {whole : EndsResult} (w : walk_in book rest ≡ whole) where
   pub walked_end : length rest ≤ 0 → going book ≡ whole

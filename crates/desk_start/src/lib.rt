@@ -42,7 +42,7 @@ pub struct DeskOpening {
     pub morning: Morning,
 }
 
-// The place after the last LF.
+// The place after the last LF. By index: what the library says of `rposition` is a run, and not that its place is the last.
 fn lines_end(ends: &[u8]) -> usize
     ensures { result ≡ line_end ends.now (length ends.now) }
 {
@@ -79,17 +79,15 @@ fn take(book: &mut Book, entry: Entry)
     }
 }
 
-// Line by line, up to one that is refused by itself. Not a `for`: the rest gets shorter by a line of any length.
+// Line by line, up to one that is refused by itself.
 fn walk(mut book: Book, text: &[u8]) -> EndsResult
     ensures { result ≡ walk_from (length text.now) book text.now }
 {
-    let mut rest = text;
-    while 0 < rest.len() {
-        let Ok(entry) = next_entry(rest) else {
+    for line in text.split_inclusive(|byte| *byte == LF) {
+        let Ok(entry) = next_entry(line) else {
             return EndsResult { stops: true, book };
         };
         take(&mut book, entry);
-        rest = part_after(rest, LF);
     }
     EndsResult { stops: false, book }
 }
@@ -114,6 +112,7 @@ fn walk_text(plan: Plan, text: &[u8]) -> EndsResult
     }
 }
 
+// From here on the plan's code and the stop in ends.txt are one `Way`.
 fn way_of(code: u32, stops: bool) -> Way
     ensures { result ≡ way_of code stops }
 {

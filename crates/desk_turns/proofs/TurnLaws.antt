@@ -2,12 +2,12 @@
 use Prim.Native.Nat.{ℕ, ◌+◌, ◌-◌, ◌≤◌, ◌<◌}
 use mathlib.Core.Path.{◌≡◌, sym, ap, subst, ◌∙◌}
 use mathlib.Core.Logic.{◌≢◌}
-use mathlib.Core.Bool.{Bool, true, false, not}
+use mathlib.Core.Bool.{Bool, true, false}
 use mathlib.Core.List.{List}
 use native.Mathlib.Omega.{arith}
 use lib.Dec.{leb, eqb}
 use lib.ListN.{length}
-use borrow.Author.Tests.{eq-eqb, ne_eqb, le-leb, lt-leb, leb-true, not-true, not-false}
+use borrow.Author.Tests.{eq-eqb, ne_eqb, le-leb, lt-leb, leb-true}
 use Rattle.laws.proofs.Cases.{by_le, by-eq}
 use Rattle.std.specs.Prelude.{Result, Ok}
 use Rattle.text_fields.specs.declared.Fault.{Fault}
@@ -52,8 +52,8 @@ module _ (kept size : ℕ) where
       (λ l. le-leb kept (32768 - 1 - size) l ∙ sym (le-leb (kept + size + 1) 32768 (omega arith)))
       (λ l. lt-leb kept (32768 - 1 - size) l ∙ sym (lt-leb (kept + size + 1) 32768 (omega arith)))
 
-  pub room-is : {room : Bool} → room ≡ leb (kept + size + 1) 32768 → not room ≡ false → kept + size + 1 ≤ 32768
-  room-is {room} e n = leb-true (kept + size + 1) 32768 (sym e ∙ not-false room n)
+  pub room-is : {room : Bool} → room ≡ leb (kept + size + 1) 32768 → room ≡ true → kept + size + 1 ≤ 32768
+  room-is {room} e n = leb-true (kept + size + 1) 32768 (sym e ∙ n)
 
 -- ---- what is said, taken, or refused for want of room
 
@@ -91,11 +91,11 @@ module _ {out m : List ℕ} where
 module _ (morning : Morning) (size : ℕ) (answer : Answer) (book : Book) (text : List ℕ)
     {room : Bool} (e : room ≡ leb (morning.kept + size + 1) 32768) {out m : List ℕ} {r : Turn} where
   pub took-room :
-      not room ≡ false → {a : Answer} {b : Book} {n : ℕ} → a ≡ answer → b ≡ book → Answered out text m n → r ≡ taken_or morning a b size n
+      room ≡ true → {a : Answer} {b : Book} {n : ℕ} → a ≡ answer → b ≡ book → Answered out text m n → r ≡ taken_or morning a b size n
       → Took out (taking morning size answer book text) m r
   unfolding taking taken_or
   took-room f {a} {b} {n} p q w t =
-      let l : leb (morning.kept + size + 1) 32768 ≡ true = sym e ∙ not-false room f in
+      let l : leb (morning.kept + size + 1) 32768 ≡ true = sym e ∙ f in
       by-eq answer.code 0
       (λ z.
       let z' : a.code ≡ 0 = ap (λ (x : Answer). x.code) p ∙ z in
@@ -117,11 +117,11 @@ module _ (morning : Morning) (size : ℕ) (answer : Answer) (book : Book) (text 
       rw (ne_eqb answer.code 0 z) (said-took t' w))
 
   pub took-full :
-      not room ≡ true → {a : Answer} → a ≡ answer → (answer.code ≢ 0 → text ≡ refused_line answer)
+      room ≡ false → {a : Answer} → a ≡ answer → (answer.code ≢ 0 → text ≡ refused_line answer)
       → Took out (saying morning (refused_line (full_answer a))) m r → Took out (taking morning size answer book text) m r
   unfolding taking
   took-full f {a} p h t =
-      let l : leb (morning.kept + size + 1) 32768 ≡ false = sym e ∙ not-true room f in
+      let l : leb (morning.kept + size + 1) 32768 ≡ false = sym e ∙ f in
       let t' : Took out (saying morning (refused_line (full_answer answer))) m r = rw p at t in
       by-eq answer.code 0
       (λ z. rw (eq-eqb answer.code 0 z, l) (rw (eq-eqb answer.code 0 z) at t'))
@@ -143,14 +143,14 @@ opening-refused plan n = rw (ne_eqb (opening_of plan Clash).answer.code 0 n)
 module _ (morning : Morning) (size : ℕ) {room : Bool} (e : room ≡ leb (morning.kept + size + 1) 32768)
     {out m : List ℕ} {r : Turn} where
   pub entry-full :
-      (n : ℕ) (entry : Entry) → not room ≡ true → {told : StepOutcome} → told ≡ told_of n morning.book entry
+      (n : ℕ) (entry : Entry) → room ≡ false → {told : StepOutcome} → told ≡ told_of n morning.book entry
       → Took out (saying morning (refused_line (full_answer told.answer))) m r → Took out (entry_turn morning n size entry) m r
   entry-full n entry f p t =
       took-full morning size (told_of n morning.book entry).answer (told_of n morning.book entry).book (entry_log n morning.book entry) e f
       (ap (λ (x : StepOutcome). x.answer) p) (entry-refused n morning.book entry) t
 
   pub entry-took :
-      (n : ℕ) (entry : Entry) → not room ≡ false → {l : LogResult}
+      (n : ℕ) (entry : Entry) → room ≡ true → {l : LogResult}
       → (l ≡ logged_of n morning.book entry) × Answered out (entry_log n morning.book entry) m l.length
       → r ≡ taken_or morning l.answer l.book size l.length → Took out (entry_turn morning n size entry) m r
   unfolding logged_of
@@ -160,7 +160,7 @@ module _ (morning : Morning) (size : ℕ) {room : Bool} (e : room ≡ leb (morni
 
   module _ {plan : Plan} (k : plan ≡ plan_in morning.book) where
     pub rule-full :
-        {h : BookResult} → not room ≡ true → h ≡ opening_of plan Clash → Took out (saying morning (refused_line (full_answer h.answer))) m r
+        {h : BookResult} → room ≡ false → h ≡ opening_of plan Clash → Took out (saying morning (refused_line (full_answer h.answer))) m r
         → Took out (rule_turn morning size) m r
     rule-full f q t =
         let q' = q ∙ ap (λ (x : Plan). opening_of x Clash) k in
@@ -168,7 +168,7 @@ module _ (morning : Morning) (size : ℕ) {room : Bool} (e : room ≡ leb (morni
         (opening_log (plan_in morning.book) Clash) e f (ap (λ (x : BookResult). x.answer) q') (opening-refused (plan_in morning.book)) t
 
     pub rule-took :
-        not room ≡ false → {l : LogResult} → (l ≡ opening_logged plan Clash) × Answered out (opening_log plan Clash) m l.length
+        room ≡ true → {l : LogResult} → (l ≡ opening_logged plan Clash) × Answered out (opening_log plan Clash) m l.length
         → r ≡ taken_or morning l.answer l.book size l.length → Took out (rule_turn morning size) m r
     unfolding opening_logged
     rule-took f {l} w t =

@@ -20,12 +20,12 @@ use log_run::answers::{log_entry, log_opening};
 use log_run::told::tell_entry;
 use log_run::{LogResult, StepOutcome};
 use log_write::ANSWER_MOST;
-use plan::{Answer, Plan, refuse};
+use plan::{Answer, Plan, Refusal};
 use text::TEXT_MOST;
 use text_fields::Fault;
 
 // The book, and how many bytes ends.txt has.
-#[derive(Drop)]
+#[derive(Clone, Copy)]
 pub struct Morning {
     pub book: Book,
     pub kept: usize,
@@ -49,8 +49,8 @@ fn has_room(kept: usize, length: usize) -> bool
     kept <= TEXT_MOST - 1 - length
 }
 
-// A question or a refusal changes nothing.
-fn said(morning: Morning, length: usize) -> Turn
+// A question or a refusal changes nothing. The length comes first: the answer is written from the morning's book.
+fn said(length: usize, morning: Morning) -> Turn
     ensures { result ≡ unmoved morning length }
 {
     Turn {
@@ -66,7 +66,7 @@ fn taken(morning: Morning, answer: Answer, book: Book, size: usize, length: usiz
     ensures { result ≡ taken_or morning answer book size length }
 {
     if answer.code != 0 {
-        return said(morning, length);
+        return said(length, morning);
     }
     let kept = morning.kept + size + 1;
     let after = Morning { book, kept };
@@ -82,9 +82,12 @@ fn full(morning: Morning, answer: Answer, out: &mut [u8; ANSWER_MOST]) -> Turn
     ensures { Took out.old (saying morning (refused_line (full_answer answer))) out.new result }
 {
     if answer.code != 0 {
-        return said(morning, answer_refused(answer, out));
+        return said(answer_refused(answer, out), morning);
     }
-    said(morning, answer_refused(refuse(1, 0, 0), out))
+    said(
+        answer_refused(Refusal::TextTooLong.answer(0, 0), out),
+        morning,
+    )
 }
 
 // Line `number`, of so many bytes, as one of ends.txt.
@@ -168,26 +171,11 @@ pub fn take_line(
     match read_asked(line, ended, morning.kept == 0) {
         Ok(DeskLine::Step(entry)) => take_entry(morning, number, line.len(), Ok(entry), out),
         Ok(DeskLine::Rule) => take_rule(morning, line.len(), out),
-        Ok(DeskLine::Early) => {
-            let length = answer_early(&morning.book, out);
-            said(morning, length)
-        }
-        Ok(DeskLine::Exact) => {
-            let length = answer_exact(&morning.book, out);
-            said(morning, length)
-        }
-        Ok(DeskLine::Now) => {
-            let length = answer_now(&morning.book, out);
-            said(morning, length)
-        }
-        Ok(DeskLine::Drive(drive)) => {
-            let length = answer_drive(&morning.book, drive, out);
-            said(morning, length)
-        }
-        Ok(DeskLine::Why(task)) => {
-            let length = answer_why(&morning.book, task, out);
-            said(morning, length)
-        }
+        Ok(DeskLine::Early) => said(answer_early(&morning.book, out), morning),
+        Ok(DeskLine::Exact) => said(answer_exact(&morning.book, out), morning),
+        Ok(DeskLine::Now) => said(answer_now(&morning.book, out), morning),
+        Ok(DeskLine::Drive(drive)) => said(answer_drive(&morning.book, drive, out), morning),
+        Ok(DeskLine::Why(task)) => said(answer_why(&morning.book, task, out), morning),
         Err(fault) => take_entry(morning, number, line.len(), Err(fault), out),
     }
 }

@@ -8,13 +8,12 @@ use mathlib.Core.Logic.{◌≢◌}
 use mathlib.Core.Path.{◌≡◌, refl, sym, ◌∙◌}
 use lib.Dec.{eqb}
 use borrow.Author.Tests.{eq-eqb, ne_eqb}
-use Rattle.laws.proofs.Cases.{by-eq}
 use Rattle.theory.specs.Times.{lowest}
-use Rattle.plan.specs.Answer.{refuse, granted}
+use Rattle.plan.specs.Answer.{refuse, granted, as_result}
 use Rattle.plan.specs.declared.Answer.{Answer}
 use Rattle.book_view.specs.Faults.{task_fault}
 use Rattle.laws.specs.Private.Nonzero.{nonzero}
-use Rattle.engine.specs.Codes.{lengths_answer, unless_refused}
+use Rattle.engine.specs.Codes.{lengths_answer}
 
 -- a task's test, where it is dropped and where it is not
 pub dropped-bad : (dropped : ℕ) (b : Bool) → dropped ≡ 1 → (not (eqb dropped 1) && b) ≡ false
@@ -72,9 +71,10 @@ nonzero-none (suc n) e = cc
 -- the first that is found is said, of as many tasks as there are places
 module _ (bad : ℕ → ℕ → Bool) (idle : ℕ → Bool) {n tasks : ℕ} (e : n ≡ tasks) where
   abbrev Says : Result (Unit {0}) Answer → Type 0
-  Says r = r ≡ unless_refused (lengths_answer tasks (bad tasks) idle)
+  Says r = r ≡ as_result (lengths_answer tasks (bad tasks) idle)
 
   pub said-bad : {k : ℕ} → Some k ≡ nonzero (lowest n (bad n)) → {a : Answer} → a ≡ refuse 22 k 0 → Says (Err a)
+  unfolding as_result
   said-bad {k} b is =
       let f = nonzero-some (lowest tasks (bad tasks)) (rw e at b) in
       rw (is, lengths-bad tasks (bad tasks) idle f.0 f.1)
@@ -84,24 +84,11 @@ module _ (bad : ℕ → ℕ → Bool) (idle : ℕ → Bool) {n tasks : ℕ} (e :
     none = nonzero-none (lowest tasks (bad tasks)) (rw e at b)
 
     pub said-idle : {k : ℕ} → Some k ≡ nonzero (lowest n idle) → {a : Answer} → a ≡ refuse 19 k 0 → Says (Err a)
+    unfolding as_result
     said-idle {k} d is =
         let f = nonzero-some (lowest tasks idle) (rw e at d) in
         rw (is, lengths-idle tasks (bad tasks) idle none f.0 f.1)
 
     pub said-none : None ≡ nonzero (lowest n idle) → Says (Ok tt)
+    unfolding as_result
     said-none d = rw (lengths_none tasks (bad tasks) idle none (nonzero-none (lowest tasks idle) (rw e at d)))
-
--- an answer by the result that it gives
-pub err-is : (answer : Answer) {e : Answer} → Err e ≡ unless_refused answer → (e ≡ answer) × (e.code ≢ 0)
-err-is answer {e} h =
-    by-eq answer.code 0
-    (λ z. let q : ◌≡◌ {A = Result (Unit {0}) Answer} (Err e) (Ok tt) = rw (eq-eqb answer.code 0 z) at h in cc)
-    (λ ne.
-    let q : ◌≡◌ {A = Result (Unit {0}) Answer} (Err e) (Err answer) = rw (ne_eqb answer.code 0 ne) at h in
-    let same : e ≡ answer = cc in
-    (same, rw same ne))
-
-pub ok-is : (answer : Answer) {u : Unit {0}} → Ok u ≡ unless_refused answer → answer.code ≡ 0
-ok-is answer {u} h =
-    by-eq answer.code 0 (λ z. z)
-    (λ ne. let q : ◌≡◌ {A = Result (Unit {0}) Answer} (Ok u) (Err answer) = rw (ne_eqb answer.code 0 ne) at h in cc)

@@ -7,7 +7,7 @@ use mathlib.Core.Bool.{Bool, true, not, cond, ◌&&◌, and-true}
 use mathlib.Core.List.{List, []}
 use lib.Dec.{eqb}
 use Rattle.std.specs.Prelude.{Ok, Err}
-use borrow.Author.Tests.{eq-eqb, ne_eqb, ltb-true}
+use borrow.Author.Tests.{eq-eqb, ne_eqb, eqb-true, ltb-true}
 use Rattle.laws.proofs.Cases.{by_bool, by-eq, true-false, and-of, and_l}
 use Rattle.laws.specs.Bits.{has, set_of}
 use Rattle.laws.proofs.Bits.{has-set, has-below, has-none, set-none}
@@ -23,9 +23,11 @@ use Rattle.theory.proofs.Solved.{solves}
 use Rattle.theory.proofs.Bounds.{end_by}
 use Rattle.theory.proofs.TimesAlike.{start-time-alike, end-time-alike}
 use Rattle.theory.proofs.Refused.{fits-of}
-use Rattle.engine.specs.Codes.{lengths_answer, unless_refused}
-use Rattle.engine.proofs.LengthLaws.{lengths-bad, lengths-idle, lengths_none, lengths-same, err-is, ok-is}
-use Rattle.plan.specs.Answer.{refuse}
+use Rattle.engine.specs.Codes.{lengths_answer}
+use Rattle.engine.proofs.LengthLaws.{lengths-bad, lengths-idle, lengths_none, lengths-same}
+use Rattle.plan.proofs.ResultLaws.{is-granted, is-refused, its-refusal}
+use Rattle.std.proofs.lemmas.Bool.{eqb-false}
+use Rattle.plan.specs.Answer.{refuse, is_granted, as_result}
 use Rattle.plan.specs.Value.{at, is_accepted}
 use Rattle.plan.specs.declared.Answer.{Answer}
 use Rattle.plan.specs.declared.Plan.{Plan}
@@ -186,16 +188,18 @@ module _ (plan : Plan) (rule : Rule) (given : Lengths) where
       abbrev said : Answer
       said = lengths_answer (min plan.tasks 64) (bad_length (plan_seen (min plan.tasks 64) [] plan.begin plan.finish []) lasts gone) (λ i. eqb (gone i) 1 && eqb (at sets i) 0)
 
-      pub refused-lengths : {e : Answer} → Err e ≡ unless_refused said → {r : Timetable} → r ≡ zero_timetable e → r ≡ timetable_of plan rule given
-      refused-lengths w = let f = err-is said w in refused-by f.0 f.1
+      pub refused-lengths : {e : Answer} → Err e ≡ as_result said → {r : Timetable} → r ≡ zero_timetable e → r ≡ timetable_of plan rule given
+      refused-lengths w =
+          let same = its-refusal said w in
+          refused-by same (eqb-false _ 0 (ap is_granted same ∙ is-refused said w))
 
-      module _ {u : Unit {0}} (fine : Ok u ≡ unless_refused said) where
+      module _ {u : Unit {0}} (fine : Ok u ≡ as_result said) where
         pub solvable : Solvable plan.tasks plan.ready sets given.length given.dropped
-        solvable = solvable-by {answer = said} refl (ok-is said fine)
+        solvable = solvable-by {answer = said} refl (eqb-true _ 0 (is-granted said fine))
 
         pub filled :
             {answer : Answer} → answer ≡ refuse 0 0 0
             → {start end : List ℕ} → start ≡ laid plan.tasks (start_time (plan_timed plan.tasks plan.ready sets) lasts gone)
             → end ≡ laid plan.tasks (end_time (plan_timed plan.tasks plan.ready sets) lasts gone)
             → ◌≡◌ {A = Timetable} (record { answer = answer; start = start; end = end }) (timetable_of plan rule given)
-        filled a s e = rw a (filled-by {answer = said} refl (ok-is said fine) s e)
+        filled a s e = rw a (filled-by {answer = said} refl (eqb-true _ 0 (is-granted said fine)) s e)

@@ -8,6 +8,7 @@ ghost use Rattle.engine.specs.Private.Worked.{plan_timed, FreeTask, Solvable};
 use crate::Lengths;
 use book_view::{bit_of, is_in, latest_end};
 
+// As the C struct `Timetable` has them.
 #[derive(Drop)]
 pub(crate) struct Times {
     pub start: [u32; 64],
@@ -28,7 +29,7 @@ fn free_task(waits: &[u64; 64], done: u64, tasks: usize) -> Option<usize>
     None
 }
 
-// A dropped task's ready tick is ignored.
+// A dropped task's ready tick is ignored. `dropped` is a byte of the C interface, which may be any.
 fn start_at(dropped: u8, ready: u32, due: u32) -> u32
     ensures { result ≡ cond (eqb dropped 1) due (max ready due) }
 {

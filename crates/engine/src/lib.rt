@@ -6,16 +6,17 @@ mod fill;
 
 ghost use Rattle.std.specs.Prelude.{◌≡◌, not, ◌&&◌, [], ◌-◌, ◌≤◌, min, leb, eqb};
 ghost use Rattle.theory.specs.Times.{lowest, bad_length};
+ghost use Rattle.plan.specs.Answer.{as_result};
 ghost use Rattle.plan.specs.Value.{at};
 ghost use Rattle.book_view.specs.View.{plan_seen};
 ghost use Rattle.laws.specs.Private.Nonzero.{nonzero};
-ghost use Rattle.engine.specs.Codes.{lengths_answer, unless_refused};
+ghost use Rattle.engine.specs.Codes.{lengths_answer};
 ghost use Rattle.engine.specs.Timetable.{timetable_of, zero_timetable};
 
 use book::{Rule, number_of};
 use book_waits::wait_sets;
 use fill::{Times, work_all};
-use plan::{Answer, Plan, few, refuse};
+use plan::{Answer, Plan, Refusal, few, granted};
 
 fn is_outside(begin: u32, finish: u32, length: u32) -> bool
     ensures { result ≡ not (leb 1 length && leb length (finish - begin)) }
@@ -51,14 +52,14 @@ fn idle_drop(waits: &[u64; 64], dropped: &[u8; 64], tasks: usize) -> Option<u32>
 
 // 22 before 19.
 pub fn length_answer(plan: &Plan, waits: &[u64; 64], given: &Lengths) -> Result<(), Answer>
-    ensures { result ≡ unless_refused (lengths_answer (min plan.now.tasks 64) (bad_length (plan_seen (min plan.now.tasks 64) [] plan.now.begin plan.now.finish []) (at given.now.length) (at given.now.dropped)) (λ i. eqb (at given.now.dropped i) 1 && eqb (at waits.now i) 0)) }
+    ensures { result ≡ as_result (lengths_answer (min plan.now.tasks 64) (bad_length (plan_seen (min plan.now.tasks 64) [] plan.now.begin plan.now.finish []) (at given.now.length) (at given.now.dropped)) (λ i. eqb (at given.now.dropped i) 1 && eqb (at waits.now i) 0)) }
 {
     let n = usize::from(few(plan.tasks));
     if let Some(task) = bad_length(plan, given, n) {
-        return Err(refuse(22, task, 0));
+        return Err(Refusal::NotItsLength.answer(task, 0));
     }
     if let Some(task) = idle_drop(waits, &given.dropped, n) {
-        return Err(refuse(19, task, 0));
+        return Err(Refusal::KnownOrDropped.answer(task, 0));
     }
     Ok(())
 }
@@ -93,14 +94,14 @@ pub fn work_out(plan: Plan, rule: Rule, given: Lengths) -> Timetable
     ensures { result ≡ timetable_of plan rule given }
 {
     let Some(waits) = wait_sets(number_of(rule), &plan.view()) else {
-        return refused(refuse(9, 0, 0));
+        return refused(Refusal::Unsound.answer(0, 0));
     };
     if let Err(refusal) = length_answer(&plan, &waits, &given) {
         return refused(refusal);
     }
     let Times { start, end } = work_all(&plan.ready, &waits, &given, usize::from(plan.tasks));
     Timetable {
-        answer: refuse(0, 0, 0),
+        answer: granted(),
         start,
         end,
     }

@@ -14,8 +14,7 @@ use Rattle.laws.specs.Split.{index_of, before}
 use Rattle.text.specs.Bytes.{bytes}
 use Rattle.text.specs.Line.{LF, has_line, field}
 use Rattle.text.specs.Number.{value_of}
-use Rattle.text_fields.specs.Faults.{field_codes, fault_of, unless_fault}
-use Rattle.text_fields.specs.declared.Fault.{Fault}
+use Rattle.text_fields.specs.Faults.{Fault, field_codes, fault_of, unless_fault}
 use Rattle.text_fields.proofs.FaultLaws.{zero-at, column-most}
 use Rattle.text_fields.proofs.UnlessLaws.{no-fault}
 use Rattle.plan.specs.Answer.{granted}

@@ -1,18 +1,20 @@
 -- The task field: its code, its value, and what a code of 0 says.
 use Prim.Native.Nat.{ℕ, ◌≤◌}
 use mathlib.Core.Path.{◌≡◌, refl, sym, ap, ◌∙◌}
-use mathlib.Core.Logic.{◌≢◌}
 use mathlib.Core.Bool.{Bool, true, false, ◌&&◌}
 use mathlib.Core.List.{List}
 use native.Mathlib.Omega.{arith}
 use lib.Dec.{eqb}
 use borrow.Author.Tests.{eq-eqb, ne_eqb}
-use Rattle.laws.proofs.Cases.{by_bool, by-eq, and_no}
+use Rattle.laws.proofs.Cases.{by_bool, by-eq, true-false}
 use Rattle.text.specs.Number.{value_of}
-use Rattle.text_fields.specs.Faults.{field_code, ranged_read}
-use Rattle.text_fields.specs.declared.Ranged.{Ranged}
+use Rattle.std.specs.Prelude.{Result, Ok, Err, IsOk}
+use Rattle.std.specs.Result.{result_err}
+use Rattle.text_fields.specs.Faults.{Ranged, field_code, ranged_read}
+use Rattle.text_fields.specs.Said.{fault_number, code_in, ranged_in}
+use Rattle.text_fields.specs.declared.FieldFault.{FieldFault}
 use Rattle.text_fields.proofs.RangedLaws.{InRange, field-zero, ranged-code, ranged-value}
-use Rattle.text_fields.proofs.FaultLaws.{is_code, field-is-code}
+use Rattle.text_fields.proofs.FaultLaws.{is_code, field-is-code, number-some}
 use Rattle.engine_read.specs.Lines.{task_code, marked}
 use Rattle.engine_read.specs.Private.Read.{task_read}
 
@@ -36,13 +38,23 @@ module _ (tasks : ℕ) (earlier : ℕ → Bool) (s : List ℕ) where
   pub task-named : tasks ≤ 64 → task_code tasks earlier s ≡ 0 → InRange 1 tasks s
   task-named few z = field-zero 1 tasks s (omega arith) (task-zero z)
 
-  pub task-value : {x : Ranged} → x ≡ task_read tasks earlier s → x.code ≡ 0 → x.value ≡ value_of s
+  -- what reading it answers
+  pub task-err : (r : Result ℕ FieldFault) → ranged_in r ≡ task_read tasks earlier s → code_in (result_err r) ≡ task_code tasks earlier s
   unfolding task_read
-  task-value e z = ap (λ (r : Ranged). r.value) e ∙ ranged-value 1 tasks s refl (task-zero (sym (ap (λ (r : Ranged). r.code) e) ∙ z))
+  task-err (Ok v) p = ap (λ (x : Ranged). x.code) p
+  task-err (Err fault) p = ap (λ (x : Ranged). x.code) p
 
-  pub task-code : {x : Ranged} → x ≡ task_read tasks earlier s → x.code ≡ task_code tasks earlier s
+  pub task-there : (r : Result ℕ FieldFault) → ranged_in r ≡ task_read tasks earlier s → task_code tasks earlier s ≡ 0 → IsOk r
+  task-there (Ok v) p z = refl
+  task-there (Err fault) p z =
+      let e : fault_number fault ≡ 0 = task-err (Err fault) p ∙ z in true-false (eq-eqb (fault_number fault) 0 e) (number-some fault)
+
+  pub task-value : {v : ℕ} (r : Result ℕ FieldFault) → ranged_in r ≡ task_read tasks earlier s → r ≡ Ok v → v ≡ value_of s
   unfolding task_read
-  task-code e = ap (λ (r : Ranged). r.code) e
+  task-value {v} r p e =
+      let q : record { code = 0; value = v } ≡ task_read tasks earlier s = rw e at p in
+      let z : task_code tasks earlier s ≡ 0 = sym (ap (λ (x : Ranged). x.code) q) in
+      ap (λ (x : Ranged). x.value) q ∙ rw z
 
 -- earlier lines are asked only of tasks
 pub task-same :
@@ -56,37 +68,31 @@ task-same tasks f g s few e =
 
 -- ---- what was read of it
 
-module _ (tasks : ℕ) (marks s : List ℕ) {task : Ranged} (p : task ≡ ranged_read 1 tasks s) where
-  pub read_off : task.code ≢ 0 → task ≡ task_read tasks (marked marks) s
+module _ (tasks : ℕ) (marks s : List ℕ) where
+  pub read_off :
+      (kind : FieldFault) → ◌≡◌ {A = Ranged} (record { code = fault_number kind; value = 0 }) (ranged_read 1 tasks s)
+      → ◌≡◌ {A = Ranged} (record { code = fault_number kind; value = 0 }) (task_read tasks (marked marks) s)
   unfolding task_read task_code
-  read_off n =
-      let c = ranged-code 1 tasks s p in
-      let n' : field_code 1 tasks s ≢ 0 = rw c at n in
-      let t : field_code 1 tasks s ≡ task_code tasks (marked marks) s = rw (ne_eqb (field_code 1 tasks s) 0 n') in
-      λ i. record { code = (c ∙ t) i; value = (ap (λ (r : Ranged). r.value) p) i }
+  read_off kind p = let c = ranged-code 1 tasks s p in rw (← c, number-some kind, number-some kind)
 
-  module _ (few : tasks ≤ 255) (z : task.code ≡ 0) where
+  module _ (few : tasks ≤ 255) {v : ℕ} (p : ◌≡◌ {A = Ranged} (record { code = 0; value = v }) (ranged_read 1 tasks s)) where
     read-zero : field_code 1 tasks s ≡ 0
-    read-zero = sym (ranged-code 1 tasks s p) ∙ z
+    read-zero = sym (ranged-code 1 tasks s p)
 
-    read_is : task.value ≡ value_of s
+    read_is : v ≡ value_of s
     read_is = ranged-value 1 tasks s p read-zero
 
-    pub read_some : 1 ≤ task.value
+    pub read_some : 1 ≤ v
     read_some = let r = field-zero 1 tasks s (omega arith) read-zero in omega (arith, read_is, r.from)
 
-    module _ {t : Bool} (k : t ≡ marked marks task.value) where
+    module _ {t : Bool} (k : t ≡ marked marks v) where
       marked-is : marked marks (value_of s) ≡ t
       marked-is = sym (k ∙ ap (marked marks) read_is)
 
-      pub read-marked : t ≡ true → ◌≡◌ {A = Ranged} (record { code = 4; value = task.value }) (task_read tasks (marked marks) s)
+      pub read-marked : t ≡ true → ◌≡◌ {A = Ranged} (record { code = 4; value = 0 }) (task_read tasks (marked marks) s)
       unfolding task_read task_code
-      read-marked m =
-          let c : 4 ≡ task_code tasks (marked marks) s = rw (eq-eqb (field_code 1 tasks s) 0 read-zero, marked-is ∙ m) in
-          λ i. record { code = c i; value = (ap (λ (r : Ranged). r.value) p) i }
+      read-marked m = rw (read-zero, marked-is ∙ m)
 
-      pub read-new : t ≡ false → task ≡ task_read tasks (marked marks) s
+      pub read-new : t ≡ false → ◌≡◌ {A = Ranged} (record { code = 0; value = v }) (task_read tasks (marked marks) s)
       unfolding task_read task_code
-      read-new m =
-          let c : field_code 1 tasks s ≡ task_code tasks (marked marks) s = rw (marked-is ∙ m, and_no (eqb (field_code 1 tasks s) 0)) in
-          λ i. record { code = (ranged-code 1 tasks s p ∙ c) i; value = (ap (λ (r : Ranged). r.value) p) i }
+      read-new m = rw (read-zero, marked-is ∙ m, read_is)

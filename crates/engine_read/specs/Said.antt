@@ -1,5 +1,6 @@
 -- What a line of lengths.txt says, and how the reader answers it.
 use Rattle.std.specs.Prelude.{ℕ, Result, Ok, Err}
+use Rattle.text_fields.specs.Said.{fault_number}
 use Rattle.text_fields.specs.declared.Fault.{Fault}
 use Rattle.engine_read.specs.declared.LengthEntry.{LengthEntry}
 
@@ -16,4 +17,4 @@ entry_line (LengthEntry.Drop task) = Drop task
 -- each answer of the reader is one line, and no two are the same
 abbrev pub line_in : Result LengthEntry Fault → LengthLine
 line_in (Ok entry) = entry_line entry
-line_in (Err fault) = Refused fault.code fault.column
+line_in (Err fault) = Refused (fault_number fault.kind) fault.column

@@ -2,6 +2,7 @@
 #![tactic(auto)]
 
 ghost use Rattle.std.specs.Prelude.{◌≡◌, ◌≤◌, []};
+ghost use Rattle.text_fields.specs.Said.{ranged_in};
 ghost use Rattle.engine_read.specs.Said.{entry_line, line_in};
 ghost use Rattle.engine_read.specs.Lines.{marked, line_said};
 ghost use Rattle.engine_read.specs.Private.Read.{task_read, length_said, drop_said};
@@ -12,12 +13,12 @@ use book::Rule;
 use engine::Lengths;
 use log_read::Choice;
 use log_read::rules::choose;
-use plan::{Answer, few, refuse};
+use plan::{Answer, Refusal, few, granted, refuse};
 use text::TEXT_MOST;
 use text::decimal::NUMBER_MOST;
 use text::part::{LF, field, find, part_after, same};
-use text_fields::faults::{end_code, fault_of, is_faultless, read_ranged, word_code};
-use text_fields::{Fault, Ranged};
+use text_fields::faults::{check_line, end_fault, read_ranged, word_fault};
+use text_fields::{Fault, FieldFault};
 
 // What a line says: a task's length in ticks, or a task that is dropped.
 #[derive(Clone, Copy)]
@@ -32,56 +33,48 @@ fn is_marked(marks: &[u8], task: u32) -> bool
     ensures { result ≡ marked marks.now task }
 {
     let i = (task - 1) as usize;
-    i < marks.len() && marks[i] == 1
+    marks.get(i).copied() == Some(1)
 }
 
-// 4 too for a task that has 1 among the marks.
-fn read_task(field: &[u8], tasks: u8, marks: &[u8]) -> Ranged
-    ensures { result ≡ task_read tasks (marked marks.now) field.now }
+// Out of range too for a task that has 1 among the marks.
+fn read_task(field: &[u8], tasks: u8, marks: &[u8]) -> Result<u32, FieldFault>
+    ensures { ranged_in result ≡ task_read tasks (marked marks.now) field.now }
 {
-    let task = read_ranged(field, 1, u32::from(tasks));
-    if task.code != 0 {
-        return task;
+    let task = read_ranged(field, 1, u32::from(tasks))?;
+    if is_marked(marks, task) {
+        return Err(FieldFault::OutOfRange);
     }
-    if is_marked(marks, task.value) {
-        return Ranged {
-            code: 4,
-            value: task.value,
-        };
-    }
-    task
+    Ok(task)
 }
 
+// `ended`: whether the line had its LF, a fact handed on.
 fn read_length(line: &[u8], ended: bool, tasks: u8, known: &[u8]) -> Result<LengthEntry, Fault>
     ensures { line_in result ≡ length_said tasks (marked known.now) ended line.now }
 {
     let task = read_task(field(line, 1), tasks, known);
     let ticks = read_ranged(field(line, 2), 0, NUMBER_MOST);
-    let codes = [
-        word_code(field(line, 0), b"length"),
-        task.code,
-        ticks.code,
-        end_code(line, 3, ended),
+    let faults = [
+        word_fault(field(line, 0), b"length"),
+        task.err(),
+        ticks.err(),
+        end_fault(line, 3, ended),
     ];
-    if !is_faultless(&codes) {
-        return Err(fault_of(line, &codes));
-    }
-    Ok(LengthEntry::Length(task.value, ticks.value))
+    check_line(line, &faults)?;
+    Ok(LengthEntry::Length(task.unwrap(), ticks.unwrap()))
 }
 
+// `ended` as above.
 fn read_drop(line: &[u8], ended: bool, tasks: u8, dropped: &[u8]) -> Result<LengthEntry, Fault>
     ensures { line_in result ≡ drop_said tasks (marked dropped.now) ended line.now }
 {
     let task = read_task(field(line, 1), tasks, dropped);
-    let codes = [
-        word_code(field(line, 0), b"drop"),
-        task.code,
-        end_code(line, 2, ended),
+    let faults = [
+        word_fault(field(line, 0), b"drop"),
+        task.err(),
+        end_fault(line, 2, ended),
     ];
-    if !is_faultless(&codes) {
-        return Err(fault_of(line, &codes));
-    }
-    Ok(LengthEntry::Drop(task.value))
+    check_line(line, &faults)?;
+    Ok(LengthEntry::Drop(task.unwrap()))
 }
 
 // The line that begins the rest of the text. An unknown word is read as a `length` line's.
@@ -97,8 +90,7 @@ pub fn next_said(rest: &[u8], tasks: u8, known: &[u8], dropped: &[u8]) -> Result
     read_length(line, ended, tasks, known)
 }
 
-// What is asked of the engine; Early Start and zeros where the text is refused.
-// The answer stands beside what is asked, as in the C struct that this is handed over as.
+// What is asked of the engine, beside the answer: of a refused text too both are promised, Early Start and zeros.
 #[derive(Drop)]
 pub struct EngineInput {
     pub answer: Answer,
@@ -106,7 +98,7 @@ pub struct EngineInput {
     pub given: Lengths,
 }
 
-// known: 1 for a task that had a `length` line.
+// known: 1 for a task that had a `length` line. Two of the arrays are those of the C struct `Lengths`.
 #[derive(Drop)]
 struct LengthNotes {
     length: [u32; 64],
@@ -175,10 +167,10 @@ fn said_lengths(
         known: [0; 64],
     };
     let mut rest = text;
-    while 0 < rest.len() {
+    while !rest.is_empty() {
         match next_said(rest, tasks, &noted.known, &noted.dropped) {
             Ok(entry) => noted.note(entry),
-            Err(fault) => return Err(refuse(u32::from(fault.code), line, fault.column as u32)),
+            Err(fault) => return Err(refuse(fault.kind.number(), line, fault.column as u32)),
         }
         rest = part_after(rest, LF);
         line += 1;
@@ -203,7 +195,7 @@ fn read_lines(
 {
     match said_lengths(tasks, begin, finish, line, text) {
         Ok(given) => EngineInput {
-            answer: refuse(0, 0, 0),
+            answer: granted(),
             rule,
             given,
         },
@@ -216,13 +208,13 @@ pub fn read_lengths(tasks: u8, begin: &[u32; 64], finish: &[u32; 64], text: &[u8
     ensures { result ≡ asked_of tasks begin.now finish.now text.now }
 {
     if TEXT_MOST < text.len() {
-        return asks_nothing(refuse(1, 0, 0));
+        return asks_nothing(Refusal::TextTooLong.answer(0, 0));
     }
     let n = few(tasks);
     let choice = choose(text);
     match choice {
         Ok(Choice::Unsaid) => read_lines(n, begin, finish, Rule::EarlyStart, 1, text),
         Ok(Choice::Chosen) => read_lines(n, begin, finish, Rule::Clash, 2, part_after(text, LF)),
-        Err(column) => asks_nothing(refuse(3, 1, column as u32)),
+        Err(column) => asks_nothing(refuse(FieldFault::Misspelt.number(), 1, column as u32)),
     }
 }

@@ -56,13 +56,6 @@ pub fn put_rows(out: &mut [u8], plan: &Plan, table: &Timetable) -> usize
     put_all(out, few(plan.tasks), &plan.board, table)
 }
 
-// A refusal is the only line.
-fn put_answer(out: &mut [u8], answer: Answer) -> usize
-    ensures { Lined out.old 0 (refused_line answer) 41 out.new result }
-{
-    put_refused(out, 0, answer.code, answer.first, answer.second)
-}
-
 // Nothing is written where the buffer is shorter than TABLE_MOST.
 pub fn write_timetable(plan: &[u8], lengths: &[u8], out: &mut [u8]) -> usize
     ensures { (result ≡ length (table_in (length out.old) plan.now lengths.now)) × (out.new ≡ sets out.old 0 (table_in (length out.old) plan.now lengths.now)) × (result ≤ table_most) }
@@ -75,7 +68,7 @@ pub fn write_timetable(plan: &[u8], lengths: &[u8], out: &mut [u8]) -> usize
         plan: planned,
     } = read_plan(plan);
     if read.code != 0 {
-        return put_answer(out, read);
+        return put_refused(out, 0, read);
     }
     let EngineInput {
         answer: said,
@@ -83,12 +76,12 @@ pub fn write_timetable(plan: &[u8], lengths: &[u8], out: &mut [u8]) -> usize
         given,
     } = read_lengths(planned.tasks, &planned.begin, &planned.finish, lengths);
     if said.code != 0 {
-        return put_answer(out, said);
+        return put_refused(out, 0, said);
     }
     let table = work_out(planned, rule, given);
     let worked = table.answer;
     if worked.code != 0 {
-        return put_answer(out, worked);
+        return put_refused(out, 0, worked);
     }
     put_rows(out, &planned, &table)
 }

@@ -42,6 +42,7 @@ fn read_from<R: Read>(file: &mut R, text: &mut [u8], from: usize) -> io::Result<
 }
 
 // A read can bring fewer bytes than asked, so it goes on until the file ends or the buffer is full; after a failure none count.
+// Not a `for`: how many reads that takes is the system's to say. `read_exact` fails where the file ends first, `read_to_end` fills a `Vec`.
 fn read_all<R: Read>(file: &mut R, text: &mut [u8]) -> io::Result<usize>
     ensures prefix_len { IfOk result (λ done. IsPrefixLen done text.new) }
     ensures whole { IfOk result (λ done. done < length text.new → IsAtEnd (R.remaining file.new)) }
@@ -142,7 +143,8 @@ fn write_some(to: &impl Print, part: &[u8]) -> io::Result<usize>
     Err(Error::from(ErrorKind::Interrupted))
 }
 
-// A write can take fewer bytes than it is handed, so it goes on with the rest. The library's own has other words where a write takes none.
+// A write can take fewer bytes than it is handed, so it goes on with the rest. Not a `for`: how many writes that takes is the system's to say.
+// The library's own has other words where a write takes none.
 fn write_all(to: &impl Print, text: &[u8]) -> io::Result<()>
     ensures { length text.now ≡ 0 → IsOk result }
 {
@@ -171,7 +173,9 @@ pub const NAME_MOST: usize = 4096;
 const PATH_ROOM: usize = 4120;
 
 // The name of a file in a folder.
-fn path_of<'p>(path: &'p mut [u8], name: &[u8], file: &[u8]) -> &'p [u8] {
+fn path_of<'p>(path: &'p mut [u8], name: &[u8], file: &[u8]) -> &'p [u8]
+    ensures { length result.now ≤ length path.old }
+{
     let at = put_text(path, 0, name);
     let length = put_text(path, at, file);
     &path[..length]

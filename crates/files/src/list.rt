@@ -7,7 +7,7 @@ use text::part::LF;
 
 const PART: usize = 4096;
 
-// A part of the list, of which the bytes before `at` are taken.
+// A part of the list, of which the bytes before `at` are taken. Memory is fixed: std's `BufReader` needs a heap.
 #[derive(Drop)]
 pub struct ListPart {
     bytes: [u8; PART],
@@ -16,7 +16,7 @@ pub struct ListPart {
     ghost within: { filled ≤ 4096 },
 }
 
-// A line of the list; of one that is longer than the room for it, as much as there is room for.
+// A line of the list; of one that is longer than the room for it, as much as there is room for, which is said.
 #[derive(Drop)]
 pub struct Line<'n> {
     pub name: &'n [u8],

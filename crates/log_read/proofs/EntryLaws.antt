@@ -1,28 +1,26 @@
 -- What a line of ends.txt says, by the tests that lead to it.
 use Prim.Native.Nat.{ℕ}
 use mathlib.Core.Path.{◌≡◌, refl, sym, ap, ◌∙◌}
-use mathlib.Core.Bool.{Bool, true, false, not}
+use mathlib.Core.Bool.{Bool, true, false}
 use mathlib.Core.List.{List, [], ◌∷◌}
 use native.Mathlib.Omega.{arith}
 use lib.Dec.{eqb}
-use borrow.Author.Tests.{eqb-true}
 use Rattle.laws.proofs.Cases.{and-of}
 use Rattle.laws.specs.Lists.{all_of, same}
-use Rattle.laws.proofs.Lists.{all-at}
+use Rattle.std.specs.Prelude.{Option, Result, Ok, Err, IsOk}
+use Rattle.std.specs.Result.{result_err}
 use Rattle.text.specs.Bytes.{bytes}
 use Rattle.text.specs.Line.{field}
-use Rattle.text.specs.Number.{value_of, most}
+use Rattle.text.specs.Number.{most}
 use Rattle.text_fields.specs.Faults.{field_code, ranged_read, word_code, end_code, field_codes, fault_of}
-use Rattle.text_fields.specs.declared.Ranged.{Ranged}
+use Rattle.text_fields.specs.Said.{fault_number, code_in, codes_in, ranged_in, fault_in}
+use Rattle.text_fields.specs.declared.FieldFault.{FieldFault}
 use Rattle.text_fields.specs.declared.Fault.{Fault}
-use Rattle.text_fields.proofs.RangedLaws.{ranged-code, ranged-value}
-use Rattle.text_fields.proofs.FaultLaws.{is_code, field-is-code, word-is-code, end-is-code}
-use Rattle.text_fields.proofs.UnlessLaws.{refuses, says}
+use Rattle.text_fields.proofs.RangedLaws.{err-code, ok-there, ok-value}
+use Rattle.text_fields.proofs.FaultLaws.{is_code, field-is-code, word-is-code, end-is-code, zero-at}
+use Rattle.text_fields.proofs.UnlessLaws.{refuses, says, right-codes}
 use Rattle.log_read.specs.Entries.{end_codes, drop_codes, entry_of}
 use Rattle.log_read.specs.Said.Entry.{End, Drop, Refused}
-
-value-at : (s : List ℕ) {x : Ranged} → x ≡ ranged_read 0 most s → eqb 0 x.code ≡ true → x.value ≡ value_of s
-value-at s {x} p q = ranged-value 0 most s p (sym (eqb-true 0 x.code q ∙ ranged-code 0 most s p))
 
 pub end-kinds : (ended : Bool) (line : List ℕ) → all_of is_code (end_codes ended line) ≡ true
 unfolding end_codes field_codes all_of
@@ -37,56 +35,80 @@ drop-kinds ended line =
 
 -- an `end` line
 module _ (ended : Bool) (line : List ℕ) (other : same (field line 0) (bytes "drop") ≡ false)
-    {word : ℕ} {task tick : Ranged} {end : ℕ} {first second third : List ℕ} (f : first ≡ field line 0) (g : second ≡ field line 1) (h : third ≡ field line 2)
-    (w : word ≡ word_code (bytes "end") first) (p : task ≡ ranged_read 0 most second) (q : tick ≡ ranged_read 0 most third) (e : end ≡ end_code ended 3 line) where
-  abbrev codes : List ℕ
-  codes = word ∷ task.code ∷ tick.code ∷ end ∷ []
+    (word wrong late end : Option FieldFault) (task tick : Result ℕ FieldFault) {first second third : List ℕ}
+    (f : first ≡ field line 0) (g : second ≡ field line 1) (h : third ≡ field line 2)
+    (w : code_in word ≡ word_code (bytes "end") first) (p : ranged_in task ≡ ranged_read 0 most second) (q : ranged_in tick ≡ ranged_read 0 most third)
+    (i : wrong ≡ result_err task) (j : late ≡ result_err tick) (e : code_in end ≡ end_code ended 3 line) where
+  abbrev faults : List (Option FieldFault)
+  faults = word ∷ wrong ∷ late ∷ end ∷ []
 
-  codes-are : codes ≡ end_codes ended line
+  codes-are : codes_in faults ≡ end_codes ended line
   unfolding end_codes field_codes
   codes-are =
-      let p1 : task.code ≡ field_code 0 most (field line 1) = ranged-code 0 most (field line 1) (rw g at p) in
-      let p2 : tick.code ≡ field_code 0 most (field line 2) = ranged-code 0 most (field line 2) (rw h at q) in
-      let w' : word ≡ word_code (bytes "end") (field line 0) = rw f at w in
-      λ i. w' i ∷ p1 i ∷ p2 i ∷ e i ∷ []
+      let p1 : code_in wrong ≡ field_code 0 most (field line 1) = rw i (err-code 0 most (field line 1) task (rw g at p)) in
+      let p2 : code_in late ≡ field_code 0 most (field line 2) = rw j (err-code 0 most (field line 2) tick (rw h at q)) in
+      let w' : code_in word ≡ word_code (bytes "end") (field line 0) = rw f at w in
+      λ k. w' k ∷ p1 k ∷ p2 k ∷ e k ∷ []
 
-  pub end_refused : all_of (eqb 0) codes ≡ false → {fault : Fault} → fault ≡ fault_of line codes → Refused fault.code fault.column ≡ entry_of ended line
+  pub end_refused : (fault : Fault) → fault_in {A = Unit {0}} (Err fault) ≡ fault_of line (codes_in faults) → Refused (fault_number fault.kind) fault.column ≡ entry_of ended line
   unfolding entry_of
-  end_refused f q =
-      rw other
-      (refuses line (end_codes ended line) (end-kinds ended line) (ap (all_of (eqb 0)) codes-are) Refused (ap not f) (q ∙ ap (fault_of line) codes-are) _ refl)
+  end_refused fault r = rw other (refuses line (end_codes ended line) Refused _ fault.kind (r ∙ ap (fault_of line) codes-are))
 
-  pub end-says : all_of (eqb 0) codes ≡ true → End task.value tick.value ≡ entry_of ended line
-  unfolding entry_of
-  end-says all =
-      let v1 = value-at (field line 1) (rw g at p) (all-at (eqb 0) codes all 1 0 (omega arith)) in
-      let v2 = value-at (field line 2) (rw h at q) (all-at (eqb 0) codes all 2 0 (omega arith)) in
-      rw other
-      (says line (end_codes ended line) (end-kinds ended line) (ap (all_of (eqb 0)) codes-are) Refused (ap not all) (λ i. End (v1 i) (v2 i)))
+  -- where it has no fault
+  module _ (r : record { code = 0; column = 0 } ≡ fault_of line (codes_in faults)) where
+    codes-0 : all_of (eqb 0) (end_codes ended line) ≡ true
+    codes-0 = ap (all_of (eqb 0)) (sym codes-are) ∙ right-codes line faults r
+
+    task-0 : field_code 0 most (field line 1) ≡ 0
+    unfolding end_codes field_codes
+    task-0 = zero-at (end_codes ended line) codes-0 1 (omega arith)
+
+    tick-0 : field_code 0 most (field line 2) ≡ 0
+    unfolding end_codes field_codes
+    tick-0 = zero-at (end_codes ended line) codes-0 2 (omega arith)
+
+    pub end-task : IsOk task
+    end-task = ok-there 0 most (field line 1) task (rw g at p) task-0
+
+    pub end-tick : IsOk tick
+    end-tick = ok-there 0 most (field line 2) tick (rw h at q) tick-0
+
+    pub end-says : {n m : ℕ} → task ≡ Ok n → tick ≡ Ok m → End n m ≡ entry_of ended line
+    unfolding entry_of
+    end-says t u =
+        let v1 = ok-value 0 most (field line 1) task (rw g at p) t in
+        let v2 = ok-value 0 most (field line 2) tick (rw h at q) u in
+        rw other (says line (end_codes ended line) Refused _ (r ∙ ap (fault_of line) codes-are) (λ k. End (v1 k) (v2 k)))
 
 -- a `drop` line
 module _ (ended : Bool) (line : List ℕ) (this : same (field line 0) (bytes "drop") ≡ true)
-    {word : ℕ} {task : Ranged} {end : ℕ} {first second : List ℕ} (f : first ≡ field line 0) (g : second ≡ field line 1)
-    (w : word ≡ word_code (bytes "drop") first) (p : task ≡ ranged_read 0 most second) (e : end ≡ end_code ended 2 line) where
-  abbrev drop-codes : List ℕ
-  drop-codes = word ∷ task.code ∷ end ∷ []
+    (word wrong end : Option FieldFault) (task : Result ℕ FieldFault) {first second : List ℕ} (f : first ≡ field line 0) (g : second ≡ field line 1)
+    (w : code_in word ≡ word_code (bytes "drop") first) (p : ranged_in task ≡ ranged_read 0 most second)
+    (i : wrong ≡ result_err task) (e : code_in end ≡ end_code ended 2 line) where
+  abbrev drop-faults : List (Option FieldFault)
+  drop-faults = word ∷ wrong ∷ end ∷ []
 
-  drop-codes-are : drop-codes ≡ drop_codes ended line
+  drop-codes-are : codes_in drop-faults ≡ drop_codes ended line
   unfolding drop_codes field_codes
   drop-codes-are =
-      let p1 : task.code ≡ field_code 0 most (field line 1) = ranged-code 0 most (field line 1) (rw g at p) in
-      let w' : word ≡ word_code (bytes "drop") (field line 0) = rw f at w in
-      λ i. w' i ∷ p1 i ∷ e i ∷ []
+      let p1 : code_in wrong ≡ field_code 0 most (field line 1) = rw i (err-code 0 most (field line 1) task (rw g at p)) in
+      let w' : code_in word ≡ word_code (bytes "drop") (field line 0) = rw f at w in
+      λ k. w' k ∷ p1 k ∷ e k ∷ []
 
-  pub drop-refused : all_of (eqb 0) drop-codes ≡ false → {fault : Fault} → fault ≡ fault_of line drop-codes → Refused fault.code fault.column ≡ entry_of ended line
+  pub drop-refused : (fault : Fault) → fault_in {A = Unit {0}} (Err fault) ≡ fault_of line (codes_in drop-faults) → Refused (fault_number fault.kind) fault.column ≡ entry_of ended line
   unfolding entry_of
-  drop-refused f q =
-      rw this
-      (refuses line (drop_codes ended line) (drop-kinds ended line) (ap (all_of (eqb 0)) drop-codes-are) Refused (ap not f) (q ∙ ap (fault_of line) drop-codes-are) _ refl)
+  drop-refused fault r = rw this (refuses line (drop_codes ended line) Refused _ fault.kind (r ∙ ap (fault_of line) drop-codes-are))
 
-  pub drop-says : all_of (eqb 0) drop-codes ≡ true → Drop task.value ≡ entry_of ended line
-  unfolding entry_of
-  drop-says all =
-      let v1 = value-at (field line 1) (rw g at p) (all-at (eqb 0) drop-codes all 1 0 (omega arith)) in
-      rw this
-      (says line (drop_codes ended line) (drop-kinds ended line) (ap (all_of (eqb 0)) drop-codes-are) Refused (ap not all) (λ i. Drop (v1 i)))
+  -- where it has no fault
+  module _ (r : record { code = 0; column = 0 } ≡ fault_of line (codes_in drop-faults)) where
+    pub drop-task : IsOk task
+    unfolding drop_codes field_codes
+    drop-task =
+        let all : all_of (eqb 0) (drop_codes ended line) ≡ true = ap (all_of (eqb 0)) (sym drop-codes-are) ∙ right-codes line drop-faults r in
+        ok-there 0 most (field line 1) task (rw g at p) (zero-at (drop_codes ended line) all 1 (omega arith))
+
+    pub drop-says : {n : ℕ} → task ≡ Ok n → Drop n ≡ entry_of ended line
+    unfolding entry_of
+    drop-says t =
+        let v1 = ok-value 0 most (field line 1) task (rw g at p) t in
+        rw this (says line (drop_codes ended line) Refused _ (r ∙ ap (fault_of line) drop-codes-are) (λ k. Drop (v1 k)))

@@ -3,18 +3,17 @@
 
 pub mod rules;
 
-ghost use Rattle.std.specs.Prelude.{◌≡◌, true, false, eqb, MatchResult};
-ghost use Rattle.laws.specs.Lists.{all_of, same};
+ghost use Rattle.std.specs.Prelude.{◌≡◌, true, false};
+ghost use Rattle.laws.specs.Lists.{same};
 ghost use Rattle.text.specs.Bytes.{bytes};
 ghost use Rattle.text.specs.Line.{field};
-ghost use Rattle.text_fields.specs.Faults.{fault_of};
 ghost use Rattle.log_read.specs.Said.{said};
 ghost use Rattle.log_read.specs.Entries.{entry_of, next_entry};
 
 use text::decimal::NUMBER_MOST;
 use text::part::{LF, field, find, same};
 use text_fields::Fault;
-use text_fields::faults::{end_code, fault_of, is_faultless, read_ranged, word_code};
+use text_fields::faults::{check_line, end_fault, read_ranged, word_fault};
 
 // What a line says: a task's end at a tick, or a task that is dropped.
 #[derive(Clone, Copy)]
@@ -30,45 +29,36 @@ pub enum Choice {
     Chosen,
 }
 
-// The fault of a line with these codes, if it has one.
-pub(crate) fn check<'a>(line: &'a [u8], codes: &'a [u8]) -> Result<(), Fault>
-    ensures { MatchResult result (λ done. all_of (eqb 0) codes.now ≡ true) (λ fault. (all_of (eqb 0) codes.now ≡ false) × (fault ≡ fault_of line.now codes.now)) }
-{
-    if is_faultless(codes) {
-        Ok(())
-    } else {
-        Err(fault_of(line, codes))
-    }
-}
-
+// `ended`: whether the line had its LF, a fact handed on.
 fn read_end(line: &[u8], ended: bool) -> Result<Entry, Fault>
     requires { same (field line.now 0) (bytes "drop") ≡ false }
     ensures { said result ≡ entry_of ended line.now }
 {
     let task = read_ranged(field(line, 1), 0, NUMBER_MOST);
     let tick = read_ranged(field(line, 2), 0, NUMBER_MOST);
-    let codes = [
-        word_code(field(line, 0), b"end"),
-        task.code,
-        tick.code,
-        end_code(line, 3, ended),
+    let faults = [
+        word_fault(field(line, 0), b"end"),
+        task.err(),
+        tick.err(),
+        end_fault(line, 3, ended),
     ];
-    check(line, &codes)?;
-    Ok(Entry::End(task.value, tick.value))
+    check_line(line, &faults)?;
+    Ok(Entry::End(task.unwrap(), tick.unwrap()))
 }
 
+// `ended` as above.
 fn read_drop(line: &[u8], ended: bool) -> Result<Entry, Fault>
     requires { same (field line.now 0) (bytes "drop") ≡ true }
     ensures { said result ≡ entry_of ended line.now }
 {
     let task = read_ranged(field(line, 1), 0, NUMBER_MOST);
-    let codes = [
-        word_code(field(line, 0), b"drop"),
-        task.code,
-        end_code(line, 2, ended),
+    let faults = [
+        word_fault(field(line, 0), b"drop"),
+        task.err(),
+        end_fault(line, 2, ended),
     ];
-    check(line, &codes)?;
-    Ok(Entry::Drop(task.value))
+    check_line(line, &faults)?;
+    Ok(Entry::Drop(task.unwrap()))
 }
 
 // A line without its LF, and whether it had one.

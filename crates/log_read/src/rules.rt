@@ -3,23 +3,23 @@ ghost use Rattle.std.specs.Prelude.{◌≡◌};
 ghost use Rattle.log_read.specs.Said.{chosen};
 ghost use Rattle.log_read.specs.Rules.{choice_in, choice_of};
 
-use crate::{Choice, check};
+use crate::Choice;
 use text::part::{LF, field, find, same};
-use text_fields::faults::{end_code, word_code};
+use text_fields::faults::{check_line, end_fault, word_fault};
 
-// A line without its LF, and whether it had one; or the column at which it is malformed.
+// A line without its LF, and whether it had one; or the column at which it is malformed, each of whose faults is a misspelt field.
 pub fn read_choice(line: &[u8], ended: bool) -> Result<Choice, usize>
     ensures { chosen result ≡ choice_in ended line.now }
 {
     if !same(field(line, 0), b"rule") {
         return Ok(Choice::Unsaid);
     }
-    let codes = [
-        word_code(field(line, 0), b"rule"),
-        word_code(field(line, 1), b"clash"),
-        end_code(line, 2, ended),
+    let faults = [
+        word_fault(field(line, 0), b"rule"),
+        word_fault(field(line, 1), b"clash"),
+        end_fault(line, 2, ended),
     ];
-    match check(line, &codes) {
+    match check_line(line, &faults) {
         Ok(()) => Ok(Choice::Chosen),
         Err(fault) => Err(fault.column),
     }

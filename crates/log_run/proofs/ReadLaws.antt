@@ -2,6 +2,7 @@
 use Prim.Native.Nat.{ℕ, min}
 use mathlib.Core.Path.{◌≡◌, refl}
 use Rattle.std.specs.Prelude.{Result, Ok, Err}
+use Rattle.text_fields.specs.Said.{fault_number}
 use Rattle.text_fields.specs.declared.Fault.{Fault}
 use Rattle.log_read.specs.Said.{said, Entry as entry}
 use Rattle.log_read.specs.declared.Entry.{Entry}
@@ -15,5 +16,5 @@ module _ {read : Result Entry Fault} where
   pub said-drop : {this : Entry} {task : ℕ} → read ≡ Ok this → this ≡ Drop task → within (said read) ≡ entry.Drop task
   said-drop p q = rw (p, q) refl
 
-  pub said-refused : {fault : Fault} → read ≡ Err fault → within (said read) ≡ entry.Refused fault.code (min fault.column 4294967295)
+  pub said-refused : {fault : Fault} → read ≡ Err fault → within (said read) ≡ entry.Refused (fault_number fault.kind) (min fault.column 4294967295)
   said-refused p = rw p refl

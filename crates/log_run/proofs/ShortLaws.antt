@@ -11,8 +11,7 @@ use Rattle.laws.specs.Split.{index_of, before}
 use Rattle.text.specs.Bytes.{bytes}
 use Rattle.text.specs.Line.{LF, has_line, field}
 use Rattle.text.specs.Number.{value_of}
-use Rattle.text_fields.specs.Faults.{fault_of, unless_fault}
-use Rattle.text_fields.specs.declared.Fault.{Fault}
+use Rattle.text_fields.specs.Faults.{Fault, fault_of, unless_fault}
 use Rattle.text_fields.proofs.FaultLaws.{column-most}
 use Rattle.log_read.specs.Entries.{end_codes, drop_codes, entry_of, next_entry}
 use Rattle.log_read.specs.Rules.{rule_codes, choice_in, choice_of}

@@ -37,9 +37,9 @@ pub fn log_opening(plan: Plan, rule: Rule, out: &mut [u8; ANSWER_MOST]) -> LogRe
 {
     let BookResult { answer, book } = open_book(plan, rule);
     let length = if answer.code != 0 {
-        put_refused(out, 0, answer.code, answer.first, answer.second)
+        put_refused(out, 0, answer)
     } else {
-        put_opened(out, &book, early_after(answer.code, &book))
+        put_opened(out, &book, early_after(answer, &book))
     };
     LogResult {
         answer,

@@ -9,7 +9,7 @@ use log_read::next_entry;
 use text::part::{LF, part_after};
 
 // The rest of the text, from its line's number on, and the book go on to the next line. A line that is refused by itself is the last.
-// Not a `for`: the rest gets shorter by a line of any length.
+// It goes on by the rest of the text, as its definition does.
 pub(crate) fn put_ends(out: &mut [u8], at: usize, book: &Book, mut line: u32, ends: &[u8]) -> usize
     requires { EndsFit out.old at book.now line ends.now }
     ensures { Wrote out.old at (rest_log book.now line ends.now) (ends_most book.now ends.now) out.new result }
@@ -17,7 +17,7 @@ pub(crate) fn put_ends(out: &mut [u8], at: usize, book: &Book, mut line: u32, en
     let mut told = untold(book);
     let mut place = at;
     let mut rest = ends;
-    while 0 < rest.len() {
+    while !rest.is_empty() {
         let entry = next_entry(rest);
         let old = told.book.mark;
         tell_in_place(line, &mut told, &entry);

@@ -22,16 +22,17 @@ use ends::put_ends;
 use log_read::Choice;
 use log_read::rules::choose;
 use log_write::put_refused;
-use plan::{Answer, Plan, Reading};
+use plan::{Answer, Plan, Reading, Refusal, refuse};
 use plan_read::read_plan;
 use text::TEXT_MOST;
 use text::part::{LF, part_after};
+use text_fields::FieldFault;
 use told::{early_after, put_opened};
 
 // A buffer of this length is always long enough.
 pub const LOG_MOST: usize = 212992;
 
-// An answer, the book after it, and that book's figure M.
+// An answer, the book after it, and that book's figure M. All count whatever the answer: a refused line leaves the book as it was.
 #[derive(Clone, Copy)]
 pub struct StepOutcome {
     pub answer: Answer,
@@ -39,7 +40,7 @@ pub struct StepOutcome {
     pub early: u32,
 }
 
-// An answer, the book after it, and how many bytes were written.
+// An answer, the book after it, and how many bytes were written. All count whatever the answer, as above.
 #[derive(Drop)]
 pub struct LogResult {
     pub answer: Answer,
@@ -80,13 +81,16 @@ fn run_chosen(plan: &Plan, ends: &[u8], out: &mut [u8]) -> usize
 {
     let choice = choose(ends);
     let opening = open(plan, rule_of(&choice));
-    let said = opening.answer;
-    let early = early_after(said.code, &opening.book);
+    let early = early_after(opening.answer, &opening.book);
     let at = put_opened(out, &opening.book, early);
     match choice {
         Ok(Choice::Unsaid) => put_ends(out, at, &opening.book, 1, ends),
         Ok(Choice::Chosen) => put_ends(out, at, &opening.book, 2, part_after(ends, LF)),
-        Err(column) => put_refused(out, at, 3, 1, column as u32),
+        Err(column) => put_refused(
+            out,
+            at,
+            refuse(FieldFault::Misspelt.number(), 1, column as u32),
+        ),
     }
 }
 
@@ -99,12 +103,11 @@ pub fn run_log(plan: &[u8], ends: &[u8], out: &mut [u8]) -> usize
         return 0;
     }
     let reading = read(plan);
-    let answer = reading.answer;
-    if answer.code != 0 {
-        return put_refused(out, 0, answer.code, answer.first, answer.second);
+    if reading.answer.code != 0 {
+        return put_refused(out, 0, reading.answer);
     }
     if TEXT_MOST < ends.len() {
-        return put_refused(out, 0, 1, 0, 0);
+        return put_refused(out, 0, Refusal::TextTooLong.answer(0, 0));
     }
     run_chosen(&reading.plan, ends, out)
 }

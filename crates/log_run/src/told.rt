@@ -3,6 +3,7 @@ ghost use Rattle.std.specs.Prelude.{◌≡◌, cond, eqb, true, ◌+◌, ◌*◌
 ghost use Rattle.book.specs.Early.{figure_of};
 ghost use Rattle.plan.specs.Answer.{refuse};
 ghost use Rattle.book.specs.Sound.{is_sound};
+ghost use Rattle.text_fields.specs.Said.{fault_number};
 ghost use Rattle.log_read.specs.Said.{said};
 ghost use Rattle.log_write.specs.Private.Wrote.{Wrote};
 ghost use Rattle.log_run.specs.Answers.{within};
@@ -15,15 +16,15 @@ use book::{Book, drop_in_place, report_in_place};
 use book_codes::least_early;
 use log_read::Entry;
 use log_write::{put_drop, put_early, put_end, put_refused, put_run};
-use plan::{Answer, refuse};
+use plan::{Answer, granted, refuse};
 use text_fields::Fault;
 
 // What is answered by 0 has a sound book, so the book is not judged again for its figure.
-pub(crate) fn early_after(code: u32, book: &Book) -> u32
-    requires { code ≡ 0 → is_sound book.now ≡ true }
-    ensures { result ≡ cond (eqb code 0) (figure_of book.now).early 0 }
+pub(crate) fn early_after(answer: Answer, book: &Book) -> u32
+    requires { answer.code ≡ 0 → is_sound book.now ≡ true }
+    ensures { result ≡ cond (eqb answer.code 0) (figure_of book.now).early 0 }
 {
-    if code != 0 {
+    if answer.code != 0 {
         return 0;
     }
     least_early(&book.view())
@@ -34,17 +35,17 @@ fn show(told: &mut StepOutcome, answer: Answer)
     requires { answer.code ≡ 0 → is_sound told.old.book ≡ true }
     ensures { told.new ≡ shown_after answer told.old.book }
 {
-    let early = early_after(answer.code, &told.book);
+    let early = early_after(answer, &told.book);
     told.answer = answer;
     told.early = early;
 }
 
 // The answer to a line with this fault: a column past 32 bits is told as the greatest number.
 fn refused(line: u32, fault: &Fault) -> Answer
-    ensures { result ≡ refuse fault.now.code line (min fault.now.column 4294967295) }
+    ensures { result ≡ refuse (fault_number fault.now.kind) line (min fault.now.column 4294967295) }
 {
     let column = fault.column.min(u32::MAX as usize);
-    refuse(u32::from(fault.code), line, column as u32)
+    refuse(fault.kind.number(), line, column as u32)
 }
 
 // The step is made where the book stands, so that the stack holds one.
@@ -72,7 +73,7 @@ pub(crate) fn untold(book: &Book) -> StepOutcome
     ensures { result ≡ record { answer = refuse 0 0 0; book = book.now; early = 0 } }
 {
     StepOutcome {
-        answer: refuse(0, 0, 0),
+        answer: granted(),
         book: *book,
         early: 0,
     }
@@ -136,9 +137,8 @@ pub(crate) fn put_told(
     requires { (at + 3432 ≤ length out.old) × (told.now.answer.code ≡ 0 → Named (within (said entry.now)) told.now.book.tasks) }
     ensures { Wrote out.old at (told_in (within (said entry.now)) old.now told.now) (told_most (within (said entry.now)) old.now told.now) out.new result }
 {
-    let answer = told.answer;
-    if answer.code != 0 {
-        return put_refused(out, at, answer.code, answer.first, answer.second);
+    if told.answer.code != 0 {
+        return put_refused(out, at, told.answer);
     }
     let next = put_lines(out, at, entry, old, &told.book);
     put_early(out, next, told.book.clock, told.early)

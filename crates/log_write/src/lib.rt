@@ -3,11 +3,11 @@
 
 ghost use Rattle.std.specs.Prelude.{◌≡◌, [], ◌∷◌, ◌+◌, ◌-◌, ◌*◌, ◌≤◌, leb, eqb, length};
 ghost use Rattle.text.specs.Bytes.{bytes};
-ghost use Rattle.plan.specs.Answer.{refuse};
 ghost use Rattle.log_write.specs.Lines.{numbers_line, run_by, task_line, start_word, refused_line, Lined};
 ghost use Rattle.log_write.specs.Private.Wrote.{Wrote};
 ghost use Rattle.log_write.specs.Short.{line_to, short_to, short_line};
 
+use plan::Answer;
 use text::part::TAB;
 use text::put::{put_byte, put_number, put_text};
 
@@ -58,10 +58,15 @@ pub fn put_line(out: &mut [u8], at: usize, word: &[u8], numbers: &[u32]) -> usiz
     put_line_to(out, at, word, numbers, b"\n")
 }
 
-pub fn put_refused(out: &mut [u8], at: usize, code: u32, first: u32, second: u32) -> usize
-    ensures { Lined out.old at (refused_line (refuse code first second)) 41 out.new result }
+pub fn put_refused(out: &mut [u8], at: usize, answer: Answer) -> usize
+    ensures { Lined out.old at (refused_line answer) 41 out.new result }
 {
-    put_line(out, at, b"refused", &[code, first, second])
+    put_line(
+        out,
+        at,
+        b"refused",
+        &[answer.code, answer.first, answer.second],
+    )
 }
 
 // By the clash rule the line names it last. The rule is a book's byte, which may be any (C interface).

@@ -1,3 +1,4 @@
+pub mod RefusalLaws
 pub mod FirstFault
 pub mod Judged
 pub mod PlanRows
@@ -13,3 +14,4 @@ pub mod RoundBack
 pub mod RoundLength
 pub mod RoundPlan
 pub mod RoundWrite
+pub mod ResultLaws

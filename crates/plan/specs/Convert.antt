@@ -5,16 +5,14 @@ use Rattle.text.specs.Bytes.{bytes}
 use Rattle.text.specs.Line.{line_at, field}
 use Rattle.text_fields.specs.Items.{exclusive}
 use Rattle.plan.specs.Answer.{refuse, is_granted}
-use Rattle.plan.specs.Value.{plan_with, judged_answer, is_accepted}
+use Rattle.plan.specs.Value.{judged_answer, is_accepted}
 use Rattle.plan.specs.Read.{read_as, reading_of, mended_of}
 use Rattle.plan.specs.declared.Plan.{Plan}
 use Rattle.plan.specs.declared.Reading.{Reading}
 
 -- the plan in edition 2, each shared hold exclusive; its ready ticks stay, which edition 1 has at 0
 unfoldable pub exclusive_plan : Plan → Plan
-exclusive_plan plan =
-    plan_with 2 plan.boards plan.tasks plan.board plan.ready plan.begin plan.finish (map exclusive plan.holds)
-    plan.after
+exclusive_plan plan = record plan { edition = 2; holds = map exclusive plan.holds }
 
 -- The converter: 9 for a plan that is not accepted, and for any edition 2 plan; its result is judged anew
 unfoldable pub converted_of : Plan → Reading

@@ -1,4 +1,5 @@
 pub mod Answer
+pub mod Refusal
 pub mod Task
 pub mod Pairs
 pub mod Judged

@@ -2,7 +2,8 @@
 #![tactic(auto)]
 
 ghost use Rattle.std.specs.Prelude.{◌≡◌, ◌+◌, ◌*◌, ◌<◌, ◌≤◌, min, length};
-ghost use Rattle.plan.specs.Answer.{refuse};
+ghost use Rattle.plan.specs.Answer.{refuse, granted};
+ghost use Rattle.plan.specs.Refusal.{refusal_number};
 ghost use Rattle.plan.specs.Value.{row};
 ghost use Rattle.plan.specs.View.{viewed};
 
@@ -26,6 +27,57 @@ pub fn refuse(code: u32, first: u32, second: u32) -> Answer
     }
 }
 
+// Nothing is refused.
+pub fn granted() -> Answer
+    ensures { result ≡ granted }
+{
+    refuse(0, 0, 0)
+}
+
+// Why something is refused, with its number in the table. Those of a line's fields, 3, 4, 18 and 20, are text_fields'.
+#[derive(Clone, Copy)]
+pub enum Refusal {
+    TextTooLong = 1,
+    FirstLine = 2,
+    BytesLeft = 5,
+    BoardShared = 6,
+    DriveClash = 7,
+    AfterBroken = 8,
+    Unsound = 9,
+    NoTask = 10,
+    NotRunning = 11,
+    BeforeClock = 12,
+    NotPastStart = 13,
+    PastLimit = 14,
+    OtherPastLimit = 15,
+    BufferTooShort = 16,
+    NoneAtZero = 17,
+    KnownOrDropped = 19,
+    NoDrive = 21,
+    NotItsLength = 22,
+    LogLine = 23,
+    StartOrEndAmiss = 24,
+    LoggedLength = 25,
+    LoggedClash = 26,
+    LoggedStart = 27,
+    TooManyLogs = 28,
+}
+
+impl Refusal {
+    pub fn number(self) -> u32
+        ensures { result ≡ refusal_number self }
+    {
+        self as u32
+    }
+
+    // With what it says besides.
+    pub fn answer(self, first: u32, second: u32) -> Answer
+        ensures { result ≡ refuse (refusal_number self) first second }
+    {
+        refuse(self.number(), first, second)
+    }
+}
+
 // Task k from 0: its holds are the 32 places from 32 k, its after the 64 places from 64 k, items first, 0 after the last.
 #[repr(C)]
 #[derive(Clone, Copy)]
@@ -45,10 +97,7 @@ pub struct Plan {
 pub fn few(tasks: u8) -> u8
     ensures { result ≡ min tasks 64 }
 {
-    if tasks < 64 {
-        return tasks;
-    }
-    64
+    tasks.min(64)
 }
 
 #[repr(C)]
@@ -80,7 +129,7 @@ pub struct PlanView<'a> {
 }
 
 // The places of one row; none where the list has no such row.
-fn row_of<'a>(width: usize, list: &'a [u8], k: usize) -> &'a [u8]
+fn row_of(width: usize, list: &[u8], k: usize) -> &[u8]
     requires { (width ≤ 64) × (k < 64) × (width * k + width ≤ length list.now) }
     ensures { result.now ≡ row width list.now k }
 {
@@ -92,6 +141,7 @@ impl PlanView<'_> {
     pub fn holds_of(&self, k: usize) -> &[u8]
         ensures { result.now ≡ row 32 self.now.holds.now k }
     {
+        // a part of what a field shows is lent by a variable: the checker asks for the copy of the reference
         let holds = self.holds;
         if k < 64 {
             return row_of(32, holds, k);

@@ -7,7 +7,7 @@ ghost use Rattle.plan.specs.Convert.{converted_of, renewed_of};
 ghost use Rattle.plan_convert.specs.Renewed.{text_most, renewed_in};
 
 use log_write::put_refused;
-use plan::{Plan, Reading, refuse};
+use plan::{Plan, Reading, Refusal};
 use plan_judge::value::{is_accepted, judge_plan};
 use plan_read::lines::refused;
 use plan_read::{read_exclusive, read_plan};
@@ -22,7 +22,7 @@ pub fn convert(mut plan: Plan) -> Reading
 {
     let accepted = is_accepted(&plan.view());
     if !(accepted & (plan.edition == 1)) {
-        return refused(refuse(9, 0, 0));
+        return refused(Refusal::Unsound.answer(0, 0));
     }
     plan.edition = 2;
     make_exclusive(&mut plan.holds);
@@ -55,9 +55,8 @@ pub fn convert_text(text: &[u8], out: &mut [u8]) -> usize
         return 0;
     }
     let renewed = renew(text);
-    let said = renewed.answer;
-    if said.code != 0 {
-        return put_refused(out, 0, said.code, said.first, said.second);
+    if renewed.answer.code != 0 {
+        return put_refused(out, 0, renewed.answer);
     }
     write_plan(renewed.plan, out).length as usize
 }

@@ -1,20 +1,30 @@
 -- The number of a pair's fault, 0 for none, tells which it is.
 use Prim.Native.Nat.{ℕ}
 use mathlib.Core.Path.{◌≡◌, refl, sym, ap, ◌∙◌}
-use lib.Dec.{eqb}
-use Rattle.std.specs.Prelude.{Option, Some, None, cond}
+use Rattle.std.specs.Prelude.{Option, Some, None, Result, Ok, Err}
+use Rattle.plan.specs.Refusal.{number_in}
+use Rattle.plan.specs.declared.Refusal.{Refusal}
+use Rattle.plan.proofs.RefusalLaws.{number-whole}
 use Rattle.plan_judge.specs.Private.Faults.{code_or_0}
-use Rattle.plan_judge.specs.declared.PairFault.{PairFault}
-use Rattle.plan_judge.specs.declared.PairFault.TheVariants.{Board, Drive, After}
 
-abbrev fault_of : ℕ → Option PairFault
-fault_of n = cond (eqb n 6) (Some Board) (cond (eqb n 7) (Some Drive) (cond (eqb n 8) (Some After) None))
+abbrev as-result : Option Refusal → Result (Unit {0}) Refusal
+as-result None = Ok tt
+as-result (Some fault) = Err fault
 
-of-code : (r : Option PairFault) → fault_of (code_or_0 r) ≡ r
-of-code None = refl
-of-code (Some Board) = refl
-of-code (Some Drive) = refl
-of-code (Some After) = refl
+abbrev as-option : Result (Unit {0}) Refusal → Option Refusal
+as-option (Ok done) = None
+as-option (Err fault) = Some fault
 
-pub code-whole : (a b : Option PairFault) → code_or_0 a ≡ code_or_0 b → a ≡ b
-code-whole a b e = sym (of-code a) ∙ ap fault_of e ∙ of-code b
+back : (r : Option Refusal) → as-option (as-result r) ≡ r
+back None = refl
+back (Some fault) = refl
+
+same-number : (r : Option Refusal) → number_in (as-result r) ≡ code_or_0 r
+same-number None = refl
+same-number (Some fault) = refl
+
+pub code-whole : (a b : Option Refusal) → code_or_0 a ≡ code_or_0 b → a ≡ b
+code-whole a b e =
+    sym (back a)
+    ∙ ap as-option (number-whole (as-result a) (as-result b) (same-number a ∙ e ∙ sym (same-number b)))
+    ∙ back b

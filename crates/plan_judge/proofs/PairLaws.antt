@@ -15,9 +15,7 @@ use Rattle.std.specs.Prelude.{Some, None}
 use Rattle.laws.proofs.Cases.{by_bool}
 use Rattle.plan.specs.declared.Answer.{Answer}
 use Rattle.plan.proofs.FirstFault.{row_fault}
-use Rattle.plan_judge.specs.Private.Faults.{refusal, code_of}
-use Rattle.plan_judge.specs.declared.PairFault.{PairFault}
-use Rattle.plan_judge.specs.declared.PairFault.TheVariants.{Board, Drive, After}
+use Rattle.plan_judge.specs.Private.Faults.{refusal}
 
 module _ (task : ℕ → Task) (a b : ℕ) where
   -- they do not meet, or on no board and on no drive
@@ -121,8 +119,3 @@ module _ (tasks : ℕ) (task : ℕ → Task) (a : ℕ) where
 
   pub none_found : RowsFrom → tasks ≤ a → granted ≡ first_fault tasks task
   none_found rows out = sym (rows ∙ scan-end _ _ _ a tasks out)
-
-pub code-some : (fault : PairFault) → code_of fault ≢ 0
-code-some Board = λ e. omega (arith, e)
-code-some Drive = λ e. omega (arith, e)
-code-some After = λ e. omega (arith, e)

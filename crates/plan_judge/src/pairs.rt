@@ -9,10 +9,9 @@ ghost use Rattle.plan_judge.specs.Private.Arrays.{tasks_of, meet_in, breaks_in, 
 ghost use Rattle.plan_judge.specs.Private.Drives.{PairInRange};
 ghost use Rattle.plan_judge.specs.Private.Faults.{code_or_0, row_refusal};
 
-use crate::PairFault;
 use crate::drives::clash_by_drive;
 use crate::order::in_order;
-use plan::{Answer, PlanView, refuse};
+use plan::{Answer, PlanView, Refusal, granted};
 
 // Does the task number stand in the list?
 fn is_listed(list: &[u8], number: u8) -> bool
@@ -48,32 +47,33 @@ fn breaks_after(plan: &PlanView<'_>, a: usize, b: usize) -> bool
     false
 }
 
-// Where all tasks are in order no list is walked for a broken after.
-fn pair_fault(plan: &PlanView<'_>, ordered: bool, a: usize, b: usize) -> Option<PairFault>
+// Where all tasks are in order no list is walked for a broken after. `ordered` is that fact, found once: it saves the walk and changes no answer.
+fn pair_fault(plan: &PlanView<'_>, ordered: bool, a: usize, b: usize) -> Option<Refusal>
     requires { PairInRange plan.now.holds.now a b × PairInOrder (viewed plan.now) ordered a b }
     ensures { code_or_0 result ≡ pair_code (tasks_of (viewed plan.now)) a b }
 {
     if meet(plan, a, b) {
         if plan.board[a] == plan.board[b] {
-            return Some(PairFault::Board);
+            return Some(Refusal::BoardShared);
         }
         if clash_by_drive(plan, a, b) {
-            return Some(PairFault::Drive);
+            return Some(Refusal::DriveClash);
         }
     }
     if ordered {
         return None;
     }
     if breaks_after(plan, a, b) {
-        return Some(PairFault::After);
+        return Some(Refusal::AfterBroken);
     }
     if breaks_after(plan, b, a) {
-        return Some(PairFault::After);
+        return Some(Refusal::AfterBroken);
     }
     None
 }
 
-// From b on, the next task whose pair with a may be faulty. Where all tasks are in order that is one that overlaps with a.
+// From b on, the next task whose pair with a may be faulty, or the number of tasks, which ends the walk. Where all tasks are in order,
+// a fact found once, that is one that overlaps with a.
 fn next_pair(plan: &PlanView<'_>, ordered: bool, a: usize, b: usize) -> usize
     requires { (a < plan.now.tasks) × (b ≤ plan.now.tasks) × (plan.now.tasks ≤ 64) }
     ensures { PassedOver (viewed plan.now) ordered a b result }
@@ -99,7 +99,7 @@ fn row_fault(plan: &PlanView<'_>, ordered: bool, a: usize) -> Option<Answer>
     let mut b = a;
     while b < plan.tasks as usize {
         if let Some(fault) = pair_fault(plan, ordered, a, b) {
-            return Some(refuse(fault.code(), (a + 1) as u32, (b + 1) as u32));
+            return Some(fault.answer((a + 1) as u32, (b + 1) as u32));
         }
         b = next_pair(plan, ordered, a, b + 1);
     }
@@ -117,5 +117,5 @@ pub(crate) fn first_fault(plan: &PlanView<'_>) -> Answer
             return fault;
         }
     }
-    refuse(0, 0, 0)
+    granted()
 }

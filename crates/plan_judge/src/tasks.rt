@@ -9,7 +9,7 @@ ghost use Rattle.plan_judge.specs.Private.Arrays.{tasks_of};
 ghost use Rattle.plan_judge.specs.Private.Starts.{least_in};
 
 use crate::pairs::first_fault;
-use plan::{Answer, PlanView, refuse};
+use plan::{Answer, PlanView, Refusal};
 
 // The least planned start. A walk that gathers to its end.
 fn least_start(begin: &[u32; 64], tasks: usize) -> u32
@@ -30,7 +30,7 @@ pub(crate) fn judge_kept(plan: &PlanView<'_>) -> Answer
 {
     let least = least_start(plan.begin, plan.tasks as usize);
     if least != 0 {
-        return refuse(17, least, 0);
+        return Refusal::NoneAtZero.answer(least, 0);
     }
     first_fault(plan)
 }
@@ -51,9 +51,10 @@ fn places_ok(holds: &[u8]) -> bool
 pub fn judge_tasks(plan: &PlanView<'_>) -> Answer
     ensures { result ≡ judged_alone (viewed plan.now) }
 {
+    // an array that a field shows is lent as a slice by a variable: the checker asks for the copy of the reference
     let holds = plan.holds;
     if !(((1 <= plan.tasks) & (plan.tasks <= 64)) & places_ok(holds)) {
-        return refuse(9, 0, 0);
+        return Refusal::Unsound.answer(0, 0);
     }
     judge_kept(plan)
 }

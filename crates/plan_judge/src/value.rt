@@ -4,7 +4,7 @@ ghost use Rattle.plan.specs.Value.{judged_answer, is_accepted};
 ghost use Rattle.plan.specs.View.{viewed};
 
 use crate::tasks::judge_kept;
-use plan::{Answer, PlanView, refuse};
+use plan::{Answer, PlanView, Refusal};
 use plan_ranges::keeps_ranges;
 
 // 9 where the ranges are broken, else what the tasks are judged.
@@ -12,7 +12,7 @@ pub fn judge_plan(plan: &PlanView<'_>) -> Answer
     ensures { result ≡ judged_answer (viewed plan.now) }
 {
     if !keeps_ranges(plan) {
-        return refuse(9, 0, 0);
+        return Refusal::Unsound.answer(0, 0);
     }
     judge_kept(plan)
 }

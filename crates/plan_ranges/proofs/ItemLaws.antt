@@ -1,11 +1,11 @@
 -- Walking a list: nothing is kept from a place on, and its items rise.
 use Prim.Native.Nat.{ℕ, ◌+◌, ◌≤◌, ◌<◌}
 use mathlib.Core.Path.{◌≡◌, refl, sym, ◌∙◌}
-use mathlib.Core.Bool.{Bool, true, false, not, ◌&&◌}
+use mathlib.Core.Bool.{Bool, true, false, ◌&&◌}
 use mathlib.Core.List.{List}
 use lib.ListN.{length, get_or, drop}
 use lib.Dec.{eqb, ltb, leb}
-use borrow.Author.Tests.{eq-eqb, ne_eqb, not-true, not-false}
+use borrow.Author.Tests.{eq-eqb, ne_eqb}
 use Rattle.laws.proofs.Cases.{by-eq}
 use Rattle.laws.specs.Lists.{all_of}
 use Rattle.laws.specs.Private.Rise.{rises_from}
@@ -53,14 +53,14 @@ module _ (key : ℕ → ℕ) (high : ℕ) (l : List ℕ) (last i : ℕ) {x : Boo
   rise-out h = rw (before-end 0 l i h) at rest
 
   module _ (h : i < length l) (n : get_or l i 0 ≡ 0 → ⊥) {k : ℕ} (q : k ≡ key (get_or l i 0)) where
-    pub rise-fail : not (ltb last k && leb k high) ≡ true → false ≡ x
+    pub rise-fail : (ltb last k && leb k high) ≡ false → false ≡ x
     unfolding rises_from
     rise-fail e =
-        let f : (ltb last (key (get_or l i 0)) && leb (key (get_or l i 0)) high) ≡ false = rw q at (not-true (ltb last k && leb k high) e) in
+        let f : (ltb last (key (get_or l i 0)) && leb (key (get_or l i 0)) high) ≡ false = rw q at e in
         rw (before-next 0 l i h n, f) at rest
 
-    pub rise-pass : not (ltb last k && leb k high) ≡ false → rises_from key high k (before 0 (drop (i + 1) l)) ≡ x
+    pub rise-pass : (ltb last k && leb k high) ≡ true → rises_from key high k (before 0 (drop (i + 1) l)) ≡ x
     unfolding rises_from
     rise-pass e =
-        let t : (ltb last (key (get_or l i 0)) && leb (key (get_or l i 0)) high) ≡ true = rw q at (not-false (ltb last k && leb k high) e) in
+        let t : (ltb last (key (get_or l i 0)) && leb (key (get_or l i 0)) high) ≡ true = rw q at e in
         rw q (rw (before-next 0 l i h n, t) at rest)

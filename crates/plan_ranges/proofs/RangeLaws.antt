@@ -6,7 +6,7 @@ use mathlib.Core.List.{List, [], ◌∷◌}
 use native.Mathlib.Omega.{arith}
 use lib.ListN.{take, drop, take-append-drop}
 use lib.Dec.{leb, eqb}
-use borrow.Author.Tests.{not-true, not-false, leb-true, eqb-true, ne_eqb}
+use borrow.Author.Tests.{leb-true, eqb-true, ne_eqb}
 use Rattle.laws.proofs.Cases.{by_bool, and_l, and_r, and_no, or-false}
 use Rattle.laws.specs.Lists.{all_of, any_of}
 use Rattle.laws.specs.Private.Rise.{rises_from}
@@ -15,15 +15,15 @@ use Rattle.laws.specs.Split.{index_of}
 use Rattle.laws.proofs.Rise.{rises-is}
 use Rattle.laws.specs.Every.{every}
 use Rattle.text_fields.specs.Items.{between, drive_of, is_shared, has_shared, holds_ok, after_ok}
-use Rattle.text_fields.specs.Private.Lettered.{key_of}
 use Rattle.plan.specs.Task.{numbers_ok}
 use Rattle.plan.specs.Value.{at, row, items, blank_from, is_trimmed, kept_ok, past_blank, ranges_ok, task_at}
 use Rattle.plan.specs.declared.Plan.{Plan}
+use Rattle.text_fields.specs.declared.Listed.TheVariants.{Tasks}
 use Rattle.plan_ranges.specs.Private.Kept.{numbers_in, list_in, shared_in, holds_in}
 
 -- the second half of what is kept of a task
 abbrev lists_in : ℕ → ℕ → List ℕ → List ℕ → ℕ → Bool
-lists_in edition tasks holds after k = holds_in edition (row 32 holds k) && list_in false tasks (row 64 after k)
+lists_in edition tasks holds after k = holds_in edition (row 32 holds k) && list_in Tasks tasks (row 64 after k)
 
 -- a list that has nothing past its last item is as shared as its items
 blank-unshared : (l : List ℕ) → all_of (eqb 0) l ≡ true → any_of is_shared l ≡ false
@@ -74,7 +74,7 @@ untrimmed edition rises l =
     (λ t. rw (t, and_no rises))
 
 pub kept-is : (plan : Plan) (k : ℕ) → kept_ok plan k ≡ (numbers_in plan k && lists_in plan.edition plan.tasks plan.holds plan.after k)
-unfolding kept_ok holds_ok after_ok key_of
+unfolding kept_ok holds_ok after_ok
 kept-is plan k =
     let row_of : List ℕ = row 32 plan.holds k in
     rw (rises-is drive_of 32 (items row_of), rises-is (λ n. n) plan.tasks (items (row 64 plan.after k)))
@@ -87,19 +87,19 @@ kept-is plan k =
     (eqb (at plan.ready k) 0)
     (is_trimmed row_of)
     (is_trimmed (row 64 plan.after k)))
-    ∙ ap (λ (b : Bool). numbers_in plan k && (b && list_in false plan.tasks (row 64 plan.after k)))
+    ∙ ap (λ (b : Bool). numbers_in plan k && (b && list_in Tasks plan.tasks (row 64 plan.after k)))
     (untrimmed plan.edition (rises_from drive_of 32 0 (items row_of)) row_of)
 
 -- the sizes that are tested first
 abbrev sizes_in : ℕ → ℕ → ℕ → Bool
 sizes_in edition boards tasks = between 1 2 edition && (between 1 8 boards && between 1 64 tasks)
 
-pub few_tasks : (edition boards tasks : ℕ) → not (sizes_in edition boards tasks) ≡ false → tasks ≤ 64
+pub few_tasks : (edition boards tasks : ℕ) → sizes_in edition boards tasks ≡ true → tasks ≤ 64
 few_tasks edition boards tasks h =
     leb-true tasks 64
     (and_r (leb 1 tasks) (leb tasks 64)
     (and_r (between 1 8 boards) (between 1 64 tasks)
-    (and_r (between 1 2 edition) (between 1 8 boards && between 1 64 tasks) (not-false _ h))))
+    (and_r (between 1 2 edition) (between 1 8 boards && between 1 64 tasks) h)))
 
 module _ (plan : Plan) where
   abbrev sizes : Bool
@@ -117,8 +117,8 @@ module _ (plan : Plan) where
       go true false tasks kept = refl
       go true true tasks kept = refl
 
-  pub refused-sizes : not sizes ≡ true → false ≡ ranges_ok plan
-  refused-sizes h = rw (ranges-are, not-true sizes h)
+  pub refused-sizes : sizes ≡ false → false ≡ ranges_ok plan
+  refused-sizes h = rw (ranges-are, h)
 
-  pub kept-ranges : not sizes ≡ false → {kept past : Bool} → kept ≡ every plan.tasks (kept_ok plan) → past ≡ past_blank plan → (kept && past) ≡ ranges_ok plan
-  kept-ranges s k p = rw (ranges-are, not-false sizes s, k, p)
+  pub kept-ranges : sizes ≡ true → {kept past : Bool} → kept ≡ every plan.tasks (kept_ok plan) → past ≡ past_blank plan → (kept && past) ≡ ranges_ok plan
+  kept-ranges s k p = rw (ranges-are, s, k, p)

@@ -5,14 +5,15 @@ ghost use Rattle.std.specs.Prelude.{◌≡◌, true, false, ◌&&◌, ◌<◌, �
 ghost use Rattle.laws.specs.Every.{every};
 ghost use Rattle.laws.specs.Lists.{all_of};
 ghost use Rattle.laws.specs.Private.Rise.{rises_from};
-ghost use Rattle.text_fields.specs.Private.Lettered.{key_of};
 ghost use Rattle.plan.specs.Value.{row, items, blank_from, is_trimmed, kept_ok, past_blank, ranges_ok};
 ghost use Rattle.plan.specs.View.{viewed};
-ghost use Rattle.plan_ranges.specs.Private.Kept.{numbers_in, list_in, shared_in, holds_in};
+ghost use Rattle.text_fields.specs.declared.Listed.TheVariants.{Tasks};
+ghost use Rattle.plan_ranges.specs.Private.Kept.{key_of, numbers_in, list_in, shared_in, holds_in};
 
 use plan::PlanView;
 use text::decimal::NUMBER_MOST;
 use text::part::find;
+use text_fields::Listed;
 use text_fields::list::has_shared;
 
 // From place n on a list keeps nothing else. A walk that gathers to its end can use wide instructions.
@@ -26,25 +27,26 @@ pub fn is_blank<T: Copy + PartialEq>(nothing: T, list: &[T], n: usize) -> bool
     all
 }
 
-fn key(drives: bool, x: u8) -> u8
-    ensures { result ≡ key_of drives x }
+// The number by which an item has its place: its drive, or the task's.
+fn key(listed: Listed, x: u8) -> u8
+    ensures { result ≡ key_of listed x }
 {
-    if drives {
-        return x / 2;
+    match listed {
+        Listed::Holds => x / 2,
+        Listed::Tasks => x,
     }
-    x
 }
 
-// The keys of the items, drives or task numbers, lie in 1 to high and rise strictly.
-fn rises(list: &[u8], drives: bool, high: u8) -> bool
-    ensures { result ≡ rises_from (key_of drives) high 0 (items list.now) }
+// The keys of the items lie in 1 to high and rise strictly.
+fn rises(list: &[u8], listed: Listed, high: u8) -> bool
+    ensures { result ≡ rises_from (key_of listed) high 0 (items list.now) }
 {
     let mut last: u8 = 0;
     for &x in list {
         if x == 0 {
             return true;
         }
-        let k = key(drives, x);
+        let k = key(listed, x);
         if !((last < k) & (k <= high)) {
             return false;
         }
@@ -54,10 +56,10 @@ fn rises(list: &[u8], drives: bool, high: u8) -> bool
 }
 
 // The list keeps its range, rises, and has nothing past its last item.
-fn list_ok(list: &[u8], drives: bool, high: u8) -> bool
-    ensures { result ≡ (rises_from (key_of drives) high 0 (items list.now) && is_trimmed list.now) }
+fn list_ok(list: &[u8], listed: Listed, high: u8) -> bool
+    ensures { result ≡ (rises_from (key_of listed) high 0 (items list.now) && is_trimmed list.now) }
 {
-    rises(list, drives, high) & is_blank(0, list, find(list, 0))
+    rises(list, listed, high) & is_blank(0, list, find(list, 0))
 }
 
 fn numbers_ok(plan: &PlanView<'_>, k: usize) -> bool
@@ -71,10 +73,10 @@ fn numbers_ok(plan: &PlanView<'_>, k: usize) -> bool
 }
 
 // Edition 2 no longer takes a shared hold.
-fn shared_ok(edition: u8, list: &[u8]) -> bool
-    ensures { result ≡ shared_in edition list.now }
+fn shared_ok(plan: &PlanView<'_>, list: &[u8]) -> bool
+    ensures { result ≡ shared_in plan.now.edition list.now }
 {
-    (edition != 2) | !has_shared(list)
+    (plan.edition != 2) | !has_shared(list)
 }
 
 fn holds_ok(plan: &PlanView<'_>, k: usize) -> bool
@@ -82,14 +84,14 @@ fn holds_ok(plan: &PlanView<'_>, k: usize) -> bool
     ensures { result ≡ holds_in plan.now.edition (row 32 plan.now.holds.now k) }
 {
     let list = plan.holds_of(k);
-    list_ok(list, true, 32) & shared_ok(plan.edition, list)
+    list_ok(list, Listed::Holds, 32) & shared_ok(plan, list)
 }
 
 fn after_ok(plan: &PlanView<'_>, k: usize) -> bool
     requires { k < 64 }
-    ensures { result ≡ list_in false plan.now.tasks (row 64 plan.now.after.now k) }
+    ensures { result ≡ list_in Tasks plan.now.tasks (row 64 plan.now.after.now k) }
 {
-    list_ok(plan.after_of(k), false, plan.tasks)
+    list_ok(plan.after_of(k), Listed::Tasks, plan.tasks)
 }
 
 fn task_ok(plan: &PlanView<'_>, k: usize) -> bool
@@ -116,6 +118,7 @@ fn past_blank(plan: &PlanView<'_>) -> bool
     ensures { result ≡ past_blank (viewed plan.now) }
 {
     let n = plan.tasks as usize;
+    // an array that a field shows is lent as a slice by a variable: the checker asks for the copies of the references
     let (board, ready, begin) = (plan.board, plan.ready, plan.begin);
     let (finish, holds, after) = (plan.finish, plan.holds, plan.after);
     let lists = is_blank(0, holds, 32 * n) & is_blank(0, after, 64 * n);

@@ -6,6 +6,7 @@ use mathlib.Core.Bool.{Bool, true, false, cond, ◌&&◌}
 use mathlib.Core.List.{List, ◌∷◌}
 use native.Mathlib.Omega.{arith}
 use lib.Dec.{eqb}
+use Rattle.std.specs.Prelude.{Result}
 use lib.ListN.{length, get_or}
 use borrow.Author.Tests.{eq-eqb, ne_eqb}
 use Rattle.laws.proofs.Cases.{by_bool, by-eq, by_le}
@@ -14,13 +15,11 @@ use Rattle.laws.specs.Split.{index_of}
 use Rattle.laws.proofs.Split.{index-first}
 use Rattle.text.specs.Number.{value_of, most}
 use Rattle.text.specs.Line.{field}
-use Rattle.text_fields.specs.Faults.{field_code, fault_of}
+use Rattle.text_fields.specs.Faults.{Fault, field_code, fault_of}
 use Rattle.text_fields.proofs.FaultLaws.{zero-at}
 use Rattle.text_fields.proofs.Alike.{Plain, alike-three, alike-four}
 use Rattle.text_fields.proofs.RangedLaws.{ranged-value}
-use Rattle.plan_read.specs.Private.Fields.{start_at, line_by}
-use Rattle.plan_read.specs.declared.Tail.{Tail}
-use Rattle.plan_read.specs.declared.Line.{Line}
+use Rattle.plan_read.specs.Private.Fields.{Tail, Line, start_at, line_by}
 
 pub start-value : (line : List ℕ) (n : ℕ) → field_code 0 most (field line n) ≡ 0 → start_at line n ≡ value_of (field line n)
 start-value line n z = ranged-value 0 most (field line n) refl z
@@ -42,7 +41,7 @@ module _ (c w n b r q d x y : ℕ) (rest : List ℕ) (alike : eqb r c ≡ eqb q 
   index-alike also = rw (alike, also)
 
 module _ (line : List ℕ) (board ready : ℕ) (tail : Tail) where
-  abbrev pub By : List ℕ → Line
+  abbrev pub By : List ℕ → Result Line Fault
   By codes = line_by line codes board ready tail
 
   refused-alike :

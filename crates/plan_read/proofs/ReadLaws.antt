@@ -4,6 +4,7 @@ use mathlib.Core.Path.{◌≡◌, refl, sym, ap, ◌∙◌}
 use mathlib.Core.Logic.{◌≢◌}
 use mathlib.Core.Bool.{Bool, true}
 use mathlib.Core.List.{List, [], ◌∷◌}
+use native.Mathlib.Omega.{arith}
 use lib.Dec.{eqb}
 use lib.ListN.{replicate}
 use borrow.Author.Tests.{eq-eqb, ne_eqb}
@@ -24,6 +25,8 @@ use Rattle.plan.proofs.ReadOk.{FormOk, form-ok, ok-form, form-tasks, form-ranges
 use Rattle.plan.specs.Private.Drives.{is_drive}
 use Rattle.plan.proofs.Drives.{task-in-range}
 use Rattle.plan_judge.specs.Tasks.{is_place, tasks_judged}
+use Rattle.std.specs.Prelude.{Result, Ok, Err}
+use Rattle.plan_read.specs.Mode.{IsRead}
 
 -- each place that has a drive of the 32 has nothing or one
 all_more : (l : List ℕ) → all_of is_drive l ≡ true → all_of is_place l ≡ true
@@ -94,3 +97,23 @@ module _ (mends : Bool) (s : List ℕ) {lines : Reading} (l : lines ≡ lines_of
       reading-in z =
           let g = f ∙ tasks-granted lines.plan.tasks (task_at lines.plan) (ap (λ (x : Answer). x.code) (sym f) ∙ z) in
           l ∙ rw (ok-form mends s form, answer-tasks, g)
+
+-- by what reading the lines answers: a refusal is none of a right text, which has tasks
+module _ (mends : Bool) (s : List ℕ) {answer : Answer} (l : ◌≡◌ {A = Reading} (record { answer = answer; plan = zero_plan }) (lines_of mends s)) where
+  refuses : answer.code ≢ 0
+  unfolding plan_of
+  refuses z =
+      let none : 0 ≡ tasks_of s = tasks_are mends s l z in
+      let some = (form-tasks mends s (form mends s l z)).0 in
+      omega (arith, none, some)
+
+  pub reading-err : ◌≡◌ {A = Reading} (record { answer = answer; plan = zero_plan }) (read_in mends s)
+  reading-err = reading-line mends s l refuses
+
+-- no second answer, and no second plan, is what reading the lines gives
+pub lines-whole :
+    (mends : Bool) (s : List ℕ) {p q : Plan} (a b : Result (Unit {0}) Answer) → IsRead (lines_of mends s) p a → IsRead (lines_of mends s) q b → (a ≡ b) × (p ≡ q)
+lines-whole mends s (Ok x) (Ok y) f g = (refl, ap (λ (r : Reading). r.plan) (f ∙ sym g))
+lines-whole mends s (Ok x) (Err b) f g = absurd (refuses mends s g.1 (ap (λ (r : Reading). r.answer.code) (g.1 ∙ sym f)))
+lines-whole mends s (Err a) (Ok y) f g = absurd (refuses mends s f.1 (ap (λ (r : Reading). r.answer.code) (f.1 ∙ sym g)))
+lines-whole mends s (Err a) (Err b) f g = (ap (λ (r : Reading). Err r.answer) (f.1 ∙ sym g.1), f.0 ∙ sym g.0)

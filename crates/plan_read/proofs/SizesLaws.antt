@@ -1,22 +1,28 @@
 -- The first line, by the tests that lead to its answer.
 use Prim.Native.Nat.{ℕ, ◌≤◌}
 use mathlib.Core.Path.{◌≡◌, refl, sym, ◌∙◌}
-use mathlib.Core.Bool.{Bool, true, false, not, cond, ◌&&◌, ◌||◌}
+use Rattle.laws.proofs.Cases.{by_bool}
+use mathlib.Core.Bool.{Bool, true, false, cond, ◌&&◌}
 use mathlib.Core.List.{List}
-use native.Mathlib.Omega.{arith}
 use lib.Dec.{eqb}
+use Rattle.std.specs.Prelude.{Option, None, Some, Result, Ok, Err}
+use Rattle.std.specs.Result.{result_ok}
 use lib.ListN.{length}
-use borrow.Author.Tests.{not-true, not-false, eqb-true, eq-eqb, ne_eqb}
+use borrow.Author.Tests.{eq-eqb, ne_eqb}
 use Rattle.laws.specs.Lists.{same}
 use Rattle.text.specs.Bytes.{bytes}
 use Rattle.text.specs.Number.{is_number, value_of, most}
 use Rattle.text.specs.Line.{fields, field}
 use Rattle.text_fields.specs.Items.{between}
-use Rattle.text_fields.specs.Faults.{code_for, ranged_read}
-use Rattle.text_fields.specs.declared.Ranged.{Ranged}
+use Rattle.text_fields.specs.Faults.{code_for, field_code, ranged_read}
+use Rattle.text_fields.proofs.FaultLaws.{number-some}
+use Rattle.text_fields.specs.Said.{ranged_in}
+use Rattle.text_fields.specs.declared.FieldFault.{FieldFault}
 use Rattle.text_fields.proofs.RangedLaws.{field-code, ranged-code, ranged-value}
 use Rattle.plan.specs.Read.{ranged, sizes_ok}
-use Rattle.plan_read.specs.Private.Fields.{no_sizes, sizes_read}
+use Rattle.plan_read.specs.Private.Fields.{size_read, edition_read, sizes_read}
+use Rattle.plan_read.specs.Private.Editions.{edition_by}
+use Rattle.plan_read.specs.declared.Edition.{Edition}
 use Rattle.plan_read.specs.declared.Sizes.{Sizes}
 
 code-test : (a b : Bool) → eqb (code_for a b) 0 ≡ (a && b)
@@ -24,65 +30,79 @@ code-test false b = refl
 code-test true false = refl
 code-test true true = refl
 
-ranged-test : (low high : ℕ) (s : List ℕ) {x : Ranged} → high ≤ most → x ≡ ranged_read low high s → eqb x.code 0 ≡ ranged low high s
-ranged-test low high s h p =
-    rw (ranged-code low high s p, field-code low high s h) (code-test (is_number s) (between low high (value_of s)))
+-- a number of the line
 
-ranged-is : (low high : ℕ) (s : List ℕ) {x : Ranged} → x ≡ ranged_read low high s → eqb x.code 0 ≡ true → x.value ≡ value_of s
-ranged-is low high s {x} p q = ranged-value low high s p (sym (ranged-code low high s p) ∙ eqb-true x.code 0 q)
+module _ (low high : ℕ) (s : List ℕ) (small : high ≤ most) where
+  ranged-test : field_code low high s ≡ code_for (is_number s) (between low high (value_of s))
+  ranged-test = field-code low high s small
 
-some-fails : (a b c : Bool) → (not a || (not b || not c)) ≡ true → (a && (b && c)) ≡ false
-some-fails false b c h = refl
-some-fails true false c h = refl
-some-fails true true c h = not-true c h
+  pub size-ok : (r : Result ℕ FieldFault) → ranged_in r ≡ ranged_read low high s → result_ok r ≡ size_read low high s
+  size-ok (Ok v) p =
+      let z : field_code low high s ≡ 0 = sym (ranged-code low high s p) in
+      let t : ranged low high s ≡ true = sym (code-test (is_number s) (between low high (value_of s))) ∙ eq-eqb _ 0 (sym ranged-test ∙ z) in
+      rw (t, ranged-value low high s p z)
+  size-ok (Err fault) p =
+      let t : ranged low high s ≡ false = sym (code-test (is_number s) (between low high (value_of s))) ∙ rw (← ranged-test, ← ranged-code low high s p) (number-some fault) in
+      rw t
 
-none-fails : (a b c : Bool) → (not a || (not b || not c)) ≡ false → (a ≡ true) × (b ≡ true) × (c ≡ true)
-none-fails true true c h = (refl, refl, not-false c h)
-none-fails true false c h = let z : ◌≡◌ {A = ℕ} 0 1 = cc in absurd (omega arith)
-none-fails false b c h = let z : ◌≡◌ {A = ℕ} 0 1 = cc in absurd (omega arith)
+module _ (low high : ℕ) (s : List ℕ) where
+  size-none : None ≡ size_read low high s → ranged low high s ≡ false
+  size-none h = by_bool (ranged low high s) (λ e. let q : None ≡ Some (value_of s) = rw e at h in cc) (λ e. e)
+
+  size-some : {x : ℕ} → Some x ≡ size_read low high s → (ranged low high s ≡ true) × (x ≡ value_of s)
+  size-some {x} h =
+      by_bool (ranged low high s)
+      (λ e. let q : Some x ≡ Some (value_of s) = rw e at h in (e, cc))
+      (λ e. let q : Some x ≡ None = rw e at h in cc)
+
+module _ (mends : Bool) (s : List ℕ) where
+  edition-none : None ≡ edition_read mends s → ranged (cond mends 2 1) 2 s ≡ false
+  edition-none h =
+      by_bool (ranged (cond mends 2 1) 2 s) (λ e. let q : None ≡ Some (edition_by mends (value_of s)) = rw e at h in cc) (λ e. e)
+
+  edition-some : {edition : Edition} → Some edition ≡ edition_read mends s → (ranged (cond mends 2 1) 2 s ≡ true) × (edition ≡ edition_by mends (value_of s))
+  edition-some {edition} h =
+      by_bool (ranged (cond mends 2 1) 2 s)
+      (λ e. let q : Some edition ≡ Some (edition_by mends (value_of s)) = rw e at h in (e, cc))
+      (λ e. let q : Some edition ≡ None = rw e at h in cc)
 
 module _ (mends : Bool) (line : List ℕ) where
-  pub sizes-count : (length (fields line) ≡ 4 → ⊥) → no_sizes ≡ sizes_read mends line
+  pub sizes-count : (length (fields line) ≡ 4 → ⊥) → ◌≡◌ {A = Option Sizes} None (sizes_read mends line)
   unfolding sizes_read sizes_ok
   sizes-count n = rw (ne_eqb (length (fields line)) 4 n)
 
   module _ (four : length (fields line) ≡ 4) {word : Bool} (w : word ≡ same (field line 0) (bytes "plan")) where
-    pub sizes-word : not word ≡ true → no_sizes ≡ sizes_read mends line
+    pub sizes-word : word ≡ false → ◌≡◌ {A = Option Sizes} None (sizes_read mends line)
     unfolding sizes_read sizes_ok
-    sizes-word h = rw (eq-eqb (length (fields line)) 4 four, sym w ∙ not-true word h)
+    sizes-word h = rw (eq-eqb (length (fields line)) 4 four, sym w ∙ h)
 
-    module _ (is-plan : not word ≡ false) {edition boards tasks : Ranged}
-        (e : edition ≡ ranged_read (cond mends 2 1) 2 (field line 1)) (p : boards ≡ ranged_read 1 8 (field line 2)) (q : tasks ≡ ranged_read 1 64 (field line 3)) where
-      abbrev fine : Bool
-      fine = eqb edition.code 0 && (eqb boards.code 0 && eqb tasks.code 0)
-
-      ok-is : sizes_ok mends line ≡ fine
+    module _ (is-plan : word ≡ true) where
+      ok-is : sizes_ok mends line ≡ (ranged (cond mends 2 1) 2 (field line 1) && (ranged 1 8 (field line 2) && ranged 1 64 (field line 3)))
       unfolding sizes_ok
-      ok-is =
-          rw (
-            eq-eqb (length (fields line)) 4 four,
-            sym w ∙ not-false word is-plan,
-            ranged-test (cond mends 2 1) 2 (field line 1) (omega arith) e,
-            ranged-test 1 8 (field line 2) (omega arith) p,
-            ranged-test 1 64 (field line 3) (omega arith) q,
-          )
+      ok-is = rw (eq-eqb (length (fields line)) 4 four, sym w ∙ is-plan)
 
-      pub sizes-off : (not (eqb edition.code 0) || (not (eqb boards.code 0) || not (eqb tasks.code 0))) ≡ true → no_sizes ≡ sizes_read mends line
+      pub sizes-no-edition : None ≡ edition_read mends (field line 1) → ◌≡◌ {A = Option Sizes} None (sizes_read mends line)
       unfolding sizes_read
-      sizes-off h = rw (ok-is, some-fails (eqb edition.code 0) (eqb boards.code 0) (eqb tasks.code 0) h)
+      sizes-no-edition h = rw (ok-is, edition-none mends (field line 1) h)
 
-      pub sizes-in :
-          (not (eqb edition.code 0) || (not (eqb boards.code 0) || not (eqb tasks.code 0))) ≡ false
-          → ◌≡◌ {A = Sizes} (record { ok = true; edition = edition.value; boards = boards.value; tasks = tasks.value }) (sizes_read mends line)
-      unfolding sizes_read
-      sizes-in h =
-          let g = none-fails (eqb edition.code 0) (eqb boards.code 0) (eqb tasks.code 0) h in
-          rw (
-            ok-is,
-            g.0,
-            g.1,
-            g.2,
-            ranged-is (cond mends 2 1) 2 (field line 1) e g.0,
-            ranged-is 1 8 (field line 2) p g.1,
-            ranged-is 1 64 (field line 3) q g.2,
-          )
+      module _ {edition : Edition} (e : Some edition ≡ edition_read mends (field line 1)) where
+        es : (ranged (cond mends 2 1) 2 (field line 1) ≡ true) × (edition ≡ edition_by mends (value_of (field line 1)))
+        es = edition-some mends (field line 1) e
+
+        pub sizes-no-boards : None ≡ size_read 1 8 (field line 2) → ◌≡◌ {A = Option Sizes} None (sizes_read mends line)
+        unfolding sizes_read
+        sizes-no-boards h = rw (ok-is, es.0, size-none 1 8 (field line 2) h)
+
+        module _ {boards : ℕ} (b : Some boards ≡ size_read 1 8 (field line 2)) where
+          bs : (ranged 1 8 (field line 2) ≡ true) × (boards ≡ value_of (field line 2))
+          bs = size-some 1 8 (field line 2) b
+
+          pub sizes-no-tasks : None ≡ size_read 1 64 (field line 3) → ◌≡◌ {A = Option Sizes} None (sizes_read mends line)
+          unfolding sizes_read
+          sizes-no-tasks h = rw (ok-is, es.0, bs.0, size-none 1 64 (field line 3) h)
+
+          pub sizes-in :
+              {tasks : ℕ} → Some tasks ≡ size_read 1 64 (field line 3)
+              → ◌≡◌ {A = Option Sizes} (Some (record { edition = edition; boards = boards; tasks = tasks })) (sizes_read mends line)
+          unfolding sizes_read
+          sizes-in t = let ts = size-some 1 64 (field line 3) t in rw (ok-is, es.0, bs.0, ts.0, es.1, bs.1, ts.1)

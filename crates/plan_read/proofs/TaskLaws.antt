@@ -6,37 +6,36 @@ use mathlib.Core.Bool.{Bool, true, false, cond}
 use mathlib.Core.List.{List}
 use native.Mathlib.Omega.{arith}
 use lib.Dec.{ltb, leb}
-use lib.ListN.{length, take, drop, set, replicate, length-replicate, length-take}
+use Rattle.std.specs.Prelude.{Result, Ok, Err}
+use lib.ListN.{length, take, drop, set, replicate, length-take}
 use lib.Seq.{sets, take_at, length-take-le}
 use borrow.Author.Tests.{le-ltb, lt-ltb, le-leb, ne_eqb}
 use Rattle.laws.specs.Each.{each, rows}
-use Rattle.laws.proofs.Each.{each_turn, rows-turn, length-rows}
+use Rattle.laws.proofs.Each.{each_turn, rows-turn}
 use Rattle.laws.specs.Scan.{scan_to}
 use Rattle.laws.proofs.Scan.{scan-turn, scan-hit, scan-end}
 use Rattle.laws.specs.Split
 use Rattle.laws.specs.Split.{index_of, skip_on}
 use Rattle.laws.proofs.Split.{index-le, skip-le}
 use Rattle.text.specs.Line.{LF, has_line, skip, line_at}
-use Rattle.text_fields.specs.Items.{some_items}
-use Rattle.text_fields.specs.Faults.{fault_of}
-use Rattle.text_fields.specs.declared.Items.{Items}
-use Rattle.text_fields.specs.declared.Fault.{Fault}
+use Rattle.text_fields.specs.Items.{Items, some_items}
+use Rattle.text_fields.specs.Faults.{Fault, fault_of}
 use Rattle.text_fields.proofs.Answers.{items_kept}
 use Rattle.text_fields.proofs.FaultLaws.{column-most}
 use Rattle.plan.specs.Answer.{refuse, granted, is_refused}
 use Rattle.plan.specs.declared.Answer.{Answer}
 use Rattle.plan.specs.Task.{Task}
-use Rattle.plan.specs.Value.{plan_of}
+use Rattle.plan.specs.Value.{plan_of, zero_plan}
+use Rattle.plan.specs.declared.Plan.{Plan}
 use Rattle.plan.specs.Read.{edition_of, boards_of, tasks_of, task_codes, line_answer, lines_answer, text_task, form_answer, lines_of}
 use Rattle.plan.proofs.PlanTasks.{TaskFits, task-fits}
 use Rattle.plan.proofs.LineCodes.{fine-task}
 use Rattle.plan.proofs.TextLines.{skip-turn}
 use Rattle.plan.proofs.ReadOk.{LineOk, line_ok}
 use Rattle.plan.specs.declared.Reading.{Reading}
-use Rattle.plan_read.specs.Private.Fields.{next_line, FirstRead, ListFits}
-use Rattle.plan_read.specs.declared.Line.{Line}
+use Rattle.plan_read.specs.Private.Fields.{Line, next_line, FirstRead, ListFits, LineFits}
 use Rattle.plan_read.proofs.FormLaws.{refused_reading, reading-refused, answer-lines}
-use Rattle.plan_read.proofs.SaysLaws.{LineSays, next-fault, read-says}
+use Rattle.plan_read.proofs.SaysLaws.{LineSays, ListSays, next-err, next-ok, read-says}
 
 -- a column of 64 numbers and a grid of rows, the first n made, the rest 0
 unfoldable pub column : (ℕ → ℕ) → ℕ → List ℕ
@@ -63,10 +62,6 @@ unfolding grid
 grid-turn width places f n row e =
     ap (sets (rows width n f (replicate places 0)) (width * n)) e ∙ sym (rows-turn width n f (replicate places 0))
 
-pub grid-length : (width places : ℕ) (f : ℕ → List ℕ) (n : ℕ) → length (grid width places f n) ≡ places
-unfolding grid
-grid-length width places f n = length-rows width n f (replicate places 0) ∙ length-replicate {A = ℕ} places 0
-
 pub plan-made : (edition boards tasks : ℕ) (task : ℕ → Task)
     → plan_of edition boards tasks task
     ≡ record {
@@ -91,13 +86,12 @@ pub items_back : (stop : ℕ) (l : List ℕ) → length l ≤ 64 → take (some_
 items_back stop l h = ap (take (length l)) (items_kept l h) ∙ take_at l (replicate (64 - length l) 0) (length l) refl
 
 -- a list put where it fits
-pub list_put : (out : List ℕ) (at : ℕ) (list : Items) {written : List ℕ} → ListFits out at list → length list.items ≡ 64
-    → written
-    ≡ cond (leb (at + length (take list.count list.items)) (length out)) (sets out at (take list.count list.items)) out
-    → written ≡ sets out at (take list.count list.items)
-list_put out at list f l e =
-    let n : length (take list.count list.items) ≡ list.count = length-take-le list.count list.items (omega (arith, f.few)) in
-    e ∙ rw (le-leb (at + length (take list.count list.items)) (length out) (omega (arith, f.fits)))
+pub list_put : (out : List ℕ) (at count : ℕ) (items : List ℕ) {written : List ℕ} → ListFits out at count → length items ≡ 64
+    → written ≡ cond (leb (at + length (take count items)) (length out)) (sets out at (take count items)) out
+    → written ≡ sets out at (take count items)
+list_put out at count items f l e =
+    let n : length (take count items) ≡ count = length-take-le count items (omega (arith, f.few)) in
+    e ∙ rw (le-leb (at + length (take count items)) (length out) (omega (arith, f.fits)))
 
 -- k lines are read: what is known of them, and of the rest
 pub record Going (mends : Bool) (s : List ℕ) (k : ℕ) (board ready begin finish holds after rest : List ℕ) : Type 0 where
@@ -110,27 +104,23 @@ pub record Going (mends : Bool) (s : List ℕ) (k : ℕ) (board ready begin fini
   pub holds-is : holds ≡ grid 32 2048 (λ i. (text_task mends s i).holds) k
   pub after_is : after ≡ grid 64 4096 (λ i. (text_task mends s i).after) k
 
-pub going_start : (mends : Bool) (s : List ℕ) {rest : List ℕ} → rest ≡ Split.after LF s
-    → Going mends s 0 (replicate 64 0) (replicate 64 0) (replicate 64 0) (replicate 64 0) (replicate 2048 0) (replicate 4096 0) rest
-unfolding skip_on lines_answer
-going_start mends s e = record {
-  rest-is = e;
-  passed = refl;
-  board-is = column-start _;
-  ready-is = column-start _;
-  begin-is = column-start _;
-  finish-is = column-start _;
-  holds-is = grid-start 32 2048 _;
-  after_is = grid-start 64 4096 _;
-}
+pub going_start : (mends : Bool) (s : List ℕ) {plan : Plan} {rest : List ℕ} → plan ≡ zero_plan → rest ≡ Split.after LF s
+    → Going mends s 0 plan.board plan.ready plan.begin plan.finish plan.holds plan.after rest
+unfolding skip_on lines_answer plan_of each rows
+going_start mends s p e =
+    rw p
+    (record {
+      rest-is = e;
+      passed = refl;
+      board-is = column-start _;
+      ready-is = column-start _;
+      begin-is = column-start _;
+      finish-is = column-start _;
+      holds-is = grid-start 32 2048 _;
+      after_is = grid-start 64 4096 _;
+    })
 
 module _ (mends : Bool) (s : List ℕ) (k : ℕ) {board ready begin finish holds after rest : List ℕ} (g : Going mends s k board ready begin finish holds after rest) where
-  pub holds-whole : 2048 ≡ length holds
-  holds-whole = sym (ap length g.holds-is ∙ grid-length 32 2048 _ k)
-
-  pub after-whole : 4096 ≡ length after
-  after-whole = sym (ap length g.after_is ∙ grid-length 64 4096 _ k)
-
   module _ {edition boards tasks : ℕ} (first : FirstRead mends s edition boards tasks) (e : k ≡ tasks) where
     all : k ≡ tasks_of s
     all = e ∙ first.tasks_are
@@ -175,77 +165,79 @@ module _ (mends : Bool) (s : List ℕ) (k : ℕ) {board ready begin finish holds
           };
         })
 
-  module _ {edition boards tasks : ℕ} (first : FirstRead mends s edition boards tasks) (before_last : k < tasks) {line : Line} (said : line ≡ next_line mends edition boards tasks rest (k + 1)) where
+  module _ {edition boards tasks : ℕ} (first : FirstRead mends s edition boards tasks) (before_last : k < tasks) where
     below : k < tasks_of s
     below = omega (arith, first.tasks_are)
-
-    l : line ≡ next_line mends (edition_of s) (boards_of s) (tasks_of s) rest (k + 1)
-    l = said ∙ rw (first.edition_is, first.boards_are, first.tasks_are)
 
     few : (boards_of s ≤ 1000000) × (k + 1 ≤ 1000000)
     few = (omega (arith, first.few_boards, first.boards_are), omega (arith, first.few_tasks, before_last))
 
-    the-fault : line.fault ≡ fault_of (line_at s (k + 1)) (task_codes mends (has_line (skip (k + 1) s)) (edition_of s) (boards_of s) (tasks_of s) (line_at s (k + 1)) (k + 1))
-    the-fault = rw (l, g.rest-is) (next-fault mends (edition_of s) (boards_of s) (tasks_of s) (skip (k + 1) s) (k + 1) few.0 few.1)
+    abbrev next : Result Line Fault
+    next = next_line mends edition boards tasks rest (k + 1)
 
-    the-answer : line_answer mends s (k + 1) ≡ refuse line.fault.code (k + 2) line.fault.column
+    next-is : next ≡ next_line mends (edition_of s) (boards_of s) (tasks_of s) (skip (k + 1) s) (k + 1)
+    next-is = rw (first.edition_is, first.boards_are, first.tasks_are, g.rest-is)
+
+    abbrev the-fault : Fault
+    the-fault = fault_of (line_at s (k + 1)) (task_codes mends (has_line (skip (k + 1) s)) (edition_of s) (boards_of s) (tasks_of s) (line_at s (k + 1)) (k + 1))
+
+    the-answer : line_answer mends s (k + 1) ≡ refuse the-fault.code (k + 2) the-fault.column
     unfolding line_answer
-    the-answer = let e : k + 1 + 1 ≡ k + 2 = omega arith in rw (the-fault, e)
+    the-answer = let e : k + 1 + 1 ≡ k + 2 = omega arith in rw e
 
-    -- the column is no larger than the text
-    pub column-small : line.fault.column < 4294967296
-    column-small =
-        let c = column-most (line_at s (k + 1)) (task_codes mends (has_line (skip (k + 1) s)) (edition_of s) (boards_of s) (tasks_of s) (line_at s (k + 1)) (k + 1)) in
-        let e : line.fault.column ≡ _ = ap (λ (x : Fault). x.column) the-fault in
-        omega (arith, c, e, index-le LF (skip (k + 1) s), length-take (index_of LF (skip (k + 1) s)) (skip (k + 1) s), skip-le LF (k + 1) s, first.short)
+    module _ {fault : Fault} (said : Err fault ≡ next) where
+      err : (fault ≡ the-fault) × (fault.code ≢ 0)
+      err = next-err mends (edition_of s) (boards_of s) (tasks_of s) (skip (k + 1) s) (k + 1) few.0 few.1 (said ∙ next-is)
 
-    pub going-refused : line.fault.code ≢ 0 → refused_reading (refuse line.fault.code (k + 2) line.fault.column) ≡ lines_of mends s
-    going-refused n =
-        let stops : is_refused (line_answer mends s (k + 1)) ≡ true = rw (the-answer, ne_eqb line.fault.code 0 n) in
-        let hit : lines_answer mends s ≡ refuse line.fault.code (k + 2) line.fault.column =
-        g.passed ∙ scan-hit _ _ _ (k + 1) (tasks_of s + 1) (omega (arith, below)) stops ∙ the-answer in
-        reading-refused mends s (answer-lines mends s first ∙ rw (hit, ne_eqb line.fault.code 0 n)) n
+      -- the column is no larger than the text
+      pub column-small : fault.column < 4294967296
+      column-small =
+          let c = column-most (line_at s (k + 1)) (task_codes mends (has_line (skip (k + 1) s)) (edition_of s) (boards_of s) (tasks_of s) (line_at s (k + 1)) (k + 1)) in
+          let e : fault.column ≡ _ = ap (λ (x : Fault). x.column) err.0 in
+          omega (arith, c, e, index-le LF (skip (k + 1) s), length-take (index_of LF (skip (k + 1) s)) (skip (k + 1) s), skip-le LF (k + 1) s, first.short)
 
-    module _ (z : line.fault.code ≡ 0) where
+      pub going-refused : refused_reading (refuse fault.code (k + 2) fault.column) ≡ lines_of mends s
+      going-refused =
+          let answer : line_answer mends s (k + 1) ≡ refuse fault.code (k + 2) fault.column = rw err.0 the-answer in
+          let stops : is_refused (line_answer mends s (k + 1)) ≡ true = rw (answer, ne_eqb fault.code 0 err.1) in
+          let hit : lines_answer mends s ≡ refuse fault.code (k + 2) fault.column =
+          g.passed ∙ scan-hit _ _ _ (k + 1) (tasks_of s + 1) (omega (arith, below)) stops ∙ answer in
+          reading-refused mends s (answer-lines mends s first ∙ rw (hit, ne_eqb fault.code 0 err.1)) err.1
+
+    module _ {line : Line} (said : Ok line ≡ next) where
+      z : the-fault.code ≡ 0
+      z = next-ok mends (edition_of s) (boards_of s) (tasks_of s) (skip (k + 1) s) (k + 1) few.0 few.1 (said ∙ next-is)
+
       line-there : LineOk mends s k
       line-there = line_ok mends s first.sizes k below (ap (λ (x : Answer). x.code) the-answer ∙ z)
 
-      pub says : LineSays line (text_task mends s k)
+      says : LineSays line (text_task mends s k)
       unfolding next_line
       says =
-          rw (l, g.rest-is)
-          (read-says mends (has_line (skip (k + 1) s)) (edition_of s) (boards_of s) (tasks_of s) (line_at s (k + 1)) (k + 1) few.0 few.1 (omega (arith, first.few_tasks, first.tasks_are))
-          line-there.there line-there.fine)
+          read-says mends (has_line (skip (k + 1) s)) (edition_of s) (boards_of s) (tasks_of s) (line_at s (k + 1)) (k + 1) few.0 few.1 (omega (arith, first.few_tasks, first.tasks_are))
+          line-there.there line-there.fine (said ∙ next-is)
 
-      pub fits : TaskFits (boards_of s) (tasks_of s) (text_task mends s k)
+      fits : TaskFits (boards_of s) (tasks_of s) (text_task mends s k)
       fits = task-fits (boards_of s) (tasks_of s) (text_task mends s k) (fine-task mends (edition_of s) (boards_of s) (tasks_of s) (line_at s (k + 1)) (k + 1) line-there.fine)
 
-      pub board-small : line.board < 256
-      board-small = omega (arith, says.board, fits.board.1, first.few_boards, first.boards_are)
-
-      pub holds-room : ListFits holds (32 * k) line.holds
-      holds-room =
-          let n : line.holds.count ≡ length (text_task mends s k).holds = ap (λ (x : Items). x.count) says.holds in
-          let m : length holds ≡ 2048 = ap length g.holds-is ∙ grid-length 32 2048 _ k in
-          record { few = omega (arith, fits.holds.room); fits = omega (arith, fits.holds.room, first.few_tasks) }
-
-      pub after-room : ListFits after (64 * k) line.after
-      after-room =
-          let n : line.after.count ≡ length (text_task mends s k).after = ap (λ (x : Items). x.count) says.after in
-          let m : length after ≡ 4096 = ap length g.after_is ∙ grid-length 64 4096 _ k in
+      pub line-fits : LineFits k line
+      line-fits =
+          let n : line.holds.count ≡ length (text_task mends s k).holds = says.holds.count in
+          let m : line.after.count ≡ length (text_task mends s k).after = says.after.count in
           record {
-            few = omega (arith, fits.after.room, first.few_tasks, first.tasks_are);
-            fits = omega (arith, fits.after.room, first.few_tasks, first.tasks_are);
+            place = omega (arith, first.few_tasks);
+            board = omega (arith, says.board, fits.board.1, first.few_boards, first.boards_are);
+            holds = omega (arith, fits.holds.room);
+            after = omega (arith, fits.after.room, first.few_tasks, first.tasks_are);
           }
 
-      list_back : {list : Items} {stop : ℕ} {l : List ℕ} → list ≡ some_items stop l → length l ≤ 64 → take list.count list.items ≡ l
-      list_back {stop = stop} {l = l} e h = rw e (items_back stop l h)
+      list_back : {list : Items} {l : List ℕ} → ListSays list l → length l ≤ 64 → take list.count list.items ≡ l
+      list_back {l = l} e h = (λ i. take (e.count i) (e.items i)) ∙ items_back 0 l h
 
-      pub going-turn : {holds2 after2 rest2 : List ℕ}
-          → holds2 ≡ sets holds (32 * k) (take line.holds.count line.holds.items)
-          → after2 ≡ sets after (64 * k) (take line.after.count line.after.items) → rest2 ≡ Split.after LF rest
-          → Going mends s (k + 1) (set board k line.board) (set ready k line.ready) (set begin k line.begin) (set finish k line.finish) holds2 after2 rest2
-      going-turn h a r = record {
+      pub going-turn : {rest2 : List ℕ} → rest2 ≡ Split.after LF rest
+          → Going mends s (k + 1) (set board k line.board) (set ready k line.ready) (set begin k line.begin) (set finish k line.finish)
+          (sets holds (32 * k) (take line.holds.count line.holds.items)) (sets after (64 * k) (take line.after.count line.after.items)) rest2
+      going-turn r = record {
         rest-is = r ∙ ap (Split.after LF) g.rest-is ∙ sym (skip-turn (k + 1) s);
         passed = g.passed ∙ scan-turn _ _ _ (k + 1) (tasks_of s + 1) (omega (arith, below)) (rw (the-answer, z));
         board-is = ap (λ (x : List ℕ). set x k line.board) g.board-is ∙ column-turn _ k line.board says.board;
@@ -253,9 +245,9 @@ module _ (mends : Bool) (s : List ℕ) (k : ℕ) {board ready begin finish holds
         begin-is = ap (λ (x : List ℕ). set x k line.begin) g.begin-is ∙ column-turn _ k line.begin says.begin;
         finish-is = ap (λ (x : List ℕ). set x k line.finish) g.finish-is ∙ column-turn _ k line.finish says.finish;
         holds-is =
-            h ∙ ap (λ (x : List ℕ). sets x (32 * k) (take line.holds.count line.holds.items)) g.holds-is
+            ap (λ (x : List ℕ). sets x (32 * k) (take line.holds.count line.holds.items)) g.holds-is
             ∙ grid-turn 32 2048 _ k _ (list_back says.holds (omega (arith, fits.holds.room)));
         after_is =
-            a ∙ ap (λ (x : List ℕ). sets x (64 * k) (take line.after.count line.after.items)) g.after_is
+            ap (λ (x : List ℕ). sets x (64 * k) (take line.after.count line.after.items)) g.after_is
             ∙ grid-turn 64 4096 _ k _ (list_back says.after (omega (arith, fits.after.room, first.few_tasks, first.tasks_are)));
       }

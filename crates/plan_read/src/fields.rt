@@ -1,96 +1,118 @@
 // The fields of the first line and of a task line.
-ghost use Rattle.std.specs.Prelude.{◌≡◌, false, not, cond, ◌∷◌, ◌≤◌};
-ghost use Rattle.laws.specs.Split.{skip_on};
+ghost use Rattle.std.specs.Prelude.{◌≡◌, suc, false, ◌∷◌, ◌≤◌, length, drop};
+ghost use Rattle.laws.specs.Split.{before, skip_on};
 ghost use Rattle.text.specs.Line.{TAB};
+ghost use Rattle.text_fields.specs.Said.{code_in, ranged_in};
 ghost use Rattle.plan.specs.Read.{codes_from, ready_code};
-ghost use Rattle.plan_read.specs.Private.Fields.{sizes_read, no_sizes, no_line, tail_read, ready_at, ready_in, holds_in, items_mended, tail_mended, line_by, line_read};
+ghost use Rattle.plan_read.specs.Mode.{mends};
+ghost use Rattle.plan_read.specs.Private.Editions.{edition_number, is_mended, is_strict};
+ghost use Rattle.plan_read.specs.Private.Fields.{size_read, edition_read, sizes_read, ready_by, holds_by, after_by, tail_by, ready_at, list_in, tail_in, line_said, line_in, line_made, line_by, line_read, TailRight};
 
-use crate::{Line, Sizes, Tail};
+use crate::{CutLine, Edition, Head, Line, Mode, Sizes, Tail};
 use text::decimal::NUMBER_MOST;
 use text::part::{TAB, count_fields, field, part_before, past, same};
-use text_fields::faults::{end_code, fault_of, is_faultless, read_ranged, word_code};
+use text_fields::faults::{check_line, end_fault, read_ranged, word_fault};
 use text_fields::list::{has_shared, make_exclusive, read_after, read_holds};
-use text_fields::{Fault, Items, Ranged};
+use text_fields::{Fault, FieldFault, Items};
 
-fn no_sizes() -> Sizes
-    ensures { result ≡ no_sizes }
+// A number of the first line, if it is one in its range.
+fn size(field: &[u8], low: u32, high: u32) -> Option<u32>
+    requires { high ≤ 1000000 }
+    ensures { result ≡ size_read low high field.now }
 {
-    Sizes {
-        ok: false,
-        edition: 0,
-        boards: 0,
-        tasks: 0,
-    }
+    read_ranged(field, low, high).ok()
 }
 
 // A reading that mends takes edition 2 alone.
-fn lowest_edition(mends: bool) -> u32
-    ensures { result ≡ cond mends 2 1 }
+fn read_edition(field: &[u8], mode: Mode) -> Option<Edition>
+    ensures { result ≡ edition_read (mends mode) field.now }
 {
-    if mends {
-        return 2;
+    match mode {
+        Mode::Plain => match size(field, 1, 2)? {
+            1 => Some(Edition::First),
+            _ => Some(Edition::Second),
+        },
+        Mode::Mending => {
+            size(field, 2, 2)?;
+            Some(Edition::Mended)
+        }
     }
-    1
 }
 
 // The first line.
-pub(crate) fn read_sizes(line: &[u8], mends: bool) -> Sizes
-    ensures { result ≡ sizes_read mends line.now }
+pub(crate) fn read_sizes(line: &[u8], mode: Mode) -> Option<Sizes>
+    ensures { result ≡ sizes_read (mends mode) line.now }
 {
     if count_fields(line) != 4 {
-        return no_sizes();
+        return None;
     }
     if !same(field(line, 0), b"plan") {
-        return no_sizes();
+        return None;
     }
-    let edition = read_ranged(field(line, 1), lowest_edition(mends), 2);
-    let boards = read_ranged(field(line, 2), 1, 8);
-    let tasks = read_ranged(field(line, 3), 1, 64);
-    if (edition.code != 0) | ((boards.code != 0) | (tasks.code != 0)) {
-        return no_sizes();
+    let edition = read_edition(field(line, 1), mode)?;
+    let boards = size(field(line, 2), 1, 8)?;
+    let tasks = size(field(line, 3), 1, 64)?;
+    Some(Sizes {
+        edition,
+        boards,
+        tasks,
+    })
+}
+
+// The first field, and what stands after its tab.
+fn split_field(rest: &[u8]) -> (&[u8], &[u8])
+    ensures { (result.0.now ≡ before TAB rest.now) × (result.1.now ≡ drop (suc (length result.0.now)) rest.now) }
+{
+    let first = part_before(rest, TAB);
+    (first, past(rest, first.len()))
+}
+
+// The ready tick, which is not after the planned start.
+fn read_ready(field: &[u8], begin: u32) -> Result<u32, FieldFault>
+    ensures { ranged_in result ≡ ready_by begin field.now }
+{
+    let ready = read_ranged(field, 0, NUMBER_MOST)?;
+    if begin < ready {
+        return Err(FieldFault::ReadyLate);
     }
-    Sizes {
-        ok: true,
-        edition: edition.value,
-        boards: boards.value,
-        tasks: tasks.value,
+    Ok(ready)
+}
+
+// The holds. A shared one stands in edition 1, is refused in edition 2, and is mended where that is asked.
+fn read_held(field: &[u8], edition: Edition) -> Result<Items, FieldFault>
+    ensures { list_in result ≡ holds_by edition field.now }
+{
+    let mut holds = read_holds(field)?;
+    match edition {
+        Edition::First => Ok(holds),
+        Edition::Second if has_shared(&holds.items) => Err(FieldFault::Shared),
+        Edition::Second => Ok(holds),
+        Edition::Mended => {
+            make_exclusive(&mut holds.items);
+            Ok(holds)
+        }
     }
 }
 
-fn no_line(fault: Fault) -> Line
-    ensures { result ≡ no_line fault }
+// The tasks to come after.
+fn read_order(field: &[u8], tasks: u32) -> Result<Items, FieldFault>
+    ensures { list_in result ≡ after_by tasks field.now }
 {
-    let none = Items {
-        code: 0,
-        stop: 0,
-        count: 0,
-        items: [0u8; 64],
-    };
-    Line {
-        fault,
-        board: 0,
-        ready: 0,
-        begin: 0,
-        finish: 0,
-        holds: none,
-        after: none,
-    }
+    Ok(read_after(field, tasks)?)
 }
 
 // From the planned start on. Each field is looked for where the one before it ends.
-fn read_tail(rest: &[u8], tasks: u32) -> Tail
-    ensures { result ≡ tail_read tasks rest.now 0 }
+// A planned finish is held against 0 where the planned start is refused.
+fn read_tail(rest: &[u8], sizes: Sizes) -> Tail
+    ensures { tail_in result ≡ tail_by sizes.edition sizes.tasks rest.now 0 }
 {
-    let begin_field = part_before(rest, TAB);
-    let from_finish = past(rest, begin_field.len());
-    let finish_field = part_before(from_finish, TAB);
-    let from_holds = past(from_finish, finish_field.len());
-    let holds_field = part_before(from_holds, TAB);
-    let from_after = past(from_holds, holds_field.len());
+    let (begin_field, from_finish) = split_field(rest);
+    let (finish_field, from_holds) = split_field(from_finish);
+    let (holds_field, from_after) = split_field(from_holds);
     let begin = read_ranged(begin_field, 0, NUMBER_MOST);
-    let finish = read_ranged(finish_field, begin.value + 1, NUMBER_MOST);
-    let holds = read_holds(holds_field);
-    let after = read_after(part_before(from_after, TAB), tasks);
+    let finish = read_ranged(finish_field, begin.unwrap_or(0) + 1, NUMBER_MOST);
+    let holds = read_held(holds_field, sizes.edition);
+    let after = read_order(part_before(from_after, TAB), sizes.tasks);
     Tail {
         begin,
         finish,
@@ -99,157 +121,82 @@ fn read_tail(rest: &[u8], tasks: u32) -> Tail
     }
 }
 
-// A line by the codes of its fields: only a refused one is looked at for its column.
-fn line_by<'a>(line: &'a [u8], codes: &'a [u8], board: u32, ready: u32, tail: Tail) -> Line
-    ensures { result ≡ line_by line.now codes.now board ready tail }
+// What a line says in which no field is at fault.
+fn line_of(board: u32, ready: u32, tail: Tail) -> Line
+    requires { TailRight (tail_in tail) }
+    ensures { line_said result ≡ line_made board ready (tail_in tail) }
 {
-    if !is_faultless(codes) {
-        return no_line(fault_of(line, codes));
-    }
-    let begin = tail.begin;
-    let finish = tail.finish;
-    let holds = tail.holds;
-    let after = tail.after;
     Line {
-        fault: Fault { code: 0, column: 0 },
         board,
         ready,
-        begin: begin.value,
-        finish: finish.value,
-        holds,
-        after,
+        begin: tail.begin.unwrap(),
+        finish: tail.finish.unwrap(),
+        holds: tail.holds.unwrap(),
+        after: tail.after.unwrap(),
     }
 }
 
-// A line of edition 1 past its board.
-fn read_first<'a>(
-    line: &'a [u8],
-    ended: bool,
-    tasks: u32,
-    word: u8,
-    number: u8,
-    board: Ranged,
-    rest: &'a [u8],
-) -> Line
-    requires { (tasks ≤ 64) × (rest.now ≡ skip_on TAB 3 line.now) }
-    ensures { result ≡ line_by line.now (word ∷ number ∷ board.code ∷ codes_from false ended tasks line.now 3) board.value 0 (tail_read tasks line.now 3) }
+// A line of edition 1 past its board. A fault's place in the list is its field's, so each edition has its own list.
+fn read_first(line: CutLine<'_>, sizes: Sizes, head: Head, rest: &[u8]) -> Result<Line, Fault>
+    requires { (sizes.tasks ≤ 64) × (rest.now ≡ skip_on TAB 3 line.text.now) }
+    ensures { line_in result ≡ line_by line.entry.text.now (code_in head.word ∷ code_in head.number ∷ (ranged_in head.board).code ∷ codes_from (is_strict sizes.edition) line.entry.ended sizes.tasks line.entry.text.now 3) (ranged_in head.board).value 0 (tail_by sizes.edition sizes.tasks line.entry.text.now 3) }
 {
-    let tail = read_tail(rest, tasks);
-    let codes = [
-        word,
-        number,
-        board.code,
-        tail.begin.code,
-        tail.finish.code,
-        tail.holds.code,
-        tail.after.code,
-        end_code(line, 7, ended),
+    let tail = read_tail(rest, sizes);
+    let faults = [
+        head.word,
+        head.number,
+        head.board.err(),
+        tail.begin.err(),
+        tail.finish.err(),
+        tail.holds.err(),
+        tail.after.err(),
+        end_fault(line.text, 7, line.ended),
     ];
-    line_by(line, &codes, board.value, 0, tail)
-}
-
-// 18: ready after planned start.
-fn ready_code(ready: Ranged, begin: u32) -> u8
-    ensures { result ≡ ready_in ready begin }
-{
-    if (ready.code == 0) & (begin < ready.value) {
-        return 18;
-    }
-    ready.code
-}
-
-// 20: a shared hold where it is retired.
-fn holds_code(holds: Items, retired: bool) -> u8
-    ensures { result ≡ holds_in retired holds }
-{
-    let items = holds.items;
-    if (holds.code == 0) & (retired & has_shared(&items)) {
-        return 20;
-    }
-    holds.code
-}
-
-// A reading that mends makes `s` into `e`.
-fn mended(holds: Items, mends: bool) -> Items
-    ensures { result ≡ items_mended mends holds }
-{
-    if !mends {
-        return holds;
-    }
-    let mut items = holds.items;
-    make_exclusive(&mut items);
-    Items {
-        code: holds.code,
-        stop: holds.stop,
-        count: holds.count,
-        items,
-    }
+    check_line(line.text, &faults)?;
+    let board = head.board.unwrap();
+    Ok(line_of(board, 0, tail))
 }
 
 // A line of edition 2 past its board.
-fn read_second<'a>(
-    line: &'a [u8],
-    mends: bool,
-    ended: bool,
-    tasks: u32,
-    word: u8,
-    number: u8,
-    board: Ranged,
-    rest: &'a [u8],
-) -> Line
-    requires { (tasks ≤ 64) × (rest.now ≡ skip_on TAB 3 line.now) }
-    ensures { result ≡ line_by line.now (word ∷ number ∷ board.code ∷ ready_code line.now ∷ codes_from (not mends) ended tasks line.now 4) board.value (ready_at line.now) (tail_mended mends (tail_read tasks line.now 4)) }
+fn read_second(line: CutLine<'_>, sizes: Sizes, head: Head, rest: &[u8]) -> Result<Line, Fault>
+    requires { (sizes.tasks ≤ 64) × (rest.now ≡ skip_on TAB 3 line.text.now) }
+    ensures { line_in result ≡ line_by line.entry.text.now (code_in head.word ∷ code_in head.number ∷ (ranged_in head.board).code ∷ ready_code line.entry.text.now ∷ codes_from (is_strict sizes.edition) line.entry.ended sizes.tasks line.entry.text.now 4) (ranged_in head.board).value (ready_at line.entry.text.now) (tail_by sizes.edition sizes.tasks line.entry.text.now 4) }
 {
-    let ready_field = part_before(rest, TAB);
-    let ready = read_ranged(ready_field, 0, NUMBER_MOST);
-    let tail = read_tail(past(rest, ready_field.len()), tasks);
-    let codes = [
-        word,
-        number,
-        board.code,
-        ready_code(ready, tail.begin.value),
-        tail.begin.code,
-        tail.finish.code,
-        holds_code(tail.holds, !mends),
-        tail.after.code,
-        end_code(line, 8, ended),
+    let (ready_field, from_begin) = split_field(rest);
+    let tail = read_tail(from_begin, sizes);
+    let ready = read_ready(ready_field, tail.begin.unwrap_or(0));
+    let faults = [
+        head.word,
+        head.number,
+        head.board.err(),
+        ready.err(),
+        tail.begin.err(),
+        tail.finish.err(),
+        tail.holds.err(),
+        tail.after.err(),
+        end_fault(line.text, 8, line.ended),
     ];
-    let begin = tail.begin;
-    let finish = tail.finish;
-    let after = tail.after;
-    let says = Tail {
-        begin,
-        finish,
-        holds: mended(tail.holds, mends),
-        after,
-    };
-    line_by(line, &codes, board.value, ready.value, says)
+    check_line(line.text, &faults)?;
+    let board = head.board.unwrap();
+    let tick = ready.unwrap();
+    Ok(line_of(board, tick, tail))
 }
 
 // The k-th task line.
-pub(crate) fn read_line(
-    line: &[u8],
-    mends: bool,
-    ended: bool,
-    edition: u32,
-    boards: u32,
-    tasks: u32,
-    k: u32,
-) -> Line
-    requires { tasks ≤ 64 }
-    ensures { result ≡ line_read mends ended edition boards tasks line.now k }
+pub(crate) fn read_line(line: CutLine<'_>, sizes: Sizes, k: u32) -> Result<Line, Fault>
+    requires { sizes.tasks ≤ 64 }
+    ensures { line_in result ≡ line_read (is_mended sizes.edition) line.entry.ended (edition_number sizes.edition) sizes.boards sizes.tasks line.entry.text.now k }
 {
-    let word = part_before(line, TAB);
-    let from_number = past(line, word.len());
-    let number_field = part_before(from_number, TAB);
-    let from_board = past(from_number, number_field.len());
-    let board_field = part_before(from_board, TAB);
-    let rest = past(from_board, board_field.len());
-    let word_is = word_code(word, b"task");
-    let number = read_ranged(number_field, k, k);
-    let board = read_ranged(board_field, 1, boards);
-    if edition == 2 {
-        return read_second(line, mends, ended, tasks, word_is, number.code, board, rest);
+    let (word_field, from_number) = split_field(line.text);
+    let (number_field, from_board) = split_field(from_number);
+    let (board_field, rest) = split_field(from_board);
+    let head = Head {
+        word: word_fault(word_field, b"task"),
+        number: read_ranged(number_field, k, k).err(),
+        board: read_ranged(board_field, 1, sizes.boards),
+    };
+    match sizes.edition {
+        Edition::First => read_first(line, sizes, head, rest),
+        Edition::Second | Edition::Mended => read_second(line, sizes, head, rest),
     }
-    read_first(line, ended, tasks, word_is, number.code, board, rest)
 }

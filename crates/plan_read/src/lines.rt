@@ -5,41 +5,31 @@ ghost use Rattle.text.specs.Line.{LF};
 ghost use Rattle.laws.specs.Split.{index_of};
 ghost use Rattle.plan.specs.Value.{zero_plan};
 ghost use Rattle.plan.specs.Read.{lines_of};
-ghost use Rattle.plan_read.specs.Private.Fields.{next_line, FirstRead, ListFits};
+ghost use Rattle.plan_read.specs.Mode.{mends, IsRead};
+ghost use Rattle.plan_read.specs.Private.Editions.{edition_number, is_mended};
+ghost use Rattle.plan_read.specs.Private.Fields.{next_line, with_line, line_said, line_in, FirstRead, ListFits, LineFits, LinesMade};
 
-use crate::Line;
 use crate::fields::{read_line, read_sizes};
-use plan::{Answer, Plan, Reading, refuse};
+use crate::{CutLine, Line, Mode, Sizes};
+use plan::{Answer, Plan, Reading, Refusal, refuse};
 use text::TEXT_MOST;
 use text::part::{LF, find, part_after, part_before, past};
 use text::put::put_text;
-use text_fields::Items;
+use text_fields::{Fault, Items};
 
 // The k-th task line, which begins the rest of the text and ends at the first LF.
-fn next_line(
-    rest: &[u8],
-    end: usize,
-    mends: bool,
-    edition: u32,
-    boards: u32,
-    tasks: u32,
-    k: u32,
-) -> Line
-    requires { (tasks ≤ 64) × (end ≡ index_of LF rest.now) }
-    ensures { result ≡ next_line mends edition boards tasks rest.now k }
+fn next_line(rest: &[u8], end: usize, sizes: Sizes, k: u32) -> Result<Line, Fault>
+    requires { (sizes.tasks ≤ 64) × (end ≡ index_of LF rest.now) }
+    ensures { line_in result ≡ next_line (is_mended sizes.edition) (edition_number sizes.edition) sizes.boards sizes.tasks rest.now k }
 {
-    read_line(
-        &rest[..end],
-        mends,
-        end < rest.len(),
-        edition,
-        boards,
-        tasks,
-        k,
-    )
+    let line = CutLine {
+        text: &rest[..end],
+        ended: end < rest.len(),
+    };
+    read_line(line, sizes, k)
 }
 
-fn zero_plan() -> Plan
+pub(crate) fn zero_plan() -> Plan
     ensures { result ≡ zero_plan }
 {
     Plan {
@@ -67,80 +57,76 @@ pub fn refused(answer: Answer) -> Reading
 
 // A list's items from a place on.
 fn put_items(out: &mut [u8], at: usize, list: Items)
-    requires { ListFits out.old at list }
+    requires { ListFits out.old at list.count }
     ensures { out.new ≡ sets out.old at (take list.count list.items) }
 {
-    let items = list.items;
-    let count = list.count;
-    put_text(out, at, &items[..count]);
+    put_text(out, at, &list.items[..list.count]);
+}
+
+// What a line says, as the plan's i-th task from 0.
+fn put_line(plan: &mut Plan, i: usize, line: Line)
+    requires { LineFits i (line_said line) }
+    ensures { plan.new ≡ with_line plan.old i (line_said line) }
+{
+    plan.board[i] = line.board as u8;
+    plan.ready[i] = line.ready;
+    plan.begin[i] = line.begin;
+    plan.finish[i] = line.finish;
+    put_items(&mut plan.holds, 32 * i, line.holds);
+    put_items(&mut plan.after, 64 * i, line.after);
 }
 
 // The task lines, the rest of the text going on to the next line's reader.
-// Six arrays, and one `Reading` made of them: a `Plan` that is lent and filled takes 13,984 bytes of stack more.
-#[inline(always)]
-fn read_tasks(text: &[u8], mends: bool, edition: u32, boards: u32, tasks: u32) -> Reading
-    requires { FirstRead mends text.now edition boards tasks }
-    ensures { result ≡ lines_of mends text.now }
+fn read_tasks(plan: &mut Plan, text: &[u8], sizes: Sizes) -> Result<(), Answer>
+    requires { (plan.old ≡ zero_plan) × FirstRead (is_mended sizes.edition) text.now (edition_number sizes.edition) sizes.boards sizes.tasks }
+    ensures { LinesMade (lines_of (is_mended sizes.edition) text.now) plan.new result }
 {
-    let mut board = [0u8; 64];
-    let mut ready = [0u32; 64];
-    let mut begin = [0u32; 64];
-    let mut finish = [0u32; 64];
-    let mut holds = [0u8; 2048];
-    let mut after = [0u8; 4096];
+    plan.edition = sizes.edition.number();
+    plan.boards = sizes.boards as u8;
+    plan.tasks = sizes.tasks as u8;
     let mut rest = part_after(text, LF);
-    let mut k: u32 = 0;
-    while k < tasks {
+    for k in 0..sizes.tasks {
         let end = find(rest, LF);
-        let line = next_line(rest, end, mends, edition, boards, tasks, k + 1);
-        let fault = line.fault;
-        if fault.code != 0 {
-            return refused(refuse(fault.code as u32, k + 2, fault.column as u32));
+        match next_line(rest, end, sizes, k + 1) {
+            Ok(line) => put_line(plan, k as usize, line),
+            Err(fault) => return Err(refuse(fault.kind.number(), k + 2, fault.column as u32)),
         }
-        let i = k as usize;
-        board[i] = line.board as u8;
-        ready[i] = line.ready;
-        begin[i] = line.begin;
-        finish[i] = line.finish;
-        put_items(&mut holds, 32 * i, line.holds);
-        put_items(&mut after, 64 * i, line.after);
-        let next = past(rest, end);
-        rest = next;
-        k += 1;
+        rest = past(rest, end);
     }
-    if rest.len() != 0 {
-        return refused(refuse(5, tasks + 2, 0));
+    if !rest.is_empty() {
+        return Err(Refusal::BytesLeft.answer(sizes.tasks + 2, 0));
     }
-    Reading {
-        answer: refuse(0, 0, 0),
-        plan: Plan {
-            edition: edition as u8,
-            boards: boards as u8,
-            tasks: tasks as u8,
-            board,
-            ready,
-            begin,
-            finish,
-            holds,
-            after,
-        },
-    }
+    Ok(())
 }
 
-// The plan that the lines make, or the first refusal. Its pairs are not examined here. A reading that mends lets shared holds stand.
-#[inline(always)]
-pub fn read_lines(text: &[u8], mends: bool) -> Reading
-    ensures { result ≡ lines_of mends text.now }
+// The plan of zeros becomes the one that the lines make, unless they are refused.
+fn fill_plan(plan: &mut Plan, text: &[u8], mode: Mode) -> Result<(), Answer>
+    requires { plan.old ≡ zero_plan }
+    ensures { LinesMade (lines_of (mends mode) text.now) plan.new result }
 {
     if TEXT_MOST < text.len() {
-        return refused(refuse(1, 0, 0));
+        return Err(Refusal::TextTooLong.answer(0, 0));
     }
     if find(text, LF) == text.len() {
-        return refused(refuse(2, 1, 0));
+        return Err(Refusal::FirstLine.answer(1, 0));
     }
-    let sizes = read_sizes(part_before(text, LF), mends);
-    if !sizes.ok {
-        return refused(refuse(2, 1, 0));
+    let Some(sizes) = read_sizes(part_before(text, LF), mode) else {
+        return Err(Refusal::FirstLine.answer(1, 0));
+    };
+    read_tasks(plan, text, sizes)
+}
+
+// The plan becomes the one that the lines make, or a plan of zeros beside the first refusal.
+// Its pairs are not examined here. A reading that mends lets shared holds stand.
+pub fn read_lines(plan: &mut Plan, text: &[u8], mode: Mode) -> Result<(), Answer>
+    ensures { IsRead (lines_of (mends mode) text.now) plan.new result }
+{
+    *plan = zero_plan();
+    match fill_plan(plan, text, mode) {
+        Ok(()) => Ok(()),
+        Err(answer) => {
+            *plan = zero_plan();
+            Err(answer)
+        }
     }
-    read_tasks(text, mends, sizes.edition, sizes.boards, sizes.tasks)
 }

@@ -25,8 +25,8 @@ use Rattle.plan.specs.Answer.{refuse}
 use Rattle.plan_write.specs.Private.WriteParts.{item_text, number_field, list_field, ready_field, numbers_text, Measured, Room, Wrote, Answered}
 use Rattle.plan.specs.declared.Plan.{Plan}
 use Rattle.plan.specs.declared.WriteResult.{WriteResult}
-use Rattle.plan_write.specs.declared.Listed.{Listed}
-use Rattle.plan_write.specs.declared.Listed.TheVariants.{Holds, Tasks}
+use Rattle.text_fields.specs.declared.Listed.{Listed}
+use Rattle.text_fields.specs.declared.Listed.TheVariants.{Holds, Tasks}
 use Rattle.plan_write.proofs.RunLaws.{nothing, Left, joined, two, all_left, next-room, turn, parted, done}
 
 -- the writer's answer, and the length of what it wrote
@@ -68,10 +68,9 @@ module _ (text : ℕ → List ℕ) where
   list-none [] h = refl
   list-none (x ∷ l) h = absurd (omega arith)
 
-  pub list-some : (l : List ℕ) → (length l ≡ 0 → ⊥) → list_text text l ≡ text (get_or l 0 0) ++ later_text text (drop 1 l)
+  pub list-some : {l : List ℕ} (x : ℕ) (others : List ℕ) → l ≡ x ∷ others → list_text text l ≡ text x ++ later_text text others
   unfolding list_text
-  list-some [] h = absurd (h refl)
-  list-some (x ∷ l) h = join-later x l
+  list-some x others e = rw e (join-later x others)
 
   pub later-turn :
       (l : List ℕ) (i : ℕ) → i < length l
@@ -91,11 +90,12 @@ module _ (text : ℕ → List ℕ) where
     next-item h s = parted s (COMMA ∷ text (get_or l i 0)) (later_text text (drop (i + 1) l)) (later-turn l i h)
 
   -- its length, item by item
-  module _ (l : List ℕ) (n i : ℕ) where
-    pub len-start :
-        (length l ≡ 0 → ⊥) → n ≡ length (text (get_or l 0 0)) → n + length (later_text text (drop 1 l)) ≡ length (list_text text l)
-    len-start h e = rw (list-some l h, length-append, ← e)
+  pub len-start :
+      {l : List ℕ} {n : ℕ} (x : ℕ) (others : List ℕ) → l ≡ x ∷ others → n ≡ length (text x)
+      → n + length (later_text text others) ≡ length (list_text text l)
+  len-start x others h e = rw (list-some x others h, length-append, ← e)
 
+  module _ (l : List ℕ) (n i : ℕ) where
     module _ {x : ℕ} (rest : n + length (later_text text (drop i l)) ≡ x) where
       pub len-turn :
           {k : ℕ} → i < length l → k ≡ length (text (get_or l i 0)) → n + (1 + k) + length (later_text text (drop (i + 1) l)) ≡ x

@@ -4,10 +4,3 @@
 mod measure;
 mod parts;
 pub mod write;
-
-// What a list field lists: holds, each with its letter, or tasks.
-#[derive(Clone, Copy)]
-pub(crate) enum Listed {
-    Holds,
-    Tasks,
-}

@@ -7,10 +7,10 @@ ghost use Rattle.plan.specs.View.{viewed};
 ghost use Rattle.plan.specs.Write.{sizes_text, task_text, task_texts};
 ghost use Rattle.plan_write.specs.Private.WriteParts.{item_text, ready_field, numbers_text, Measured};
 
-use crate::Listed;
 use plan::PlanView;
 use text::decimal::width;
 use text::part::part_before;
+use text_fields::Listed;
 
 fn number_len(n: u32) -> usize
     ensures { Measured (digits_of n) 10 result }
@@ -31,17 +31,17 @@ fn list_len(items: &[u8], listed: Listed) -> usize
     requires { length items.now ≤ 64 }
     ensures { Measured (list_text (item_text listed) items.now) 800 result }
 {
-    if items.len() == 0 {
+    let Some((first, others)) = items.split_first() else {
         return 1;
-    }
-    let mut n = item_len(listed, items[0]);
-    for i in 1..items.len() {
-        n += 1 + item_len(listed, items[i]);
+    };
+    let mut n = item_len(listed, *first);
+    for x in others {
+        n += 1 + item_len(listed, *x);
     }
     n
 }
 
-// The ready tick is written in edition 2 alone.
+// The ready tick is written in edition 2 alone. `edition` is a plan's byte, which may be any (C interface).
 fn ready_len(edition: u8, ready: u32) -> usize
     ensures { Measured (ready_field edition ready) 11 result }
 {

@@ -6,10 +6,10 @@ ghost use Rattle.plan.specs.View.{viewed};
 ghost use Rattle.plan.specs.Write.{sizes_text, task_text, task_texts};
 ghost use Rattle.plan_write.specs.Private.WriteParts.{item_text, number_field, list_field, ready_field, numbers_text, Room, Wrote};
 
-use crate::Listed;
 use plan::PlanView;
 use text::part::{LF, TAB, part_before};
 use text::put::{put_byte, put_number, put_text};
+use text_fields::Listed;
 
 const COMMA: u8 = b',';
 
@@ -56,12 +56,12 @@ fn put_items(out: &mut [u8], at: usize, items: &[u8], listed: Listed) -> usize
     requires { Room out.old at (list_text (item_text listed) items.now) }
     ensures { Wrote out.old at (list_text (item_text listed) items.now) out.new result }
 {
-    if items.len() == 0 {
+    let Some((first, others)) = items.split_first() else {
         return put_byte(out, at, b'-');
-    }
-    let mut place = put_item(out, at, listed, items[0]);
-    for i in 1..items.len() {
-        place = put_next_item(out, place, listed, items[i]);
+    };
+    let mut place = put_item(out, at, listed, *first);
+    for x in others {
+        place = put_next_item(out, place, listed, *x);
     }
     place
 }
@@ -74,6 +74,7 @@ fn put_list_field(out: &mut [u8], at: usize, items: &[u8], listed: Listed, end: 
     put_byte(out, next, end)
 }
 
+// `edition` is a plan's byte, which may be any (C interface).
 fn put_ready(out: &mut [u8], at: usize, edition: u8, ready: u32) -> usize
     requires { Room out.old at (ready_field edition ready) }
     ensures { Wrote out.old at (ready_field edition ready) out.new result }

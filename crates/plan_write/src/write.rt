@@ -7,7 +7,7 @@ ghost use Rattle.plan_write.specs.Private.WriteParts.{Answered};
 
 use crate::measure::{sizes_len, tasks_len};
 use crate::parts::{put_sizes, put_tasks};
-use plan::{Plan, PlanView, WriteResult, refuse};
+use plan::{Plan, PlanView, Refusal, WriteResult, granted};
 use plan_judge::value::is_accepted;
 
 // The text of an accepted plan, where there is room for it.
@@ -18,14 +18,14 @@ fn write_accepted(out: &mut [u8], plan: &PlanView<'_>) -> WriteResult
     let needed = sizes_len(plan) + tasks_len(plan);
     if out.len() < needed {
         return WriteResult {
-            answer: refuse(16, needed as u32, 0),
+            answer: Refusal::BufferTooShort.answer(needed as u32, 0),
             length: 0,
         };
     }
     let at = put_sizes(out, 0, plan);
     put_tasks(out, at, plan);
     WriteResult {
-        answer: refuse(0, 0, 0),
+        answer: granted(),
         length: needed as u32,
     }
 }
@@ -37,7 +37,7 @@ pub fn write_plan(plan: Plan, out: &mut [u8]) -> WriteResult
     let view = plan.view();
     if !is_accepted(&view) {
         return WriteResult {
-            answer: refuse(9, 0, 0),
+            answer: Refusal::Unsound.answer(0, 0),
             length: 0,
         };
     }

@@ -8,8 +8,7 @@ use Rattle.text.specs.Bytes.{bytes}
 use Rattle.text.specs.Number.{is_number, value_of, most}
 use Rattle.text.specs.Line.{has_line, skip, line_at, fields, field, line_text}
 use Rattle.text_fields.specs.Items.{between, is_list, list_of, is_hold, hold_of, holds_ok, after_ok}
-use Rattle.text_fields.specs.Faults.{code_for, field_code, word_code, end_code, column_of}
-use Rattle.text_fields.specs.declared.Fault.{Fault}
+use Rattle.text_fields.specs.Faults.{Fault, code_for, field_code, word_code, end_code, column_of}
 use Rattle.theory.specs.Words.Events.{Event}
 use Rattle.theory.specs.Report.{drop_it}
 use Rattle.theory.specs.Words.Unready.{plain_opened, plain_next, plain_sound, plain_early}

@@ -12,8 +12,7 @@ use Rattle.laws.specs.Lists.{same}
 use Rattle.text.specs.Bytes.{bytes}
 use Rattle.text.specs.Number.{value_of, most}
 use Rattle.text.specs.Line.{field}
-use Rattle.text_fields.specs.Faults.{field_code, line_codes, fault_of, unless_fault}
-use Rattle.text_fields.specs.declared.Fault.{Fault}
+use Rattle.text_fields.specs.Faults.{Fault, field_code, line_codes, fault_of, unless_fault}
 use Rattle.log_read.specs.Entries.{entry_of}
 use Rattle.log_read.specs.Rules.{choice_in}
 use Rattle.log_read.specs.Said.{Choice}

@@ -19,7 +19,7 @@ use Rattle.plan.specs.Value.{at}
 use Rattle.plan.specs.declared.Plan.{Plan}
 use Rattle.school.specs.Lines.{says_none, later_said}
 use Rattle.school.specs.Tasks.{is_start, is_end, how_many, first_of}
-use Rattle.school.specs.declared.LogLine.{LogLine}
+use Rattle.school.specs.Said.{LogLine}
 use Rattle.promises_school.proofs.OwnMoments.{Moment, moment-append, moment-stays}
 
 -- what is known of each start and end: 0 for nothing, or the tick and 1

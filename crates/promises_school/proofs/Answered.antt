@@ -18,7 +18,7 @@ use Rattle.book_view.proofs.Accepted.{plan-facts}
 use Rattle.school.specs.Lines.{says_none, said_in}
 use Rattle.book_view.specs.Faults.{task_fault}
 use Rattle.school.specs.Tests.{is_wrong, is_mislong, is_sooner, is_against, is_untimely, tasks_fault, unread, found_in, lines_judged, judged_of}
-use Rattle.school.specs.declared.LogLine.{LogLine}
+use Rattle.school.specs.Said.{LogLine}
 use Rattle.promises.specs.Checks.{Before}
 use Rattle.promises_engine.specs.Says.{Some, IsLowest}
 use Rattle.promises_school.specs.Lines.{IsThere, HasForm}

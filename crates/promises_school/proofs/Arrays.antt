@@ -17,7 +17,7 @@ use Rattle.book_view.proofs.Accepted.{plan-facts}
 use Rattle.school.specs.Lines.{said_in}
 use Rattle.school.specs.Tasks.{is_known, start_in, end_in}
 use Rattle.school.specs.Tests.{tasks_fault, unread, found_in, judged_of}
-use Rattle.school.specs.declared.LogLine.{LogLine}
+use Rattle.school.specs.Said.{LogLine}
 use Rattle.promises_school.specs.Lines.{IsThere, HasForm}
 use Rattle.promises_school.specs.Judged.{Unread, Finds}
 use Rattle.promises_school.proofs.Tested.{known_is, known_of}

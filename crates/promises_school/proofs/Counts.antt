@@ -8,7 +8,7 @@ use lib.ListN.{length, get_or}
 use Rattle.laws.proofs.Cases.{by_bool, true-false}
 use Rattle.laws.specs.Lists.{all_of, first_not}
 use Rattle.school.specs.Tasks.{how_many, first_of}
-use Rattle.school.specs.declared.LogLine.{LogLine}
+use Rattle.school.specs.Said.{LogLine}
 
 module _ {A : Type 0} (p : A → Bool) (d : A) where
   -- an item fails, and none before it

@@ -13,7 +13,7 @@ use Rattle.laws.specs.Lists.{same}
 use Rattle.text.specs.Bytes.{bytes}
 use Rattle.text.specs.Line.{has_line, skip, line_at, field}
 use Rattle.school.specs.Lines.{is_run, is_moment, is_remark, says_none, says_start, says_end, later_said, line_said, said_in}
-use Rattle.school.specs.declared.LogLine.{LogLine}
+use Rattle.school.specs.Said.{LogLine}
 use Rattle.promises_school.specs.Lines.{RunLine, MomentLine, LaterLine, HasForm}
 use Rattle.promises_school.proofs.Forms.{run_is, run_of, moment-is, moment-of, remark-is, remark-early, remark-refused}
 use Rattle.promises_school.proofs.Places.{said_at, line-says}

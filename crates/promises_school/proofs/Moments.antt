@@ -18,7 +18,7 @@ use Rattle.text.specs.Number.{value_of, most}
 use Rattle.text.specs.Line.{skip, line_at, field}
 use Rattle.school.specs.Lines.{says_none, said_in}
 use Rattle.school.specs.Tasks.{is_start, is_end, how_many, first_of}
-use Rattle.school.specs.declared.LogLine.{LogLine}
+use Rattle.school.specs.Said.{LogLine}
 use Rattle.promises_school.specs.Lines.{Number, IsThere, HasForm, Names, Once, On}
 use Rattle.promises_school.proofs.Counts.{Counted, counted}
 use Rattle.promises_school.proofs.Forms.{number-value, digits-one}

@@ -27,7 +27,7 @@ use Rattle.school.specs.Tasks.{is_start, is_end, how_many, first_of}
 use Rattle.school.specs.Tests.{found_in, lines_judged, judged_of}
 use Rattle.school.specs.Text.{judged_text, judged_log}
 use Rattle.school.specs.declared.JudgedLog.{JudgedLog}
-use Rattle.school.specs.declared.LogLine.{LogLine}
+use Rattle.school.specs.Said.{LogLine}
 use Rattle.promises.specs.Runs.{SizedPlan, Ended, start_of, end_of}
 use Rattle.promises.specs.Logs.{LogSays}
 use Rattle.promises.proofs.LogWhole.{log-says}

@@ -7,7 +7,7 @@ use mathlib.Core.Bool.{Bool}
 use mathlib.Core.List.{List, [], ◌∷◌, ◌++◌}
 use Rattle.laws.proofs.Cases.{by_bool}
 use Rattle.school.specs.Tasks.{how_many, first_of}
-use Rattle.school.specs.declared.LogLine.{LogLine}
+use Rattle.school.specs.Said.{LogLine}
 
 module _ (p : LogLine → Bool) where
   pub many-append : (l m : List LogLine) → how_many p (l ++ m) ≡ how_many p l + how_many p m

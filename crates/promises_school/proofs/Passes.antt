@@ -32,7 +32,7 @@ use Rattle.school.specs.Tasks.{is_start, is_end, how_many, first_of, is_known, s
 use Rattle.school.specs.Tests.{is_wrong, is_mislong, is_sooner, is_against, is_untimely, pair_fault, against_fault, tasks_fault, found_in}
 use Rattle.school.specs.Text.{early_text, figure_line, figure_lines, judged_text}
 use Rattle.school.specs.declared.JudgedLog.{JudgedLog}
-use Rattle.school.specs.declared.LogLine.{LogLine}
+use Rattle.school.specs.Said.{LogLine}
 use Rattle.promises.specs.Runs.{SizedPlan, Ended, Started, Dropped, start_of, end_of}
 use Rattle.promises.proofs.SoundRun.{OnPlan, seen-plan, sound-on, not_late, not-unready}
 use Rattle.promises_school.proofs.Pairs.{row_fault}

@@ -15,7 +15,7 @@ use Rattle.laws.proofs.Split.{split-found, split-none, skip-le}
 use Rattle.text.specs.Line.{LF, has_line, skip, line_at}
 use Rattle.text.proofs.Parts.{First, first_part}
 use Rattle.school.specs.Lines.{says_none, line_said, said_from, said_in}
-use Rattle.school.specs.declared.LogLine.{LogLine}
+use Rattle.school.specs.Said.{LogLine}
 use Rattle.promises_school.specs.Lines.{IsThere}
 
 module _ (boards tasks : ℕ) where

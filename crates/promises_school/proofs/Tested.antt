@@ -17,7 +17,7 @@ use Rattle.book_view.proofs.Accepted.{clash-swap}
 use Rattle.school.specs.Lines.{said_in}
 use Rattle.school.specs.Tasks.{is_start, is_end, how_many, first_of, start_in, end_in, is_known, are_on}
 use Rattle.school.specs.Tests.{is_wrong, is_mislong, is_sooner, is_against, is_untimely}
-use Rattle.school.specs.declared.LogLine.{LogLine}
+use Rattle.school.specs.Said.{LogLine}
 use Rattle.promises.specs.Clashes.{Clashes}
 use Rattle.promises.proofs.Demand3.{clash-is}
 use Rattle.promises_school.specs.Lines.{IsThere, HasForm, Once, On, Wrong}

@@ -27,7 +27,7 @@ use Rattle.school.specs.Tasks.{is_known, start_in, end_in, are_on}
 use Rattle.book_view.specs.Faults.{task_fault}
 use Rattle.school.specs.Tests.{is_wrong, is_mislong, is_against, is_untimely, against_fault, tasks_fault, unread, found_in, lines_judged, judged_of}
 use Rattle.school.specs.declared.JudgedLog.{JudgedLog}
-use Rattle.school.specs.declared.LogLine.{LogLine}
+use Rattle.school.specs.Said.{LogLine}
 use Rattle.year_rules.proofs.AddedLaws.{judged-accepted}
 use Rattle.promises_year.specs.Year.{is_end_line}
 

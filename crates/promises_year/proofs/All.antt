@@ -14,7 +14,7 @@ use Rattle.text_fields.specs.Items.{between}
 use Rattle.text.specs.Line.{LF}
 use Rattle.plan.specs.Value.{at}
 use Rattle.plan.specs.declared.Plan.{Plan}
-use Rattle.school.specs.declared.LogLine.{LogLine}
+use Rattle.school.specs.Said.{LogLine}
 use Rattle.year_rules.specs.Figures.{sum_of, best_of}
 use Rattle.year_rules.specs.Totals.{boards}
 use Rattle.year_rules.proofs.FigureLaws.{Picks, max-picks, min-picks, sum-append, best-next, after-append, after-than}

@@ -18,7 +18,7 @@ use Rattle.school.specs.Lines.{said_in}
 use Rattle.school.specs.Tasks.{is_start, is_end, how_many, first_of, is_known, end_in}
 use Rattle.school.specs.Tests.{judged_of}
 use Rattle.school.specs.declared.JudgedLog.{JudgedLog}
-use Rattle.school.specs.declared.LogLine.{LogLine}
+use Rattle.school.specs.Said.{LogLine}
 use Rattle.year_rules.specs.Figures.{figures_on}
 use Rattle.promises_year.specs.Year.{Morning, is_taken, lines_of, on_board, is_end_line, ends_of}
 use Rattle.promises_year.proofs.Accepted.{LogTaken, end_ok, ends-of-plan, log-taken}

@@ -9,7 +9,7 @@ use lib.Seq.{take_all, take_at}
 use Rattle.laws.proofs.Cases.{by_bool, by_le}
 use Rattle.plan.specs.Value.{at}
 use Rattle.school.specs.Tests.{judged_of}
-use Rattle.school.specs.declared.LogLine.{LogLine}
+use Rattle.school.specs.Said.{LogLine}
 use Rattle.year_rules.specs.Figures.{sum_of, best_of, best_after}
 use Rattle.year_rules.specs.Totals.{logs_most, boards, zero_totals, with_figures, with_refused, with_judged, added_of}
 use Rattle.year_rules.specs.declared.AddResult.{AddResult}

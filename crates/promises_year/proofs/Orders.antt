@@ -6,7 +6,7 @@ use mathlib.Core.List.Permᴰ
 use mathlib.Core.List.{List, ◌++◌, append_assoc, Permᴰ}
 use native.Mathlib.Omega.{arith}
 use lib.ListN.{length}
-use Rattle.school.specs.declared.LogLine.{LogLine}
+use Rattle.school.specs.Said.{LogLine}
 use Rattle.year_rules.proofs.FigureLaws.{max-picks, min-picks}
 use Rattle.year_rules.proofs.BoardLaws.{boards-same}
 use Rattle.promises_year.specs.Year.{Morning, is_taken, on_board, figures_of, many_of, year_of}

@@ -5,7 +5,7 @@ use Rattle.plan.specs.Value.{at}
 use Rattle.plan.specs.declared.Plan.{Plan}
 use Rattle.school.specs.Lines.{said_in}
 use Rattle.school.specs.Tests.{judged_of}
-use Rattle.school.specs.declared.LogLine.{LogLine}
+use Rattle.school.specs.Said.{LogLine}
 use Rattle.year_rules.specs.Figures.{sum_of, best_of}
 use Rattle.year_rules.specs.Totals.{boards, zero_totals, added_of}
 use Rattle.year_rules.specs.declared.Tally.{Tally}

@@ -1,4 +1,5 @@
 pub mod Lines
+pub mod Said
 pub mod Tasks
 pub mod Tests
 pub mod Text

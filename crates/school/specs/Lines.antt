@@ -6,7 +6,7 @@ use Rattle.text.specs.Bytes.{bytes}
 use Rattle.text.specs.Number.{value_of, most}
 use Rattle.text.specs.Line.{LF, fields, field}
 use Rattle.plan.specs.Read.{ranged}
-use Rattle.school.specs.declared.LogLine.{LogLine}
+use Rattle.school.specs.Said.{LogLine}
 
 abbrev pub MINUS : ℕ
 MINUS = 45
@@ -49,13 +49,10 @@ says_none formed = record { formed = formed; start = 0; end = 0; board = 0; tick
 
 abbrev pub says_start : List ℕ → LogLine
 says_start line =
-    let says : ℕ → ℕ = λ n. value_of (field line n) in
-    record { formed = true; start = says 1; end = 0; board = says 2; tick = says 3 }
+    let says : ℕ → ℕ = λ n. value_of (field line n) in record (says_none true) { start = says 1; board = says 2; tick = says 3 }
 
 abbrev pub says_end : List ℕ → LogLine
-says_end line =
-    let says : ℕ → ℕ = λ n. value_of (field line n) in
-    record { formed = true; start = 0; end = says 1; board = says 2; tick = says 3 }
+says_end line = record (says_start line) { start = 0; end = value_of (field line 1) }
 
 -- a line after the first, without its LF
 unfoldable pub later_said : ℕ → ℕ → List ℕ → LogLine

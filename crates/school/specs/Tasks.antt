@@ -1,7 +1,7 @@
 -- What a list of lines says of a task, i from 0.
 use Rattle.std.specs.Prelude.{ℕ, ◌+◌, Bool, false, cond, ◌&&◌, List, [], ◌∷◌, eqb}
 use Rattle.school.specs.Lines.{says_none}
-use Rattle.school.specs.declared.LogLine.{LogLine}
+use Rattle.school.specs.Said.{LogLine}
 
 -- the line is a start, or an end, of the task
 abbrev pub is_start : ℕ → LogLine → Bool

@@ -13,7 +13,7 @@ use Rattle.book_view.specs.View.{plan_for, laid}
 use Rattle.school.specs.Lines.{said_in}
 use Rattle.school.specs.Tasks.{is_known, start_in, end_in, are_on}
 use Rattle.school.specs.declared.JudgedLog.{JudgedLog}
-use Rattle.school.specs.declared.LogLine.{LogLine}
+use Rattle.school.specs.Said.{LogLine}
 
 -- 24: a start or end missing, doubled, or on the wrong board
 abbrev pub is_wrong : Plan → List LogLine → ℕ → Bool

@@ -3,14 +3,20 @@
 
 use plan::Answer;
 
-// Whether the line has its form; the task whose start or end it says, 0 for none; that one's board and tick.
-#[derive(Drop)]
-pub struct LogLine {
-    pub formed: bool,
-    pub start: u32,
-    pub end: u32,
+// A task's start or end: the place of the task, which is 0 for task 1, the board and the tick.
+#[derive(Clone, Copy)]
+pub struct Moment {
+    pub place: usize,
     pub board: u32,
     pub tick: u32,
+}
+
+// What a line that has its form says: a start, an end, or neither.
+#[derive(Clone, Copy)]
+pub enum LogLine {
+    Start(Moment),
+    End(Moment),
+    Remark,
 }
 
 // The answer; 1 for each task with one start and one end in the log, and their ticks.

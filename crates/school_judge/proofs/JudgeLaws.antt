@@ -22,12 +22,13 @@ use Rattle.school.specs.Lines.{said_in}
 use Rattle.school.specs.Tasks.{start_in, end_in}
 use Rattle.school.specs.Tests.{is_wrong, is_mislong, is_sooner, is_against, is_untimely, tasks_fault, unread, lines_judged, judged_of}
 use Rattle.school.specs.declared.JudgedLog.{JudgedLog}
-use Rattle.school.specs.declared.LogLine.{LogLine}
+use Rattle.school.specs.Said.{LogLine}
 use Rattle.school_read.specs.Found.{is_formed, lines_found, lines_read, found_of}
 use Rattle.school_read.specs.declared.Found.{Found}
 use Rattle.school_read.proofs.ReadLaws.{line_of, is_found, found_else, line-most}
 use Rattle.school_judge.specs.Tests.{is_amiss, is_against_by, is_sooner_by, tests_answer}
 use Rattle.school_judge.proofs.TestLaws.{tests_same}
+use Rattle.school_judge.specs.Private.Judged.{judged_by}
 use Rattle.school_judge.specs.Private.Laid.{known_in, right_in, tick_in}
 use Rattle.school_judge.proofs.FoundLaws.{of_known, known-laid, starts-laid, ends-laid, amiss-is, all_known, tick-known}
 
@@ -93,52 +94,74 @@ module _ (plan : Plan) (log : List ℕ) {view : Plan} (v : view ≡ plan) where
         unfolding lines_read
         read = ap (found_else found) (read-is f) ∙ rw formed
 
-        module _ {n : ℕ} (t : n ≡ plan.tasks) {known right start end : List ℕ} (k : known ≡ laid n (known_in found.starts found.ends))
-            (r : right ≡ laid n (right_in known plan.board found.startboard found.endboard))
-            (s : start ≡ laid n (tick_in known found.start)) (d : end ≡ laid n (tick_in known found.end)) where
-          begun : start ≡ laid plan.tasks (of_known lines (start_in lines))
-          begun = starts-laid plan.tasks few lines read (rw t at k) (rw t at s)
+        abbrev known : List ℕ
+        known = laid plan.tasks (known_in found)
 
-          done : end ≡ laid plan.tasks (of_known lines (end_in lines))
-          done = ends-laid plan.tasks few lines read (rw t at k) (rw t at d)
+        abbrev right : List ℕ
+        right = laid plan.tasks (right_in known plan.board found)
 
-          wrong-same : (i : ℕ) → i < plan.tasks → is_amiss right i ≡ is_wrong plan lines i
-          wrong-same = amiss-is plan.tasks few lines read (rw t at k) plan.board (rw t at r)
+        abbrev start : List ℕ
+        start = laid plan.tasks (tick_in known found.starts)
 
-          module _ (right-all : (i : ℕ) → i < plan.tasks → is_amiss right i ≡ false) where
-            its-start : (i : ℕ) → i < plan.tasks → at start i ≡ start_in lines i
-            its-start i l =
-                tick-known plan.tasks lines (start_in lines) few begun i l (all_known plan.tasks few lines read (rw t at k) plan.board (rw t at r) right-all i l)
+        abbrev end : List ℕ
+        end = laid plan.tasks (tick_in known found.ends)
 
-            its-end : (i : ℕ) → i < plan.tasks → at end i ≡ end_in lines i
-            its-end i l =
-                tick-known plan.tasks lines (end_in lines) few done i l (all_known plan.tasks few lines read (rw t at k) plan.board (rw t at r) right-all i l)
+        begun : start ≡ laid plan.tasks (of_known lines (start_in lines))
+        begun = starts-laid plan.tasks few lines read refl refl
 
-            sooner-same : (b a : ℕ) → b < plan.tasks → a < plan.tasks → is_sooner_by sets (at start) (at end) b a ≡ is_sooner plan (start_in lines) (end_in lines) b a
-            sooner-same b a lb la =
-                ap (λ (x : Bool). x && ltb (at start b) (at end a)) (agree 1 plan (and-of ok refl) (sym has-sets.1) b a lb la)
-                ∙ ap (λ (x : ℕ). (plan_for 1 plan).waits b a && ltb x (at end a)) (its-start b lb)
-                ∙ ap (λ (x : ℕ). (plan_for 1 plan).waits b a && ltb (start_in lines b) x) (its-end a la)
+        done : end ≡ laid plan.tasks (of_known lines (end_in lines))
+        done = ends-laid plan.tasks few lines read refl refl
 
-            against-same : (a b : ℕ) → a < plan.tasks → b < plan.tasks → is_against_by sets (at start) (at end) a b ≡ is_against plan (start_in lines) (end_in lines) a b
-            against-same a b la lb =
-                ap (λ (x : Bool). x || is_sooner_by sets (at start) (at end) b a) (sooner-same a b la lb)
-                ∙ ap (λ (x : Bool). is_sooner plan (start_in lines) (end_in lines) a b || x) (sooner-same b a lb la)
+        wrong-same : (i : ℕ) → i < plan.tasks → is_amiss right i ≡ is_wrong plan lines i
+        wrong-same = amiss-is plan.tasks few lines read refl plan.board refl
 
-          pub judged-is :
-              {answer : Answer}
-              → answer ≡ tests_answer (min view.tasks 64) (is_amiss right) (is_mislong view (at start) (at end)) (is_against_by sets (at start) (at end)) (is_untimely view (at start))
-              → ◌≡◌ {A = JudgedLog} (record { answer = answer; known = known; start = start; end = end }) (judged_of plan log)
-          unfolding lines_judged tasks_fault tests_answer
-          judged-is {answer} e =
-              let n : min plan.tasks 64 ≡ plan.tasks = omega (arith, few) in
-              let same : answer ≡ tasks_fault plan lines =
-              rw v at e
-              ∙ ap (λ (m : ℕ). tests_answer m (is_amiss right) (is_mislong plan (at start) (at end)) (is_against_by sets (at start) (at end)) (is_untimely plan (at start))) n
-              ∙ tests_same plan.tasks (is_amiss right) (is_wrong plan lines) (is_mislong plan (at start) (at end)) (is_mislong plan (start_in lines) (end_in lines)) (is_against_by sets (at start) (at end)) (is_against plan (start_in lines) (end_in lines)) (is_untimely plan (at start)) (is_untimely plan (start_in lines)) wrong-same
-              (λ a. (
-                λ i l. rw (its-start a i l, its-end a i l),
-                against-same a,
-                λ i l. rw (its-start a i l),
-              )) in
-              rw (same, known-laid plan.tasks few lines read (rw t at k), begun, done) (rw formed at to-lines)
+        module _ (right-all : (i : ℕ) → i < plan.tasks → is_amiss right i ≡ false) where
+          its-start : (i : ℕ) → i < plan.tasks → at start i ≡ start_in lines i
+          its-start i l =
+              tick-known plan.tasks lines (start_in lines) few begun i l (all_known plan.tasks few lines read refl plan.board refl right-all i l)
+
+          its-end : (i : ℕ) → i < plan.tasks → at end i ≡ end_in lines i
+          its-end i l =
+              tick-known plan.tasks lines (end_in lines) few done i l (all_known plan.tasks few lines read refl plan.board refl right-all i l)
+
+          sooner-same : (b a : ℕ) → b < plan.tasks → a < plan.tasks → is_sooner_by sets (at start) (at end) b a ≡ is_sooner plan (start_in lines) (end_in lines) b a
+          sooner-same b a lb la =
+              ap (λ (x : Bool). x && ltb (at start b) (at end a)) (agree 1 plan (and-of ok refl) (sym has-sets.1) b a lb la)
+              ∙ ap (λ (x : ℕ). (plan_for 1 plan).waits b a && ltb x (at end a)) (its-start b lb)
+              ∙ ap (λ (x : ℕ). (plan_for 1 plan).waits b a && ltb (start_in lines b) x) (its-end a la)
+
+          against-same : (a b : ℕ) → a < plan.tasks → b < plan.tasks → is_against_by sets (at start) (at end) a b ≡ is_against plan (start_in lines) (end_in lines) a b
+          against-same a b la lb =
+              ap (λ (x : Bool). x || is_sooner_by sets (at start) (at end) b a) (sooner-same a b la lb)
+              ∙ ap (λ (x : Bool). is_sooner plan (start_in lines) (end_in lines) a b || x) (sooner-same b a lb la)
+
+        its-answer :
+            tests_answer plan.tasks (is_amiss right) (is_mislong plan (at start) (at end)) (is_against_by sets (at start) (at end)) (is_untimely plan (at start))
+            ≡ tasks_fault plan lines
+        unfolding tasks_fault tests_answer
+        its-answer =
+            tests_same plan.tasks (is_amiss right) (is_wrong plan lines) (is_mislong plan (at start) (at end)) (is_mislong plan (start_in lines) (end_in lines)) (is_against_by sets (at start) (at end)) (is_against plan (start_in lines) (end_in lines)) (is_untimely plan (at start)) (is_untimely plan (start_in lines)) wrong-same
+            (λ a. (
+              λ i l. rw (its-start a i l, its-end a i l),
+              against-same a,
+              λ i l. rw (its-start a i l),
+            ))
+
+        pub judged-is : {r : JudgedLog} → r ≡ judged_by view sets found → r ≡ judged_of plan log
+        unfolding judged_by lines_judged
+        judged-is e =
+            let by_plan : judged_by plan sets found ≡ judged_of plan log =
+            rw (its-answer, begun, done, known-laid plan.tasks few lines read refl) (rw formed at to-lines) in
+            e ∙ ap (λ (p : Plan). judged_by p sets found) v ∙ by_plan
+
+-- what is laid out, and its answer, are the log judged by what is found
+module _ (plan : Plan) (waits : List ℕ) (found : Found) (few : plan.tasks ≤ 64) {n : ℕ} (t : n ≡ plan.tasks) {known right start end : List ℕ}
+    (k : known ≡ laid n (known_in found)) (r : right ≡ laid n (right_in known plan.board found))
+    (s : start ≡ laid n (tick_in known found.starts)) (d : end ≡ laid n (tick_in known found.ends)) where
+  pub judged-with :
+      {answer : Answer}
+      → answer ≡ tests_answer (min plan.tasks 64) (is_amiss right) (is_mislong plan (at start) (at end)) (is_against_by waits (at start) (at end)) (is_untimely plan (at start))
+      → ◌≡◌ {A = JudgedLog} (record { answer = answer; known = known; start = start; end = end }) (judged_by plan waits found)
+  unfolding judged_by
+  judged-with e =
+      let m : min plan.tasks 64 ≡ plan.tasks = omega (arith, few) in rw (e, m, r, s, d, k, t)

@@ -11,12 +11,11 @@ use Rattle.laws.specs.Every.{every, any}
 use Rattle.laws.proofs.Every.{every-at, any-not, any-turn}
 use Rattle.laws.specs.Scan.{scan_to}
 use Rattle.laws.proofs.Scan.{scan-turn, scan-hit, scan-end, scan-none}
-use Rattle.plan.specs.Answer.{refuse, granted, is_refused}
+use Rattle.plan.specs.Answer.{refuse, granted, is_refused, as_result}
 use Rattle.plan.specs.declared.Answer.{Answer}
 use Rattle.plan.specs.Pairs.{pairs_fault}
 use Rattle.school.specs.Tests.{pair_fault, against_fault}
-use Rattle.school_judge.specs.Told.{told}
-use Rattle.school_judge.proofs.ToldLaws.{told-granted, told-refused, is-granted, is-refused}
+use Rattle.plan.proofs.ResultLaws.{result-granted, result-refused, is-granted, is-refused}
 
 -- the pairs of one a
 abbrev pub row_fault : ℕ → (ℕ → ℕ → Bool) → ℕ → Answer
@@ -42,16 +41,16 @@ module _ (tasks : ℕ) (test : ℕ → ℕ → Bool) where
     pub row-turn : b < tasks → test a b ≡ false → RowRest a (b + 1)
     row-turn l t = sym (scan-turn is_refused granted (pair_fault test a) b tasks l (rw t)) ∙ rest
 
-    pub row-hit : b < tasks → test a b ≡ true → {r : Answer} → r ≡ refuse 26 (a + 1) (b + 1) → Err r ≡ told (row_fault tasks test a)
+    pub row-hit : b < tasks → test a b ≡ true → {r : Answer} → r ≡ refuse 26 (a + 1) (b + 1) → Err r ≡ as_result (row_fault tasks test a)
     row-hit l t e =
         let found = refuse 26 (a + 1) (b + 1) in
         let q : pair_fault test a b ≡ found = rw t in
-        ap Err e ∙ sym (told-refused found refl)
-        ∙ ap told (sym q ∙ sym (scan-hit is_refused granted (pair_fault test a) b tasks l (rw t)) ∙ rest)
+        ap Err e ∙ sym (result-refused found refl)
+        ∙ ap as_result (sym q ∙ sym (scan-hit is_refused granted (pair_fault test a) b tasks l (rw t)) ∙ rest)
 
-    pub row_out : tasks ≤ b → Ok tt ≡ told (row_fault tasks test a)
+    pub row_out : tasks ≤ b → Ok tt ≡ as_result (row_fault tasks test a)
     row_out l =
-        sym (told-granted granted refl) ∙ ap told (sym (scan-end is_refused granted (pair_fault test a) b tasks l) ∙ rest)
+        sym (result-granted granted refl) ∙ ap as_result (sym (scan-end is_refused granted (pair_fault test a) b tasks l) ∙ rest)
 
   -- the rows
   abbrev pub Rest : ℕ → Type 0
@@ -63,16 +62,16 @@ module _ (tasks : ℕ) (test : ℕ → ℕ → Bool) where
 
   module _ (a : ℕ) (rest : Rest a) where
     module _ (l : a < tasks) where
-      pub rows-turn : Ok tt ≡ told (row_fault tasks test a) → Rest (a + 1)
+      pub rows-turn : Ok tt ≡ as_result (row_fault tasks test a) → Rest (a + 1)
       rows-turn e = sym (scan-turn is_refused granted (row_fault tasks test) a tasks l (ap not (is-granted _ e))) ∙ rest
 
-      pub rows-hit : {x : Answer} → Err x ≡ told (row_fault tasks test a) → Err x ≡ told (against_fault tasks test)
+      pub rows-hit : {x : Answer} → Err x ≡ as_result (row_fault tasks test a) → Err x ≡ as_result (against_fault tasks test)
       rows-hit e =
-          e ∙ ap told (sym (scan-hit is_refused granted (row_fault tasks test) a tasks l (ap not (is-refused _ e))) ∙ rest)
+          e ∙ ap as_result (sym (scan-hit is_refused granted (row_fault tasks test) a tasks l (ap not (is-refused _ e))) ∙ rest)
 
-    pub rows_out : tasks ≤ a → Ok tt ≡ told (against_fault tasks test)
+    pub rows_out : tasks ≤ a → Ok tt ≡ as_result (against_fault tasks test)
     rows_out l =
-        sym (told-granted granted refl) ∙ ap told (sym (scan-end is_refused granted (row_fault tasks test) a tasks l) ∙ rest)
+        sym (result-granted granted refl) ∙ ap as_result (sym (scan-end is_refused granted (row_fault tasks test) a tasks l) ∙ rest)
 
 pub every-none : (p : ℕ → Bool) → every 0 p ≡ true
 unfolding every
@@ -103,8 +102,8 @@ module _ (tasks : ℕ) (sooner : ℕ → ℕ → Bool) (clean : every tasks (λ 
       scan-none is_refused granted (pair_fault either a) (a + 1) tasks
       (λ b h lb. let p = in_time a b l lb in let q = in_time b a lb l in rw (p, q))
 
-  pub clean-none : Ok tt ≡ told (against_fault tasks either)
+  pub clean-none : Ok tt ≡ as_result (against_fault tasks either)
   unfolding against_fault pairs_fault
   clean-none =
-      sym (told-granted granted refl)
-      ∙ ap told (sym (scan-none is_refused granted (row_fault tasks either) 0 tasks (λ a h l. let q = row-clean a l in rw q)))
+      sym (result-granted granted refl)
+      ∙ ap as_result (sym (scan-none is_refused granted (row_fault tasks either) 0 tasks (λ a h l. let q = row-clean a l in rw q)))

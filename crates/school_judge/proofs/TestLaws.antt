@@ -1,7 +1,7 @@
 -- The codes in their order.
 use Prim.Native.Nat.{ℕ, ◌+◌, ◌<◌}
 use mathlib.Core.Bool.{Bool, false}
-use mathlib.Core.Path.{◌≡◌, sym, ap, ◌∙◌}
+use mathlib.Core.Path.{◌≡◌, refl, sym, ap, ◌∙◌}
 use mathlib.Core.Logic.{◌≢◌}
 use borrow.Author.Tests.{ne_eqb}
 use Rattle.laws.proofs.Cases.{by-eq}
@@ -9,20 +9,21 @@ use Rattle.laws.proofs.Scan.{scan-same}
 use Rattle.theory.specs.Times.{lowest}
 use Rattle.theory.proofs.Lowest.{lowest-none, lowest-same}
 use native.Mathlib.Omega.{arith}
-use Rattle.std.specs.Prelude.{Result, Ok, Err}
-use Rattle.plan.specs.Answer.{refuse, granted, is_refused, or_else}
+use Rattle.std.specs.Prelude.{Option, unwrap_or, Result, Ok, Err}
+use Rattle.std.specs.Result.{result_err}
+use Rattle.plan.specs.Answer.{refuse, granted, is_refused, or_else, as_result}
 use Rattle.plan.specs.declared.Answer.{Answer}
 use Rattle.plan.specs.Pairs.{pairs_fault}
 use Rattle.book_view.specs.Faults.{task_fault}
 use Rattle.school.specs.Tests.{pair_fault, against_fault}
 use Rattle.school_judge.proofs.PairLaws.{row_fault}
 use Rattle.school_judge.specs.Tests.{tests_answer}
-use Rattle.school_judge.specs.Told.{told}
-use Rattle.school_judge.proofs.ToldLaws.{told-stop, told-go, is-granted, its-refusal, Plain, plain-or, plain-fault}
+use Rattle.plan.proofs.ResultLaws.{is-granted, its-refusal}
+use Rattle.school_judge.proofs.ToldLaws.{told-stop, told-go, Plain, plain-or, plain-fault}
 
 module _ (wrong mislong : ℕ → Bool) (against : ℕ → ℕ → Bool) (untimely : ℕ → Bool) {n tasks : ℕ} (same : n ≡ tasks) where
   abbrev whole : Result (Unit {0}) Answer
-  whole = told (tests_answer tasks wrong mislong against untimely)
+  whole = as_result (tests_answer tasks wrong mislong against untimely)
 
   abbrev third : Answer
   third = or_else (against_fault n against) (task_fault 27 n untimely)
@@ -30,28 +31,28 @@ module _ (wrong mislong : ℕ → Bool) (against : ℕ → ℕ → Bool) (untime
   abbrev second : Answer
   second = or_else (task_fault 25 n mislong) third
 
-  all-is : told (or_else (task_fault 24 n wrong) second) ≡ whole
+  all-is : as_result (or_else (task_fault 24 n wrong) second) ≡ whole
   unfolding tests_answer
-  all-is = ap (λ (k : ℕ). told (tests_answer k wrong mislong against untimely)) same
+  all-is = ap (λ (k : ℕ). as_result (tests_answer k wrong mislong against untimely)) same
 
-  pub stop-wrong : {x : Answer} → Err x ≡ told (task_fault 24 n wrong) → Err x ≡ whole
+  pub stop-wrong : {x : Answer} → Err x ≡ as_result (task_fault 24 n wrong) → Err x ≡ whole
   stop-wrong e = told-stop (task_fault 24 n wrong) second e ∙ all-is
 
-  module _ (a : Ok tt ≡ told (task_fault 24 n wrong)) where
-    second-is : told second ≡ whole
+  module _ (a : Ok tt ≡ as_result (task_fault 24 n wrong)) where
+    second-is : as_result second ≡ whole
     second-is = told-go (task_fault 24 n wrong) second a ∙ all-is
 
-    pub stop-mislong : {x : Answer} → Err x ≡ told (task_fault 25 n mislong) → Err x ≡ whole
+    pub stop-mislong : {x : Answer} → Err x ≡ as_result (task_fault 25 n mislong) → Err x ≡ whole
     stop-mislong e = told-stop (task_fault 25 n mislong) third e ∙ second-is
 
-    module _ (b : Ok tt ≡ told (task_fault 25 n mislong)) where
-      third-is : told third ≡ whole
+    module _ (b : Ok tt ≡ as_result (task_fault 25 n mislong)) where
+      third-is : as_result third ≡ whole
       third-is = told-go (task_fault 25 n mislong) third b ∙ second-is
 
-      pub stop-against : {x : Answer} → Err x ≡ told (against_fault n against) → Err x ≡ whole
+      pub stop-against : {x : Answer} → Err x ≡ as_result (against_fault n against) → Err x ≡ whole
       stop-against e = told-stop (against_fault n against) (task_fault 27 n untimely) e ∙ third-is
 
-      pub last_told : Ok tt ≡ told (against_fault n against) → told (task_fault 27 n untimely) ≡ whole
+      pub last_told : Ok tt ≡ as_result (against_fault n against) → as_result (task_fault 27 n untimely) ≡ whole
       last_told d = told-go (against_fault n against) (task_fault 27 n untimely) d ∙ third-is
 
 pub plain-tests : (tasks : ℕ) (wrong mislong : ℕ → Bool) (against : ℕ → ℕ → Bool) (untimely : ℕ → Bool) → Plain (tests_answer tasks wrong mislong against untimely)
@@ -65,13 +66,24 @@ plain-tests tasks wrong mislong against untimely =
     (plain-or (against_fault tasks against) last (plain-fault 27 tasks untimely (λ e. omega arith))))
 
 module _ (tasks : ℕ) (wrong mislong : ℕ → Bool) (against : ℕ → ℕ → Bool) (untimely : ℕ → Bool) {tested : Result (Unit {0}) Answer}
-    (e : tested ≡ told (tests_answer tasks wrong mislong against untimely)) where
-  pub granted-is : tested ≡ Ok tt → {answer : Answer} → answer ≡ granted → answer ≡ tests_answer tasks wrong mislong against untimely
+    (e : tested ≡ as_result (tests_answer tasks wrong mislong against untimely)) where
+  granted-is : tested ≡ Ok tt → {answer : Answer} → answer ≡ granted → answer ≡ tests_answer tasks wrong mislong against untimely
   granted-is t a =
       a ∙ sym (plain-tests tasks wrong mislong against untimely (is-granted (tests_answer tasks wrong mislong against untimely) (sym t ∙ e)))
 
-  pub refused-is : {answer : Answer} → tested ≡ Err answer → answer ≡ tests_answer tasks wrong mislong against untimely
+  refused-is : {answer : Answer} → tested ≡ Err answer → answer ≡ tests_answer tasks wrong mislong against untimely
   refused-is t = its-refusal (tests_answer tasks wrong mislong against untimely) (sym t ∙ e)
+
+  pub answer-is :
+      {refusal : Option Answer} {none answer : Answer} → refusal ≡ result_err tested → none ≡ granted → answer ≡ unwrap_or refusal none
+      → answer ≡ tests_answer tasks wrong mislong against untimely
+  answer-is {refusal} {none} {answer} r g a = go tested refl (a ∙ ap (λ (o : Option Answer). unwrap_or o none) r)
+    where
+      go :
+          (t : Result (Unit {0}) Answer) → tested ≡ t → answer ≡ unwrap_or (result_err t) none
+          → answer ≡ tests_answer tasks wrong mislong against untimely
+      go (Ok u) t a = granted-is t (a ∙ g)
+      go (Err x) t a = a ∙ refused-is t
 
 -- ---- tests that say the same of the tasks give one answer
 

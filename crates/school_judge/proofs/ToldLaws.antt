@@ -7,14 +7,14 @@ use mathlib.Core.Path.{◌≡◌, refl, sym, ap, ◌∙◌}
 use mathlib.Core.Logic.{◌≢◌}
 use lib.Dec.{eqb}
 use borrow.Author.Tests.{ne_eqb}
-use Rattle.std.specs.Prelude.{Option, None, Some, Result, Ok, Err}
+use Rattle.std.specs.Prelude.{Option, None, Some, Ok, Err}
 use Rattle.laws.specs.Private.Nonzero.{nonzero}
 use Rattle.laws.proofs.Cases.{by_bool, true-false}
 use Rattle.theory.specs.Times.{lowest}
-use Rattle.plan.specs.Answer.{refuse, granted, is_granted, or_else}
+use Rattle.plan.specs.Answer.{refuse, granted, is_granted, or_else, as_result}
+use Rattle.plan.proofs.ResultLaws.{result-granted, result-refused, is-granted, is-refused}
 use Rattle.plan.specs.declared.Answer.{Answer}
 use Rattle.book_view.specs.Faults.{task_fault}
-use Rattle.school_judge.specs.Told.{told}
 use Rattle.school_judge.specs.Private.ToldOf.{told_of}
 
 -- ---- a task
@@ -25,35 +25,6 @@ some_task i e = ap Some (add-one i) ∙ sym (ap nonzero (add-one i)) ∙ ap nonz
 pub no_task : {n : ℕ} → 0 ≡ n → None ≡ nonzero n
 no_task e = ap nonzero e
 
--- ---- an answer
-
-pub told-granted : (a : Answer) → is_granted a ≡ true → told a ≡ Ok tt
-unfolding told
-told-granted a t = rw t
-
-pub told-refused : (a : Answer) → is_granted a ≡ false → told a ≡ Err a
-unfolding told
-told-refused a f = rw f
-
-abbrev refuses : Result (Unit {0}) Answer → Bool
-refuses (Ok u) = false
-refuses (Err a) = true
-
-abbrev refusal : Result (Unit {0}) Answer → Answer
-refusal (Ok u) = granted
-refusal (Err a) = a
-
-pub is-granted : (a : Answer) → Ok tt ≡ told a → is_granted a ≡ true
-is-granted a e =
-    by_bool (is_granted a) (λ t. t) (λ f. true-false refl (sym (ap refuses (e ∙ told-refused a f))))
-
-pub is-refused : (a : Answer) {x : Answer} → Err x ≡ told a → is_granted a ≡ false
-is-refused a e =
-    by_bool (is_granted a) (λ t. true-false refl (ap refuses (e ∙ told-granted a t))) (λ f. f)
-
-pub its-refusal : (a : Answer) {x : Answer} → Err x ≡ told a → x ≡ a
-its-refusal a e = ap refusal (e ∙ told-refused a (is-refused a e))
-
 -- ---- one answer or the next
 
 or-stop : (a b : Answer) → is_granted a ≡ false → or_else a b ≡ a
@@ -62,11 +33,11 @@ or-stop a b f = rw f
 or-go : (a b : Answer) → is_granted a ≡ true → or_else a b ≡ b
 or-go a b t = rw t
 
-pub told-stop : (a b : Answer) {x : Answer} → Err x ≡ told a → Err x ≡ told (or_else a b)
-told-stop a b e = e ∙ sym (ap told (or-stop a b (is-refused a e)))
+pub told-stop : (a b : Answer) {x : Answer} → Err x ≡ as_result a → Err x ≡ as_result (or_else a b)
+told-stop a b e = e ∙ sym (ap as_result (or-stop a b (is-refused a e)))
 
-pub told-go : (a b : Answer) → Ok tt ≡ told a → told b ≡ told (or_else a b)
-told-go a b e = sym (ap told (or-go a b (is-granted a e)))
+pub told-go : (a b : Answer) → Ok tt ≡ as_result a → as_result b ≡ as_result (or_else a b)
+told-go a b e = sym (ap as_result (or-go a b (is-granted a e)))
 
 -- what grants is the granted answer itself
 abbrev pub Plain : Answer → Type 0
@@ -89,13 +60,13 @@ pub plain-fault : (code tasks : ℕ) (test : ℕ → Bool) → code ≢ 0 → Pl
 unfolding task_fault
 plain-fault code tasks test ne = plain-of code (lowest tasks test) ne
 
-told-of : (code n : ℕ) → code ≢ 0 → told_of code (nonzero n) ≡ told (cond (eqb n 0) granted (refuse code n 0))
-told-of code zero ne = sym (told-granted granted refl)
+told-of : (code n : ℕ) → code ≢ 0 → told_of code (nonzero n) ≡ as_result (cond (eqb n 0) granted (refuse code n 0))
+told-of code zero ne = sym (result-granted granted refl)
 told-of code (suc n) ne =
-    rw (ne_eqb (suc n) 0 (λ z. omega arith)) (sym (told-refused (refuse code (suc n) 0) (ne_eqb code 0 ne)))
+    rw (ne_eqb (suc n) 0 (λ z. omega arith)) (sym (result-refused (refuse code (suc n) 0) (ne_eqb code 0 ne)))
 
 pub fault-told :
     (code tasks : ℕ) (test : ℕ → Bool) {task : Option ℕ} → code ≢ 0 → task ≡ nonzero (lowest tasks test)
-    → told_of code task ≡ told (task_fault code tasks test)
+    → told_of code task ≡ as_result (task_fault code tasks test)
 unfolding task_fault
 fault-told code tasks test ne e = ap (told_of code) e ∙ told-of code (lowest tasks test) ne

@@ -1,3 +1,3 @@
 pub mod Tests
+pub mod Tested
 pub mod Private
-pub mod Told

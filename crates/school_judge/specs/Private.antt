@@ -1,3 +1,4 @@
+pub mod Judged
 pub mod Laid
 pub mod Moments
 pub mod ToldOf

@@ -3,14 +3,13 @@ ghost use Rattle.std.specs.Prelude.{◌≡◌, not, ◌&&◌, ◌+◌, ◌<◌, 
 ghost use Rattle.laws.specs.Bits.{has};
 ghost use Rattle.laws.specs.Every.{every, any};
 ghost use Rattle.laws.specs.Scan.{scan_to};
-ghost use Rattle.plan.specs.Answer.{granted, is_refused};
+ghost use Rattle.plan.specs.Answer.{granted, is_refused, as_result};
 ghost use Rattle.plan.specs.Value.{at};
 ghost use Rattle.school.specs.Tests.{pair_fault, against_fault};
 ghost use Rattle.school_judge.specs.Private.Moments.{is_sooner_in, is_against_in};
-ghost use Rattle.school_judge.specs.Told.{told};
 
 use book_view::is_in;
-use plan::{Answer, refuse};
+use plan::{Answer, Refusal};
 
 // Who waits for whom, and when each task starts and ends.
 #[derive(Clone, Copy)]
@@ -58,11 +57,11 @@ impl Moments<'_> {
     // The first pair of task a with a later one.
     fn row_fault(&self, a: usize) -> Result<(), Answer>
         requires { (a < self.now.tasks) × (self.now.tasks ≤ 64) }
-        ensures { result ≡ told (scan_to is_refused granted (pair_fault (is_against_in self.now) a) (a + 1) self.now.tasks) }
+        ensures { result ≡ as_result (scan_to is_refused granted (pair_fault (is_against_in self.now) a) (a + 1) self.now.tasks) }
     {
         for b in a + 1..self.tasks {
             if self.is_sooner(a, b) | self.is_sooner(b, a) {
-                return Err(refuse(26, (a + 1) as u32, (b + 1) as u32));
+                return Err(Refusal::LoggedClash.answer((a + 1) as u32, (b + 1) as u32));
             }
         }
         Ok(())
@@ -70,7 +69,7 @@ impl Moments<'_> {
 
     pub(crate) fn fault(&self) -> Result<(), Answer>
         requires { self.now.tasks ≤ 64 }
-        ensures { result ≡ told (against_fault self.now.tasks (is_against_in self.now)) }
+        ensures { result ≡ as_result (against_fault self.now.tasks (is_against_in self.now)) }
     {
         if self.are_clean() {
             return Ok(());

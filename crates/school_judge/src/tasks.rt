@@ -3,21 +3,22 @@ ghost use Rattle.std.specs.Prelude.{ℕ, Bool, ◌≡◌, not, ◌-◌, ◌<◌,
 ghost use Rattle.laws.specs.Private.Nonzero.{nonzero};
 ghost use Rattle.text_fields.specs.Items.{between};
 ghost use Rattle.theory.specs.Times.{lowest};
+ghost use Rattle.plan.specs.Refusal.{refusal_number};
 ghost use Rattle.plan.specs.Value.{at};
 ghost use Rattle.plan.specs.View.{viewed};
 ghost use Rattle.school.specs.Tests.{is_mislong, is_untimely};
 ghost use Rattle.school_judge.specs.Tests.{is_amiss};
 ghost use Rattle.school_judge.specs.Private.ToldOf.{told_of};
 
-use plan::{Answer, PlanView, refuse};
+use plan::{Answer, PlanView, Refusal};
 
 // Its refusal, where there is such a task.
-pub(crate) fn task_fault(code: u32, task: Option<u32>) -> Result<(), Answer>
-    ensures { result ≡ told_of code task }
+pub(crate) fn task_fault(refusal: Refusal, task: Option<u32>) -> Result<(), Answer>
+    ensures { result ≡ told_of (refusal_number refusal) task }
 {
     match task {
         None => Ok(()),
-        Some(task) => Err(refuse(code, task, 0)),
+        Some(task) => Err(refusal.answer(task, 0)),
     }
 }
 

@@ -1,28 +1,29 @@
 -- The forms of a line, by the tests of its parts.
-use Prim.Native.Nat.{ℕ, suc, ◌≤◌, ◌<◌}
+use Prim.Native.Nat.{ℕ, suc, ◌+◌, ◌-◌, ◌≤◌, ◌<◌}
 use mathlib.Core.Path.{◌≡◌, refl, sym, ap, ◌∙◌}
-use mathlib.Core.Bool.{Bool, true, false, not, ◌&&◌, ◌||◌}
+use mathlib.Core.Bool.{Bool, true, false, ◌&&◌, ◌||◌}
 use mathlib.Core.List.{List, ◌∷◌}
 use native.Mathlib.Omega.{arith}
-use lib.Dec.{eqb, ltb}
+use lib.Dec.{eqb, leb, ltb}
 use lib.ListN.{length, drop}
-use borrow.Author.Tests.{lt-ltb, le-ltb, ltb-true, eqb-true, not-true, not-false}
+use Rattle.std.specs.Prelude.{Option, None, Some}
+use Rattle.std.specs.Bool.{then_some}
+use borrow.Author.Tests.{lt-ltb, le-ltb, leb-true}
 use Rattle.laws.specs.Lists.{same}
 use Rattle.laws.specs.Split.{before}
 use Rattle.laws.proofs.Lists.{same-eq}
 use Rattle.laws.proofs.Cases.{by_bool, by_le, and_l, and_r, and_no, or-false}
 use Rattle.text.specs.Bytes.{bytes}
-use Rattle.text.specs.Number.{most}
+use Rattle.text.specs.Number.{is_number, value_of, most}
 use Rattle.text.specs.Line.{TAB, fields, field}
 use Rattle.text.proofs.Parts.{part-within, parts_last}
-use Rattle.text_fields.specs.Faults.{ranged_read}
-use Rattle.text_fields.specs.declared.Ranged.{Ranged}
-use Rattle.text_fields.proofs.RangedLaws.{ranged-code, ranged-value}
 use Rattle.plan.specs.Read.{ranged}
-use Rattle.school.specs.Lines.{is_tick, is_earliness, is_moment, is_remark, is_run, says_none, later_said, line_said}
-use Rattle.school.specs.declared.LogLine.{LogLine}
-use Rattle.school_read.specs.Private.Rest.{moment_rest, start_rest, end_of, two_ticks, three_ticks, remark_rest}
-use Rattle.school_read.proofs.PartLaws.{eqb-suc, parts-on, parts-stop, more-on, ranged-free, earliness-free, last-field, ranged-fine}
+use Rattle.school.specs.Lines.{is_tick, is_earliness, is_moment, is_remark, is_run, says_none, later_said}
+use Rattle.school.specs.Said.{LogLine, said}
+use Rattle.school.specs.declared.LogLine.TheVariants as read
+use Rattle.school.specs.declared.Moment.{Moment}
+use Rattle.school_read.specs.Private.Rest.{number_in, moment_rest, moment_in, two_ticks, three_ticks, remark_rest}
+use Rattle.school_read.proofs.PartLaws.{eqb-suc, parts-on, parts-stop, more-on, ranged-free, earliness-free, last-field, number-none, number-some}
 
 swap : (a e b : Bool) → (a && (e && b)) ≡ (e && (a && b))
 swap true e b = refl
@@ -53,11 +54,6 @@ module _ (rest part more : List ℕ) (e : part ≡ before TAB rest) (q : more �
 
 -- ---- a start
 
--- the tests of its parts
-abbrev pub is_fine : ℕ → ℕ → Ranged → Ranged → Ranged → Bool → Bool
-is_fine part rest task board tick early =
-    ltb part rest && (eqb task.code 0 && (eqb board.code 0 && (eqb tick.code 0 && early)))
-
 module _ (rest p0 r1 p1 r2 p2 r3 : List ℕ)
     (e0 : p0 ≡ before TAB rest) (q0 : r1 ≡ drop (suc (length p0)) rest)
     (e1 : p1 ≡ before TAB r1) (q1 : r2 ≡ drop (suc (length p1)) r1)
@@ -77,9 +73,13 @@ module _ (rest p0 r1 p1 r2 p2 r3 : List ℕ)
       (λ f. rw (parts-on rest p0 r1 e0 q0 g, (parts-stop r1 p1 r2 e1 q1 f).0))
       (λ f. rw (parts-on rest p0 r1 e0 q0 g, parts-on r1 p1 r2 e1 q1 f, (parts-stop r2 p2 r3 e2 q2 h).0)))
 
-  module _ (boards tasks : ℕ) (bs : boards ≤ most) (ts : tasks ≤ most) {x y z : Ranged} {early : Bool}
-      (px : x ≡ ranged_read 1 tasks p0) (py : y ≡ ranged_read 1 boards p1) (pz : z ≡ ranged_read 0 most p2) (pe : early ≡ is_earliness r3) where
-    moment-is : is_fine (length p2) (length r2) x y z early ≡ moment_rest boards tasks rest
+  module _ (boards tasks : ℕ) where
+    -- the tests of its parts
+    abbrev fine : Bool
+    fine =
+        ltb (length p2) (length r2) && (ranged 1 tasks p0 && (ranged 1 boards p1 && (is_tick p2 && is_earliness r3)))
+
+    moment-is : fine ≡ moment_rest boards tasks rest
     unfolding moment_rest
     moment-is =
         let a = ranged 1 tasks p0 in
@@ -87,8 +87,7 @@ module _ (rest p0 r1 p1 r2 p2 r3 : List ℕ)
         let c = is_tick p2 in
         let d = is_earliness (field r3 0) in
         let n = eqb (length (fields r3)) 1 in
-        rw (ranged-fine 1 tasks p0 ts px, ranged-fine 1 boards p1 bs py, ranged-fine 0 most p2 (omega arith) pz, pe)
-        (by_le (length r2) (length p2)
+        by_le (length r2) (length p2)
         (λ h. rw (le-ltb (length p2) (length r2) h, no_four h))
         (λ h.
         rw (
@@ -99,24 +98,44 @@ module _ (rest p0 r1 p1 r2 p2 r3 : List ℕ)
           eqb-suc (length (fields r3)) 1,
           last-field is_earliness r3 (earliness-free r3),
         )
-        (ap (λ (t : Bool). a && (b && t)) (swap c n d) ∙ ap (λ (t : Bool). a && t) (swap b n (c && d)) ∙ swap a n (b && (c && d)))))
+        (ap (λ (t : Bool). a && (b && t)) (swap c n d) ∙ ap (λ (t : Bool). a && t) (swap b n (c && d)) ∙ swap a n (b && (c && d))))
 
-    pub start_none : not (is_fine (length p2) (length r2) x y z early) ≡ true → {r : LogLine} → r ≡ says_none false → r ≡ start_rest boards tasks rest
-    unfolding start_rest
-    start_none h q = q ∙ rw (← moment-is, not-true (is_fine (length p2) (length r2) x y z early) h)
+    none-said : fine ≡ false → None ≡ moment_in boards tasks rest
+    unfolding moment_in
+    none-said e = rw (sym moment-is ∙ e)
 
-    pub start-says : not (is_fine (length p2) (length r2) x y z early) ≡ false → ◌≡◌ {A = LogLine} (record { formed = true; start = x.value; end = 0; board = y.value; tick = z.value }) (start_rest boards tasks rest)
-    unfolding start_rest
-    start-says h =
-        let t = not-false (is_fine (length p2) (length r2) x y z early) h in
-        let t1 = and_r (ltb (length p2) (length r2)) (eqb x.code 0 && (eqb y.code 0 && (eqb z.code 0 && early))) t in
-        let t2 = and_r (eqb x.code 0) (eqb y.code 0 && (eqb z.code 0 && early)) t1 in
-        let t3 = and_r (eqb y.code 0) (eqb z.code 0 && early) t2 in
-        let vx = ranged-value 1 tasks p0 px (sym (ranged-code 1 tasks p0 px) ∙ eqb-true x.code 0 (and_l (eqb x.code 0) _ t1)) in
-        let vy = ranged-value 1 boards p1 py (sym (ranged-code 1 boards p1 py) ∙ eqb-true y.code 0 (and_l (eqb y.code 0) _ t2)) in
-        let vz = ranged-value 0 most p2 pz (sym (ranged-code 0 most p2 pz) ∙ eqb-true z.code 0 (and_l (eqb z.code 0) early t3)) in
-        let f = four-parts (ltb-true (length p2) (length r2) (and_l (ltb (length p2) (length r2)) _ t)) in
-        rw (← moment-is, t, f, vx, vy, vz)
+    pub moment-unended : length p2 ≡ length r2 → None ≡ moment_in boards tasks rest
+    moment-unended h = none-said (rw (le-ltb (length p2) (length r2) (omega arith)))
+
+    pub moment-unearly : {d : Bool} → d ≡ is_earliness r3 → d ≡ false → None ≡ moment_in boards tasks rest
+    moment-unearly e f =
+        none-said
+        (rw (sym e ∙ f, and_no (is_tick p2), and_no (ranged 1 boards p1), and_no (ranged 1 tasks p0), and_no (ltb (length p2) (length r2))))
+
+    pub moment-no-task : None ≡ number_in 1 tasks p0 → None ≡ moment_in boards tasks rest
+    moment-no-task e = none-said (rw (number-none 1 tasks p0 e, and_no (ltb (length p2) (length r2))))
+
+    pub moment-no-board : None ≡ number_in 1 boards p1 → None ≡ moment_in boards tasks rest
+    moment-no-board e =
+        none-said (rw (number-none 1 boards p1 e, and_no (ranged 1 tasks p0), and_no (ltb (length p2) (length r2))))
+
+    pub moment-no-tick : None ≡ number_in 0 most p2 → None ≡ moment_in boards tasks rest
+    moment-no-tick e =
+        none-said
+        (rw (number-none 0 most p2 e, and_no (ranged 1 boards p1), and_no (ranged 1 tasks p0), and_no (ltb (length p2) (length r2))))
+
+    pub moment-said :
+        (length p2 ≡ length r2 → ⊥) → {d : Bool} → d ≡ is_earliness r3 → d ≡ true → {x y z : ℕ} → Some x ≡ number_in 1 tasks p0
+        → Some y ≡ number_in 1 boards p1 → Some z ≡ number_in 0 most p2
+        → Some (let m : Moment = record { place = x - 1; board = y; tick = z } in m) ≡ moment_in boards tasks rest
+    unfolding moment_in
+    moment-said n e f a b c =
+        let h : length p2 < length r2 = omega (arith, n, part-within TAB r2 p2 e2) in
+        let x = number-some 1 tasks p0 a in
+        let y = number-some 1 boards p1 b in
+        let z = number-some 0 most p2 c in
+        let t : fine ≡ true = rw (lt-ltb (length p2) (length r2) h, x.0, y.0, z.0, sym e ∙ f) in
+        rw (sym moment-is ∙ t, four-parts h, x.1, y.1, z.1)
 
 -- ---- a line
 
@@ -139,77 +158,96 @@ module _ (word rest : List ℕ) where
     unfolding remark_rest
     remark-none t = rw (← e, n, ← f, t)
 
-module _ (boards tasks : ℕ) (line : List ℕ) where
-  pub said-first : {first run : Bool} → first ≡ true → run ≡ is_run boards tasks line → {r : LogLine} → r ≡ says_none run → r ≡ line_said boards tasks first line
-  unfolding line_said
-  said-first h e q = q ∙ rw (h, e)
+-- the start, or the end, that is said there
+abbrev pub start_said : Option Moment → LogLine
+start_said None = said None
+start_said (Some moment) = said (Some (read.Start moment))
 
-  module _ {is_first : Bool} (later : is_first ≡ false) {word : List ℕ} (e : word ≡ before TAB line) where
-    pub said-word : length word ≡ length line → {r : LogLine} → r ≡ says_none false → r ≡ line_said boards tasks is_first line
-    unfolding line_said later_said is_moment is_remark
-    said-word h q = q ∙ rw (later, parts_last TAB line word e h)
+abbrev pub end_said : Option Moment → LogLine
+end_said None = said None
+end_said (Some moment) = said (Some (read.End moment))
 
-    module _ (n : length word ≡ length line → ⊥) {rest : List ℕ} (q : rest ≡ drop (suc (length word)) line) where
-      fields-on : fields line ≡ word ∷ fields rest
-      fields-on = parts-on line word rest e q (omega (arith, n, part-within TAB line word e))
+remark_said : (x : Bool) → said (then_some x read.Remark) ≡ says_none x
+remark_said true = refl
+remark_said false = refl
 
-      shift : (a b c : Bool) → ((a && b) && c) ≡ (b && (a && c))
-      shift true b c = refl
-      shift false b c = sym (and_no b)
+module _ (boards tasks : ℕ) (line : List ℕ) {word : List ℕ} (e : word ≡ before TAB line) where
+  pub said-word : length word ≡ length line → says_none false ≡ later_said boards tasks line
+  unfolding later_said is_moment is_remark
+  said-word h = rw (parts_last TAB line word e h)
 
-      moment-of : (w : List ℕ) → is_moment w boards tasks line ≡ (same word w && moment_rest boards tasks rest)
-      unfolding is_moment moment_rest
-      moment-of w = rw (fields-on, eqb-suc (length (fields rest)) 4) (shift (eqb (length (fields rest)) 4) (same word w) _)
+  module _ (n : length word ≡ length line → ⊥) {rest : List ℕ} (q : rest ≡ drop (suc (length word)) line) where
+    fields-on : fields line ≡ word ∷ fields rest
+    fields-on = parts-on line word rest e q (omega (arith, n, part-within TAB line word e))
 
-      remark-of : is_remark line ≡ remark_rest word rest
-      unfolding is_remark remark_rest two_ticks three_ticks
-      remark-of =
-          rw (fields-on, eqb-suc (length (fields rest)) 2, eqb-suc (length (fields rest)) 3)
-          (rw (
-            shift (eqb (length (fields rest)) 2) (same word (bytes "early")) (is_tick (field rest 0) && is_tick (field rest 1)),
-            shift (eqb (length (fields rest)) 3) (same word (bytes "refused")) (is_tick (field rest 0) && (is_tick (field rest 1) && is_tick (field rest 2))),
-          ))
+    shift : (a b c : Bool) → ((a && b) && c) ≡ (b && (a && c))
+    shift true b c = refl
+    shift false b c = sym (and_no b)
 
-      pub said-start : {t : Bool} → t ≡ same word (bytes "start") → t ≡ true → {r : LogLine} → r ≡ start_rest boards tasks rest → r ≡ line_said boards tasks is_first line
-      unfolding line_said later_said start_rest remark_rest same
-      said-start f t p =
-          let h : same word (bytes "start") ≡ true = sym f ∙ t in
-          p
+    moment-of : (w : List ℕ) → is_moment w boards tasks line ≡ (same word w && moment_rest boards tasks rest)
+    unfolding is_moment moment_rest
+    moment-of w = rw (fields-on, eqb-suc (length (fields rest)) 4) (shift (eqb (length (fields rest)) 4) (same word w) _)
+
+    remark-of : is_remark line ≡ remark_rest word rest
+    unfolding is_remark remark_rest two_ticks three_ticks
+    remark-of =
+        rw (fields-on, eqb-suc (length (fields rest)) 2, eqb-suc (length (fields rest)) 3)
+        (rw (
+          shift (eqb (length (fields rest)) 2) (same word (bytes "early")) (is_tick (field rest 0) && is_tick (field rest 1)),
+          shift (eqb (length (fields rest)) 3) (same word (bytes "refused")) (is_tick (field rest 0) && (is_tick (field rest 1) && is_tick (field rest 2))),
+        ))
+
+    -- a task's number, by its place
+    its-place : moment_rest boards tasks rest ≡ true → value_of (field rest 0) - 1 + 1 ≡ value_of (field rest 0)
+    unfolding moment_rest
+    its-place m =
+        let n = value_of (field rest 0) in
+        let others = ranged 1 boards (field rest 1) && (is_tick (field rest 2) && is_earliness (field rest 3)) in
+        let r = and_l (ranged 1 tasks (field rest 0)) others (and_r (eqb (length (fields rest)) 4) (ranged 1 tasks (field rest 0) && others) m) in
+        let b = and_l (leb 1 n) (leb n tasks) (and_r (is_number (field rest 0)) (leb 1 n && leb n tasks) r) in
+        let l = leb-true 1 n b in
+        omega arith
+
+    pub said-start : {t : Bool} → t ≡ same word (bytes "start") → t ≡ true → {r : Option Moment} → r ≡ moment_in boards tasks rest → start_said r ≡ later_said boards tasks line
+    unfolding later_said moment_in remark_rest same
+    said-start f t p =
+        let h : same word (bytes "start") ≡ true = sym f ∙ t in
+        ap start_said p
+        ∙ rw (
+          moment-of (bytes "start"),
+          moment-of (bytes "end"),
+          remark-of,
+          h,
+          other_word word (bytes "start") (bytes "end") h refl,
+          other_word word (bytes "start") (bytes "early") h refl,
+          other_word word (bytes "start") (bytes "refused") h refl,
+          fields-on,
+        )
+        (by_bool (moment_rest boards tasks rest) (λ m. let p = its-place m in rw (m, p)) (λ m. rw m))
+
+    module _ {t : Bool} (f : t ≡ same word (bytes "start")) (other : t ≡ false) {u : Bool} (g : u ≡ same word (bytes "end")) where
+      pub said-end : u ≡ true → {r : Option Moment} → r ≡ moment_in boards tasks rest → end_said r ≡ later_said boards tasks line
+      unfolding later_said moment_in remark_rest same
+      said-end v p =
+          let h : same word (bytes "end") ≡ true = sym g ∙ v in
+          ap end_said p
           ∙ rw (
-            later,
             moment-of (bytes "start"),
             moment-of (bytes "end"),
             remark-of,
             h,
-            other_word word (bytes "start") (bytes "end") h refl,
-            other_word word (bytes "start") (bytes "early") h refl,
-            other_word word (bytes "start") (bytes "refused") h refl,
+            ← f,
+            other,
+            other_word word (bytes "end") (bytes "early") h refl,
+            other_word word (bytes "end") (bytes "refused") h refl,
             fields-on,
           )
+          (by_bool (moment_rest boards tasks rest) (λ m. let p = its-place m in rw (m, p)) (λ m. rw m))
 
-      module _ {t : Bool} (f : t ≡ same word (bytes "start")) (other : t ≡ false) {u : Bool} (g : u ≡ same word (bytes "end")) where
-        pub said-end : u ≡ true → {s : LogLine} → s ≡ start_rest boards tasks rest → {r : LogLine} → r ≡ end_of s → r ≡ line_said boards tasks is_first line
-        unfolding line_said later_said start_rest remark_rest same
-        said-end v p z =
-            let h : same word (bytes "end") ≡ true = sym g ∙ v in
-            z ∙ ap end_of p
-            ∙ rw (
-              later,
-              moment-of (bytes "start"),
-              moment-of (bytes "end"),
-              remark-of,
-              h,
-              ← f,
-              other,
-              other_word word (bytes "end") (bytes "early") h refl,
-              other_word word (bytes "end") (bytes "refused") h refl,
-              fields-on,
-            )
-            (by_bool (moment_rest boards tasks rest) (λ m. rw m) (λ m. rw m))
-
-        pub said-remark : u ≡ false → {x : Bool} → x ≡ remark_rest word rest → {r : LogLine} → r ≡ says_none x → r ≡ line_said boards tasks is_first line
-        unfolding line_said later_said
-        said-remark v p z = z ∙ rw (later, moment-of (bytes "start"), moment-of (bytes "end"), remark-of, ← f, other, ← g, v, p)
+      pub said-remark : u ≡ false → {x : Bool} → x ≡ remark_rest word rest → said (then_some x read.Remark) ≡ later_said boards tasks line
+      unfolding later_said
+      said-remark v {x} p =
+          remark_said x ∙ rw (moment-of (bytes "start"), moment-of (bytes "end"), remark-of, ← f, other, ← g, v, p)
 
 -- ---- the first line
 

@@ -3,3 +3,4 @@ pub mod FormLaws
 pub mod ReadLaws
 pub mod NoteLaws
 pub mod WalkLaws
+pub mod SaidLaws

@@ -1,44 +1,61 @@
 -- What is kept of the lines so far, with one line more: it is what these lines say.
-use Prim.Native.Nat.{ℕ, suc, ◌+◌, ◌<◌}
+use Prim.Native.Nat.{ℕ, zero, suc, ◌+◌, ◌<◌}
+use native.Mathlib.Numerals.{add-one}
 use mathlib.Core.Path.{◌≡◌, refl, sym, ap, ◌∙◌}
 use mathlib.Core.Logic.{◌≢◌}
 use mathlib.Core.Bool.{Bool, true, false, cond, ◌&&◌}
 use mathlib.Core.List.{List, [], ◌∷◌, ◌++◌, append_assoc, append-nil}
 use native.Mathlib.Omega.{arith}
 use lib.Dec.{eqb}
-use lib.ListN.{set, replicate, length-set, get_or-replicate}
+use lib.ListN.{set, length-set}
 use lib.Seq.{ext_get_or, get_or-set_same, get_or-set_other}
-use borrow.Author.Tests.{eq-eqb, ne_eqb}
-use Rattle.std.specs.Prelude.{Result, Ok, Err}
-use Rattle.laws.specs.Each.{each}
+use borrow.Author.Tests.{eq-eqb, ne_eqb, eqb-true}
+use Rattle.std.specs.Prelude.{Some, Result, Ok, Err}
+use Rattle.std.proofs.lemmas.Bool.{eqb-false}
 use Rattle.laws.specs.Lists.{all_of, first_not}
 use Rattle.laws.proofs.Cases.{by_bool, by-eq}
-use Rattle.laws.proofs.Each.{each-idle}
 use Rattle.plan.specs.Value.{at}
-use Rattle.school.specs.Tasks.{how_many, first_of}
-use Rattle.school.specs.declared.LogLine.{LogLine}
-use Rattle.school_read.specs.Private.Blank.{blank}
-use Rattle.school_read.specs.Found.{is_formed, by_task, up_to_two, lines_found, lines_read}
+use Rattle.school.specs.Lines.{says_none}
+use Rattle.school.specs.Tasks.{is_start, is_end, how_many, first_of}
+use Rattle.school.specs.Said.{LogLine, said}
+use Rattle.school.specs.declared.LogLine as line
+use Rattle.school.specs.declared.LogLine.TheVariants as read
+use Rattle.book_view.specs.View.{laid}
+use Rattle.book_view.proofs.Laid.{length-laid, laid-at, laid_same, zeros-laid}
+use Rattle.school_read.specs.Private.Noted.{none_noted, noted_at, found_with}
+use Rattle.school_read.specs.Found.{is_formed, up_to_two, noted, lines_found, lines_read}
 use Rattle.school_read.specs.declared.Found.{Found}
-use Rattle.school_read.proofs.ReadLaws.{length-places, task-place, none_kept}
+use Rattle.school_read.specs.declared.Noted.{Noted}
+use Rattle.school_read.proofs.ReadLaws.{none_kept}
 
--- one more, up to 2; the first is kept
-abbrev pub counted_of : ℕ → ℕ
-counted_of count = cond (eqb count 0) 1 2
+-- with one of task t, which is 0 for none
+abbrev pub noted_with : Noted → ℕ → ℕ → ℕ → Noted
+noted_with noted zero = λ board tick. noted
+noted_with noted (suc i) = noted_at i noted
 
-abbrev pub kept_of : ℕ → ℕ → ℕ → ℕ
-kept_of count old new = cond (eqb count 0) new old
-
--- the arrays with one line more
+-- what is found, with one line more
 unfoldable pub note_of : Found → LogLine → Found
 note_of found said = record {
-  starts = set found.starts said.start (counted_of (at found.starts said.start));
-  ends = set found.ends said.end (counted_of (at found.ends said.end));
-  start = set found.start said.start (kept_of (at found.starts said.start) (at found.start said.start) said.tick);
-  end = set found.end said.end (kept_of (at found.ends said.end) (at found.end said.end) said.tick);
-  startboard = set found.startboard said.start (kept_of (at found.starts said.start) (at found.startboard said.start) said.board);
-  endboard = set found.endboard said.end (kept_of (at found.ends said.end) (at found.endboard said.end) said.board);
+  starts = noted_with found.starts said.start said.board said.tick;
+  ends = noted_with found.ends said.end said.board said.tick;
 }
+
+module _ (found : Found) where
+  with_place : (noted : Noted) (i board tick : ℕ) → noted_at i noted board tick ≡ noted_with noted (i + 1) board tick
+  with_place noted i board tick = ap (λ (n : ℕ). noted_with noted n board tick) (sym (add-one i))
+
+  pub note-is : (line : line.LogLine) → found_with found line ≡ note_of found (said (Some line))
+  unfolding note_of
+  note-is (read.Start m) =
+      let e = with_place found.starts m.place m.board m.tick in λ i. record { starts = e i; ends = found.ends }
+  note-is (read.End m) =
+      let e = with_place found.ends m.place m.board m.tick in λ i. record { starts = found.starts; ends = e i }
+  note-is read.Remark = refl
+
+pub formed-is : (line : line.LogLine) → (said (Some line)).formed ≡ true
+formed-is (read.Start m) = refl
+formed-is (read.End m) = refl
+formed-is read.Remark = refl
 
 -- line by line from line k + 1 on, up to the first that has not its form
 unfoldable pub go_on : ℕ → Found → List LogLine → Result Found ℕ
@@ -72,62 +89,109 @@ module _ (p : LogLine → Bool) (said : LogLine) where
   first-other h (x ∷ lines) = rw (first-other h lines)
 
 -- one place stored anew
-put : (f g : ℕ → ℕ) (s v : ℕ) → (s < 65 → v ≡ g s) → ((t : ℕ) → s ≢ t → g t ≡ f t) → set (by_task f) s v ≡ by_task g
+put : (f g : ℕ → ℕ) (s v : ℕ) → (s < 64 → v ≡ g s) → ((t : ℕ) → s ≢ t → g t ≡ f t) → set (laid 64 f) s v ≡ laid 64 g
 put f g s v here other =
-    ext_get_or 0 (set (by_task f) s v) (by_task g) (length-set (by_task f) s v ∙ length-places f ∙ sym (length-places g))
+    ext_get_or 0 (set (laid 64 f) s v) (laid 64 g) (length-set (laid 64 f) s v ∙ length-laid 64 f ∙ sym (length-laid 64 g))
     (λ t h.
-    let b : t < 65 = omega (arith, length-set (by_task f) s v, length-places f) in
+    let b : t < 64 = omega (arith, length-set (laid 64 f) s v, length-laid 64 f) in
     by-eq s t
     (λ e.
-    rw (← e) (get_or-set_same (by_task f) s v 0 (omega (arith, length-places f)) ∙ here (omega arith) ∙ sym (task-place g s (omega arith))))
-    (λ n. get_or-set_other (by_task f) s t v 0 (λ e. n (sym e)) ∙ task-place f t b ∙ sym (other t n) ∙ sym (task-place g t b)))
+    rw (← e) (get_or-set_same (laid 64 f) s v 0 (omega (arith, length-laid 64 f)) ∙ here (omega arith) ∙ sym (laid-at 64 g (omega arith) s (omega arith))))
+    (λ n. get_or-set_other (laid 64 f) s t v 0 (λ e. n (sym e)) ∙ laid-at 64 f (omega arith) t b ∙ sym (other t n) ∙ sym (laid-at 64 g (omega arith) t b)))
 
--- the three arrays of starts, and of ends
+-- of the starts, or of the ends
 module _ (key : LogLine → ℕ) (said : LogLine) (lines : List LogLine) where
   abbrev by : ℕ → LogLine → Bool
-  by t x = eqb (key x) t
+  by i x = eqb (key x) (i + 1)
 
-  abbrev count : ℕ → ℕ
-  count t = up_to_two (how_many (by t) lines)
+  abbrev more : List LogLine
+  more = lines ++ (said ∷ [])
 
-  count-put : set (by_task count) (key said) (counted_of (at (by_task count) (key said))) ≡ by_task (λ t. up_to_two (how_many (by t) (lines ++ (said ∷ []))))
-  count-put =
-      put count _ (key said) _
-      (λ h.
-      let m = many-same (by (key said)) said (eq-eqb (key said) (key said) refl) lines in
-      rw (task-place count (key said) h, none_kept (how_many (by (key said)) lines))
-      (by-eq (how_many (by (key said)) lines) 0
-      (λ e. rw (eq-eqb (how_many (by (key said)) lines) 0 e) (omega arith))
-      (λ n. rw (ne_eqb (how_many (by (key said)) lines) 0 n) (omega arith))))
-      (λ t n. ap up_to_two (many-other (by t) said (ne_eqb (key said) t n) lines))
+  abbrev many : List LogLine → ℕ → ℕ
+  many seen i = up_to_two (how_many (by i) seen)
 
-  value-put :
-      (value : LogLine → ℕ)
-      → set (by_task (λ t. value (first_of (by t) lines))) (key said)
-      (kept_of (at (by_task count) (key said)) (at (by_task (λ t. value (first_of (by t) lines))) (key said)) (value said))
-      ≡ by_task (λ t. value (first_of (by t) (lines ++ (said ∷ []))))
-  value-put value =
-      put (λ t. value (first_of (by t) lines)) _ (key said) _
-      (λ h.
-      rw (
-        task-place count (key said) h,
-        none_kept (how_many (by (key said)) lines),
-        task-place (λ t. value (first_of (by t) lines)) (key said) h,
-        first-same (by (key said)) said (eq-eqb (key said) (key said) refl) lines,
-      )
-      (by_bool (eqb (how_many (by (key said)) lines) 0) (λ e. rw e) (λ e. rw e)))
-      (λ t n. ap value (first-other (by t) said (ne_eqb (key said) t n) lines))
+  -- a line that says nothing of a task
+  module _ (i : ℕ) (no : by i said ≡ false) where
+    many-kept : many more i ≡ many lines i
+    many-kept = ap up_to_two (many-other (by i) said no lines)
+
+    first_kept : first_of (by i) more ≡ first_of (by i) lines
+    first_kept = first-other (by i) said no lines
+
+  no_other : (s i : ℕ) → key said ≡ s + 1 → s ≢ i → by i said ≡ false
+  no_other s i k n = ne_eqb (key said) (i + 1) (λ e. n (omega arith))
+
+  none_more : key said ≡ 0 → noted by lines ≡ noted by more
+  unfolding noted
+  none_more z =
+      let no : (i : ℕ) → by i said ≡ false = λ i. ne_eqb (key said) (i + 1) (λ e. omega arith) in
+      let a = laid_same 64 (many lines) (many more) (λ i h. sym (many-kept i (no i))) in
+      let b = laid_same 64 (λ i. (first_of (by i) lines).board) (λ i. (first_of (by i) more).board) (λ i h. ap (λ (x : LogLine). x.board) (sym (first_kept i (no i)))) in
+      let c = laid_same 64 (λ i. (first_of (by i) lines).tick) (λ i. (first_of (by i) more).tick) (λ i h. ap (λ (x : LogLine). x.tick) (sym (first_kept i (no i)))) in
+      λ j. record { many = a j; board = b j; tick = c j }
+
+  module _ (s : ℕ) (k : key said ≡ s + 1) where
+    it_is : by s said ≡ true
+    it_is = eq-eqb (key said) (s + 1) k
+
+    -- the first that says it
+    module _ (value : LogLine → ℕ) where
+      first_put : eqb (at (laid 64 (many lines)) s) 0 ≡ true → set (laid 64 (λ i. value (first_of (by i) lines))) s (value said) ≡ laid 64 (λ i. value (first_of (by i) more))
+      first_put z =
+          put (λ i. value (first_of (by i) lines)) (λ i. value (first_of (by i) more)) s (value said)
+          (λ h.
+          let e : eqb (how_many (by s) lines) 0 ≡ true =
+          sym (none_kept (how_many (by s) lines)) ∙ ap (λ (n : ℕ). eqb n 0) (sym (laid-at 64 (many lines) (omega arith) s h)) ∙ z in
+          rw (first-same (by s) said it_is lines, e))
+          (λ i n. ap value (first_kept i (no_other s i k n)))
+
+      later_same : eqb (at (laid 64 (many lines)) s) 0 ≡ false → laid 64 (λ i. value (first_of (by i) lines)) ≡ laid 64 (λ i. value (first_of (by i) more))
+      later_same f =
+          laid_same 64 (λ i. value (first_of (by i) lines)) (λ i. value (first_of (by i) more))
+          (λ i h.
+          by-eq s i
+          (λ q.
+          let e : eqb (how_many (by i) lines) 0 ≡ false =
+          sym (none_kept (how_many (by i) lines)) ∙ ap (λ (n : ℕ). eqb n 0) (sym (laid-at 64 (many lines) (omega arith) i h)) ∙ (rw q at f) in
+          let t : by i said ≡ true = rw q at it_is in
+          rw (first-same (by i) said t lines, e))
+          (λ n. ap value (sym (first_kept i (no_other s i k n)))))
+
+    one_more : (v : ℕ) → (s < 64 → v ≡ up_to_two (how_many (by s) lines + 1)) → set (laid 64 (many lines)) s v ≡ laid 64 (many more)
+    one_more v here =
+        put (many lines) (many more) s v
+        (λ h. here h ∙ ap up_to_two (sym (many-same (by s) said it_is lines)))
+        (λ i n. many-kept i (no_other s i k n))
+
+    count_is : s < 64 → at (laid 64 (many lines)) s ≡ up_to_two (how_many (by s) lines)
+    count_is h = laid-at 64 (many lines) (omega arith) s h
+
+    some_more : noted_at s (noted by lines) said.board said.tick ≡ noted by more
+    unfolding noted
+    some_more =
+        by_bool (eqb (at (laid 64 (many lines)) s) 0)
+        (λ z.
+        let n = eqb-true (at (laid 64 (many lines)) s) 0 z in
+        let a = one_more 1 (λ h. let q = count_is h in omega arith) in
+        let b = first_put (λ x. x.board) z in
+        let c = first_put (λ x. x.tick) z in
+        rw z (λ j. record { many = a j; board = b j; tick = c j }))
+        (λ f.
+        let a = one_more 2 (λ h. let q = count_is h in let n = eqb-false (at (laid 64 (many lines)) s) 0 f in omega arith) in
+        let b = later_same (λ x. x.board) f in
+        let c = later_same (λ x. x.tick) f in
+        rw f (λ j. record { many = a j; board = b j; tick = c j }))
+
+  with_turn : (t : ℕ) → key said ≡ t → noted_with (noted by lines) t said.board said.tick ≡ noted by more
+  with_turn zero k = none_more k
+  with_turn (suc s) k = some_more s (k ∙ sym (add-one s))
 
 note-turn : (said : LogLine) (lines : List LogLine) → note_of (lines_found lines) said ≡ lines_found (lines ++ (said ∷ []))
-unfolding note_of lines_found
+unfolding note_of
 note-turn said lines =
-    let a = count-put (λ x. x.start) said lines in
-    let b = count-put (λ x. x.end) said lines in
-    let c = value-put (λ x. x.start) said lines (λ x. x.tick) in
-    let d = value-put (λ x. x.end) said lines (λ x. x.tick) in
-    let e = value-put (λ x. x.start) said lines (λ x. x.board) in
-    let f = value-put (λ x. x.end) said lines (λ x. x.board) in
-    λ i. record { starts = a i; ends = b i; start = c i; end = d i; startboard = e i; endboard = f i }
+    let a = with_turn (λ x. x.start) said lines said.start refl in
+    let b = with_turn (λ x. x.end) said lines said.end refl in
+    λ i. record { starts = a i; ends = b i }
 
 -- ---- all lines
 
@@ -188,13 +252,29 @@ go_all k seen (said ∷ lines) =
     let n : k + 1 ≡ k + 0 + 1 = omega arith in
     go-stop k (lines_found seen) said lines e ∙ rw (all-stop said lines e, first-stop said lines e) (ap Err n))
 
-blank-found : blank ≡ lines_found []
-unfolding lines_found how_many first_of by_task
-blank-found =
-    let z : replicate {A = ℕ} 65 0 ≡ each 65 (λ t. 0) (replicate {A = ℕ} 65 0) =
-    sym (each-idle 65 (λ t. 0) (replicate {A = ℕ} 65 0) 0 (λ t h. sym (get_or-replicate {A = ℕ} 65 t 0 0 h))) in
-    λ i. record { starts = z i; ends = z i; start = z i; end = z i; startboard = z i; endboard = z i }
+abbrev pub nothing : Found
+nothing = record { starts = none_noted; ends = none_noted }
 
-pub go-whole : (lines : List LogLine) → go_on 0 blank lines ≡ lines_read lines
+none_is : (by : ℕ → LogLine → Bool) → none_noted ≡ noted by []
+unfolding noted how_many first_of
+none_is by = let z = zeros-laid 64 in λ i. record { many = z i; board = z i; tick = z i }
+
+pub nothing_of : {starts ends : Noted} → starts ≡ none_noted → ends ≡ none_noted → ◌≡◌ {A = Found} (record { starts = starts; ends = ends }) nothing
+nothing_of a b = λ i. record { starts = a i; ends = b i }
+
+nothing_is : nothing ≡ lines_found []
+nothing_is = λ i. record { starts = none_is is_start i; ends = none_is is_end i }
+
+-- lines after a first one that has its form
+pub go-later : (lines : List LogLine) → go_on 1 nothing lines ≡ lines_read (says_none true ∷ lines)
+unfolding lines_read note_of
+go-later lines =
+    let n : 0 + first_not is_formed (says_none true ∷ lines) + 1 ≡ first_not is_formed (says_none true ∷ lines) + 1 = omega arith in
+    sym (go-line 0 nothing (says_none true) lines refl)
+    ∙ ap (λ (found : Found). go_on 0 found (says_none true ∷ lines)) nothing_is
+    ∙ go_all 0 [] (says_none true ∷ lines)
+    ∙ rw n
+
+pub no_first : (lines : List LogLine) → Err 1 ≡ lines_read (says_none false ∷ lines)
 unfolding lines_read
-go-whole lines = rw (blank-found, go_all 0 [] lines) (let n : 0 + first_not is_formed lines + 1 ≡ first_not is_formed lines + 1 = omega arith in rw n)
+no_first lines = rw (all-stop (says_none false) lines refl, first-stop (says_none false) lines refl)

@@ -1,26 +1,31 @@
 -- The fields of a line, part by part, and what a last field is free of.
 use Prim.Native.Nat.{ℕ, suc, ◌≤◌, ◌<◌}
 use mathlib.Core.Path.{◌≡◌, refl, sym, ap, ◌∙◌}
-use mathlib.Core.Bool.{Bool, true, false, ◌&&◌}
+use mathlib.Core.Bool.{Bool, true, false, cond, ◌&&◌}
 use mathlib.Core.List.{List, [], ◌∷◌}
 use native.Mathlib.Omega.{arith}
-use lib.Dec.{eqb}
+use lib.Dec.{eqb, leb}
 use lib.ListN.{length, drop, get_or, length-drop, drop_of_length-le}
-use borrow.Author.Tests.{eq-eqb, ne_eqb, eqb-true}
+use borrow.Author.Tests.{eq-eqb, ne_eqb, eqb-true, leb-true}
+use Rattle.std.specs.Prelude.{Option, None, Some, Result, Ok, Err}
+use Rattle.std.specs.Result.{result_ok}
 use Rattle.laws.specs.Lists.{all_of}
 use Rattle.laws.specs.Split.{index_of, before, after}
-use Rattle.laws.proofs.Cases.{by_bool, by-eq, by_le, and_l}
+use Rattle.laws.proofs.Cases.{by_bool, by-eq, by_le, and_l, and_r, true-false}
 use Rattle.laws.proofs.Split.{free, split_one, split-none, split-found}
 use Rattle.text.specs.Number.{is_number, value_of, most}
 use Rattle.text.specs.Line.{TAB, fields, field}
 use Rattle.text.proofs.Parts.{First, first, first_part, part-within, past-part, parts_last, parts_more}
 use Rattle.text.proofs.Numerals.{number-spelt, digits-free}
 use Rattle.text_fields.specs.Items.{between}
-use Rattle.text_fields.specs.Faults.{code_for, ranged_read}
-use Rattle.text_fields.specs.declared.Ranged.{Ranged}
-use Rattle.text_fields.proofs.RangedLaws.{field-code, ranged-code}
+use Rattle.text_fields.specs.Faults.{code_for, field_code, ranged_read}
+use Rattle.text_fields.specs.Said.{fault_number, ranged_in}
+use Rattle.text_fields.specs.declared.FieldFault.{FieldFault}
+use Rattle.text_fields.proofs.FaultLaws.{number-some as fault-some}
+use Rattle.text_fields.proofs.RangedLaws.{field-code, ranged-code, ok-value}
 use Rattle.plan.specs.Read.{ranged}
 use Rattle.school.specs.Lines.{MINUS, is_earliness}
+use Rattle.school_read.specs.Private.Rest.{number_in}
 
 pub eqb-suc : (a b : ℕ) → eqb (suc a) (suc b) ≡ eqb a b
 eqb-suc a b =
@@ -68,13 +73,51 @@ last-field p s f =
 
 -- ---- numbers
 
-pub ranged-fine : (low high : ℕ) (s : List ℕ) {x : Ranged} → high ≤ most → x ≡ ranged_read low high s → eqb x.code 0 ≡ ranged low high s
-ranged-fine low high s h e = rw (ranged-code low high s e, field-code low high s h) (go (is_number s) (between low high (value_of s)))
+pub number-read : (low high : ℕ) (s : List ℕ) (read : Result ℕ FieldFault) → high ≤ most → ranged_in read ≡ ranged_read low high s → result_ok read ≡ number_in low high s
+number-read low high s read h e =
+    let f = field-code low high s h in
+    go read refl (ranged-code low high s e) (is_number s) (between low high (value_of s)) f
   where
-    go : (a b : Bool) → eqb (code_for a b) 0 ≡ (a && b)
-    go true true = refl
-    go true false = refl
-    go false b = refl
+    go : (r : Result ℕ FieldFault) → read ≡ r → (ranged_in read).code ≡ field_code low high s → (a b : Bool) → field_code low high s ≡ code_for a b → result_ok read ≡ cond (a && b) (Some (value_of s)) None
+    go (Ok v) q c true true f = rw (q, ok-value low high s read e q)
+    go (Ok v) q c true false f = let z : ◌≡◌ {A = ℕ} 0 4 = sym (ap (λ (x : Result ℕ FieldFault). (ranged_in x).code) q) ∙ c ∙ f in absurd (omega arith)
+    go (Ok v) q c false b f = let z : ◌≡◌ {A = ℕ} 0 3 = sym (ap (λ (x : Result ℕ FieldFault). (ranged_in x).code) q) ∙ c ∙ f in absurd (omega arith)
+    go (Err fault) q c true true f =
+        let z : ◌≡◌ {A = ℕ} (fault_number fault) 0 = sym (ap (λ (x : Result ℕ FieldFault). (ranged_in x).code) q) ∙ c ∙ f in
+        true-false (eq-eqb (fault_number fault) 0 z) (fault-some fault)
+    go (Err fault) q c true false f = rw q
+    go (Err fault) q c false b f = rw q
+
+abbrev pub has_number : Option ℕ → Bool
+has_number None = false
+has_number (Some n) = true
+
+abbrev number_or_zero : Option ℕ → ℕ
+number_or_zero None = 0
+number_or_zero (Some n) = n
+
+module _ (low high : ℕ) (s : List ℕ) where
+  number-is : has_number (number_in low high s) ≡ ranged low high s
+  number-is = by_bool (ranged low high s) (λ t. rw t) (λ f. rw f)
+
+  pub number-none : None ≡ number_in low high s → ranged low high s ≡ false
+  number-none e = sym (ap has_number e ∙ number-is)
+
+  pub number-some : {n : ℕ} → Some n ≡ number_in low high s → (ranged low high s ≡ true) × (n ≡ value_of s)
+  number-some {n} e =
+      let t : ranged low high s ≡ true = sym (ap has_number e ∙ number-is) in
+      let v : number_or_zero (number_in low high s) ≡ value_of s = rw t in
+      (t, ap number_or_zero e ∙ v)
+
+  pub number-least : {n : ℕ} → Some n ≡ number_in low high s → low ≤ n
+  number-least e =
+      let r = number-some e in
+      rw r.1
+      (leb-true low (value_of s)
+      (and_l (leb low (value_of s)) (leb (value_of s) high) (and_r (is_number s) (leb low (value_of s) && leb (value_of s) high) r.0)))
+
+  pub number-fine : {x : Option ℕ} {b : Bool} → x ≡ number_in low high s → b ≡ has_number x → b ≡ ranged low high s
+  number-fine e q = q ∙ ap has_number e ∙ number-is
 
 module _ (s : List ℕ) where
   pub early-none : length s ≡ 0 → false ≡ is_earliness s

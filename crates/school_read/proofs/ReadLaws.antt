@@ -5,30 +5,17 @@ use mathlib.Core.Bool.{Bool, true, false, not, cond, ◌||◌}
 use mathlib.Core.List.{List, [], ◌∷◌}
 use native.Mathlib.Omega.{arith}
 use lib.Dec.{eqb}
-use lib.ListN.{length, get_or, replicate, length-replicate}
+use lib.ListN.{length}
 use borrow.Author.Tests.{eq-eqb, ne_eqb}
 use Rattle.std.specs.Prelude.{Result, Ok, Err}
 use Rattle.laws.specs.Lists.{all_of, first_not, same}
 use Rattle.laws.specs.Split.{cons_first, split_on}
 use Rattle.laws.proofs.Cases.{by_bool, by-eq, true-false}
-use Rattle.laws.proofs.Each.{length-each, each_below}
 use Rattle.text.specs.Line.{LF}
 use Rattle.school.specs.Lines.{says_none, said_from, said_in}
-use Rattle.school.specs.declared.LogLine.{LogLine}
-use Rattle.school_read.specs.Found.{is_formed, by_task, up_to_two, lines_read, found_of}
+use Rattle.school.specs.Said.{LogLine}
+use Rattle.school_read.specs.Found.{is_formed, up_to_two, lines_read, found_of}
 use Rattle.school_read.specs.declared.Found.{Found}
-
-pub length-blank : length (replicate {A = ℕ} 65 0) ≡ 65
-length-blank = length-replicate {A = ℕ} 65 0
-
-module _ (f : ℕ → ℕ) where
-  pub length-places : length (by_task f) ≡ 65
-  unfolding by_task
-  length-places = length-each 65 f (replicate 65 0) ∙ length-blank
-
-  pub task-place : (t : ℕ) → t < 65 → get_or (by_task f) t 0 ≡ f t
-  unfolding by_task
-  task-place t h = each_below 65 f (replicate 65 0) t 0 h (omega (arith, length-blank))
 
 -- none, and one, are told from the rest
 pub none_kept : (n : ℕ) → eqb (up_to_two n) 0 ≡ eqb n 0

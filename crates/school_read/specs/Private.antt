@@ -1,2 +1,2 @@
+pub mod Noted
 pub mod Rest
-pub mod Blank

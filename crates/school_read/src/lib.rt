@@ -2,32 +2,42 @@
 // A log that is judged, read once: the lowest line without its form, or what is said of each task.
 #![tactic(auto)]
 
-ghost use Rattle.std.specs.Prelude.{◌≡◌, ◌≤◌, cond};
+ghost use Rattle.std.specs.Prelude.{◌≡◌, ◌≤◌, ◌<◌, true, false, ◌∷◌};
+ghost use Rattle.laws.specs.Split.{split_on};
+ghost use Rattle.text.specs.Line.{LF};
 ghost use Rattle.plan.specs.Read.{ranged};
-ghost use Rattle.school.specs.Lines.{is_earliness, is_run, says_none, line_said};
-ghost use Rattle.school_read.specs.Private.Rest.{start_rest, end_of, two_ticks, three_ticks, remark_rest};
-ghost use Rattle.school_read.specs.Found.{found_of};
-ghost use Rattle.school_read.specs.Private.Blank.{blank};
+ghost use Rattle.school.specs.Lines.{is_earliness, is_run, says_none, later_said, said_from};
+ghost use Rattle.school.specs.Said.{said};
+ghost use Rattle.school_read.specs.Private.Rest.{number_in, moment_in, two_ticks, three_ticks, remark_rest};
+ghost use Rattle.school_read.specs.Private.Noted.{none_noted, noted_at, IsPlaced, found_with};
+ghost use Rattle.school_read.specs.Found.{lines_read, found_of};
 
 use plan::few;
-use school::LogLine;
+use school::{LogLine, Moment};
 use text::decimal::NUMBER_MOST;
 use text::part::{LF, TAB, count_fields, field, find, part_before, past, same};
 use text_fields::faults::read_ranged;
+
+// A number from low to high.
+fn number_in(field: &[u8], low: u32, high: u32) -> Option<u32>
+    requires { high ≤ 1000000 }
+    ensures { result ≡ number_in low high field.now }
+{
+    read_ranged(field, low, high).ok()
+}
 
 fn is_ranged(field: &[u8], low: u32, high: u32) -> bool
     requires { high ≤ 1000000 }
     ensures { result ≡ ranged low high field.now }
 {
-    let number = read_ranged(field, low, high);
-    number.code == 0
+    number_in(field, low, high).is_some()
 }
 
 // A number, or `-` before one that is not 0.
 fn is_earliness(field: &[u8]) -> bool
     ensures { result ≡ is_earliness field.now }
 {
-    if field.len() == 0 {
+    if field.is_empty() {
         return false;
     }
     if field[0] == b'-' {
@@ -37,7 +47,7 @@ fn is_earliness(field: &[u8]) -> bool
 }
 
 // The first line: once a log, so its fields are looked for from its beginning.
-fn is_run(boards: u8, tasks: u8, line: &[u8]) -> bool
+pub fn is_run(boards: u8, tasks: u8, line: &[u8]) -> bool
     ensures { result ≡ is_run boards tasks line.now }
 {
     let count = count_fields(line);
@@ -52,21 +62,9 @@ fn is_run(boards: u8, tasks: u8, line: &[u8]) -> bool
         & (of_boards & of_tasks)
 }
 
-fn says_none(formed: bool) -> LogLine
-    ensures { result ≡ says_none formed }
-{
-    LogLine {
-        formed,
-        start: 0,
-        end: 0,
-        board: 0,
-        tick: 0,
-    }
-}
-
-// What a `start` line says past its word. Ticks early with a tab in them are misspelt.
-fn read_start(boards: u8, tasks: u8, rest: &[u8]) -> LogLine
-    ensures { result ≡ start_rest boards tasks rest.now }
+// What a `start` or an `end` line says past its word. Ticks early with a tab in them are misspelt.
+fn read_moment(boards: u8, tasks: u8, rest: &[u8]) -> Option<Moment>
+    ensures { result ≡ moment_in boards tasks rest.now }
 {
     let task_field = part_before(rest, TAB);
     let from_board = past(rest, task_field.len());
@@ -74,32 +72,17 @@ fn read_start(boards: u8, tasks: u8, rest: &[u8]) -> LogLine
     let from_tick = past(from_board, board_field.len());
     let tick_field = part_before(from_tick, TAB);
     let early = past(from_tick, tick_field.len());
-    let task = read_ranged(task_field, 1, u32::from(tasks));
-    let board = read_ranged(board_field, 1, u32::from(boards));
-    let tick = read_ranged(tick_field, 0, NUMBER_MOST);
-    let fine = (task.code == 0) & ((board.code == 0) & ((tick.code == 0) & is_earliness(early)));
-    if !((tick_field.len() < from_tick.len()) & fine) {
-        return says_none(false);
+    if tick_field.len() == from_tick.len() || !is_earliness(early) {
+        return None;
     }
-    LogLine {
-        formed: true,
-        start: task.value,
-        end: 0,
-        board: board.value,
-        tick: tick.value,
-    }
-}
-
-fn end_of(start: LogLine) -> LogLine
-    ensures { result ≡ end_of start }
-{
-    LogLine {
-        formed: start.formed,
-        start: 0,
-        end: start.start,
-        board: start.board,
-        tick: start.tick,
-    }
+    let task = number_in(task_field, 1, u32::from(tasks))?;
+    let board = number_in(board_field, 1, u32::from(boards))?;
+    let tick = number_in(tick_field, 0, NUMBER_MOST)?;
+    Some(Moment {
+        place: (task - 1) as usize,
+        board,
+        tick,
+    })
 }
 
 fn two_ticks(rest: &[u8]) -> bool
@@ -119,7 +102,7 @@ fn three_ticks(rest: &[u8]) -> bool
     (first.len() < rest.len()) & (is_ranged(first, 0, NUMBER_MOST) & two_ticks(others))
 }
 
-fn is_remark<'a>(word: &'a [u8], rest: &'a [u8]) -> bool
+fn is_remark(word: &[u8], rest: &[u8]) -> bool
     ensures { result ≡ remark_rest word.now rest.now }
 {
     if same(word, b"early") {
@@ -131,96 +114,114 @@ fn is_remark<'a>(word: &'a [u8], rest: &'a [u8]) -> bool
     false
 }
 
-// A line without its LF; the first is the one that names the sizes.
-pub fn said(boards: u8, tasks: u8, first: bool, line: &[u8]) -> LogLine
-    ensures { result ≡ line_said boards tasks first line.now }
+// A line after the first, without its LF. `None` is a line without its form.
+pub fn said(boards: u8, tasks: u8, line: &[u8]) -> Option<LogLine>
+    ensures { said result ≡ later_said boards tasks line.now }
 {
-    if first {
-        return says_none(is_run(boards, tasks, line));
-    }
     let word = part_before(line, TAB);
     if word.len() == line.len() {
-        return says_none(false);
+        return None;
     }
     let rest = past(line, word.len());
     if same(word, b"start") {
-        return read_start(boards, tasks, rest);
+        return Some(LogLine::Start(read_moment(boards, tasks, rest)?));
     }
     if same(word, b"end") {
-        return end_of(read_start(boards, tasks, rest));
+        return Some(LogLine::End(read_moment(boards, tasks, rest)?));
     }
-    says_none(is_remark(word, rest))
+    is_remark(word, rest).then_some(LogLine::Remark)
 }
 
-// Place t is task t's, place 0 that of lines that name none: how many starts and ends there are, 2 for more, and tick and board of the first.
+// The starts, or the ends, in a log. Place i is that of task i + 1: how many there are, 2 for more, and board and tick of the first.
+// Flat arrays of numbers can be lent, an array of structs cannot.
+#[derive(Drop)]
+pub struct Noted {
+    pub many: [u8; 64],
+    pub board: [u32; 64],
+    pub tick: [u32; 64],
+}
+
+impl Noted {
+    fn none() -> Noted
+        ensures { result ≡ none_noted }
+    {
+        Noted {
+            many: [0; 64],
+            board: [0; 64],
+            tick: [0; 64],
+        }
+    }
+
+    // One more. The first of a task is the one that is kept.
+    fn note(&mut self, moment: Moment)
+        requires { moment.place < 64 }
+        ensures { self.new ≡ noted_at moment.place self.old moment.board moment.tick }
+    {
+        let i = moment.place;
+        if self.many[i] == 0 {
+            self.many[i] = 1;
+            self.board[i] = moment.board;
+            self.tick[i] = moment.tick;
+        } else {
+            self.many[i] = 2;
+        }
+    }
+}
+
 #[derive(Drop)]
 pub struct Found {
-    pub starts: [u8; 65],
-    pub ends: [u8; 65],
-    pub start: [u32; 65],
-    pub end: [u32; 65],
-    pub startboard: [u32; 65],
-    pub endboard: [u32; 65],
+    pub starts: Noted,
+    pub ends: Noted,
 }
 
-// One more, up to 2.
-fn once_or_twice(fresh: bool) -> u8
-    ensures { result ≡ cond fresh 1 2 }
-{
-    if fresh { 1 } else { 2 }
-}
-
-// The first line of a task is the one that is kept.
-fn kept(fresh: bool, old: u32, new: u32) -> u32
-    ensures { result ≡ cond fresh new old }
-{
-    if fresh { new } else { old }
-}
-
-fn blank() -> Found
-    ensures { result ≡ blank }
-{
-    Found {
-        starts: [0; 65],
-        ends: [0; 65],
-        start: [0; 65],
-        end: [0; 65],
-        startboard: [0; 65],
-        endboard: [0; 65],
+impl Found {
+    fn note(&mut self, line: LogLine)
+        requires { IsPlaced line }
+        ensures { self.new ≡ found_with self.old line }
+    {
+        match line {
+            LogLine::Start(moment) => self.starts.note(moment),
+            LogLine::End(moment) => self.ends.note(moment),
+            LogLine::Remark => {}
+        }
     }
 }
 
-// The error is the lowest line without its form, from 1. Each line stores in two places, those of the tasks whose start and end it says,
-// so that no test is made of which it is.
+// The lines after the first. The error is the lowest one without its form; the first is 1.
+// It goes on by the rest of the text.
+fn read_later(boards: u8, tasks: u8, later: &[u8]) -> Result<Found, usize>
+    requires { tasks ≤ 64 }
+    ensures { result ≡ lines_read (says_none true ∷ said_from boards tasks false (split_on LF later.now)) }
+{
+    let mut found = Found {
+        starts: Noted::none(),
+        ends: Noted::none(),
+    };
+    let mut lines = 1;
+    let mut rest = later;
+    while !rest.is_empty() {
+        let end = find(rest, LF);
+        lines += 1;
+        if end == rest.len() {
+            return Err(lines);
+        }
+        let Some(line) = said(boards, tasks, &rest[..end]) else {
+            return Err(lines);
+        };
+        found.note(line);
+        rest = past(rest, end);
+    }
+    Ok(found)
+}
+
+// The error is the lowest line without its form, from 1.
 pub fn read_log(boards: u8, tasks: u8, log: &[u8]) -> Result<Found, usize>
     ensures { result ≡ found_of boards tasks log.now }
 {
     let most = few(tasks);
-    let mut found = blank();
-    let mut line = 0;
-    let mut rest = log;
-    while (line == 0) | (0 < rest.len()) {
-        let end = find(rest, LF);
-        if end == rest.len() {
-            return Err(line + 1);
-        }
-        let what = said(boards, most, line == 0, &rest[..end]);
-        if !what.formed {
-            return Err(line + 1);
-        }
-        let s = what.start as usize;
-        let starts = found.starts[s] == 0;
-        found.start[s] = kept(starts, found.start[s], what.tick);
-        found.startboard[s] = kept(starts, found.startboard[s], what.board);
-        found.starts[s] = once_or_twice(starts);
-        let e = what.end as usize;
-        let ends = found.ends[e] == 0;
-        found.end[e] = kept(ends, found.end[e], what.tick);
-        found.endboard[e] = kept(ends, found.endboard[e], what.board);
-        found.ends[e] = once_or_twice(ends);
-        let next = past(rest, end);
-        rest = next;
-        line += 1;
+    let end = find(log, LF);
+    if end == log.len() || !is_run(boards, most, &log[..end]) {
+        return Err(1);
     }
-    Ok(found)
+    read_later(boards, most, past(log, end))
 }

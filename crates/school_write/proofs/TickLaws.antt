@@ -21,7 +21,7 @@ use Rattle.book_view.proofs.Laid.{laid-at, laid-past}
 use Rattle.school.specs.Lines.{is_tick, is_record, is_moment, says_none, later_said, line_said, said_from, said_in}
 use Rattle.school.specs.Tasks.{is_end, first_of, is_known, end_in}
 use Rattle.school.specs.Tests.{lines_judged, judged_of}
-use Rattle.school.specs.declared.LogLine.{LogLine}
+use Rattle.school.specs.Said.{LogLine}
 
 -- the tick of a start or an end
 moment-small : (word : List ℕ) (boards tasks : ℕ) (line : List ℕ) → is_moment word boards tasks line ≡ true → value_of (field line 3) ≤ 1000000

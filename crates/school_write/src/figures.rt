@@ -6,6 +6,7 @@ ghost use Rattle.log_write.specs.Private.Wrote.{Wrote};
 ghost use Rattle.school.specs.Text.{early_text};
 ghost use Rattle.school_write.specs.Private.Figures.{figures_of};
 
+use school::JudgedLog;
 use text::part::{LF, TAB};
 use text::put::{put_byte, put_number};
 
@@ -32,20 +33,19 @@ fn put_figure(out: &mut [u8], at: usize, task: u32, planned: u32, tick: u32) -> 
     put_byte(out, past_early, LF)
 }
 
-pub(crate) fn put_figures<'a>(
+pub(crate) fn put_figures(
     out: &mut [u8],
     tasks: usize,
-    finish: &'a [u32; 64],
-    known: &'a [u8; 64],
-    end: &'a [u32; 64],
+    finish: &[u32; 64],
+    judged: &JudgedLog,
 ) -> usize
     requires { (tasks ≤ 64) × (1588 ≤ length out.old) }
-    ensures { Wrote out.old 0 (figures_of finish.now known.now end.now tasks) 1536 out.new result }
+    ensures { Wrote out.old 0 (figures_of finish.now judged.now.known judged.now.end tasks) 1536 out.new result }
 {
     let mut place = 0;
     for i in 0..tasks {
-        if known[i] == 1 {
-            place = put_figure(out, place, (i + 1) as u32, finish[i], end[i]);
+        if judged.known[i] == 1 {
+            place = put_figure(out, place, (i + 1) as u32, finish[i], judged.end[i]);
         }
     }
     place

@@ -23,7 +23,7 @@ use text::put::put_text;
 pub const JUDGED_MOST: usize = 1588;
 
 // Are all planned finishes and ends ticks? A walk that gathers to its end.
-fn are_ticks<'a>(finish: &'a [u32; 64], end: &'a [u32; 64], tasks: usize) -> bool
+fn are_ticks(finish: &[u32; 64], end: &[u32; 64], tasks: usize) -> bool
     requires { tasks ≤ 64 }
     ensures { result ≡ are_ticks tasks finish.now end.now }
 {
@@ -42,16 +42,11 @@ fn put_verdict(out: &mut [u8], at: usize, answer: Answer) -> usize
     if answer.code == 0 {
         return put_text(out, at, b"accepted\n");
     }
-    put_refused(out, at, answer.code, answer.first, answer.second)
+    put_refused(out, at, answer)
 }
 
 // Nothing is written where the buffer is shorter than JUDGED_MOST, or where a planned finish or an end is no tick.
-pub fn put_judged<'a>(
-    out: &mut [u8],
-    tasks: u8,
-    finish: &'a [u32; 64],
-    judged: &'a JudgedLog,
-) -> usize
+pub fn put_judged(out: &mut [u8], tasks: u8, finish: &[u32; 64], judged: &JudgedLog) -> usize
     ensures { let text = lines_in (length out.old) (min tasks 64) finish.now judged.now.known judged.now.end judged.now.answer in (result ≡ length text) × (out.new ≡ sets out.old 0 text) × (result ≤ judged_most) }
 {
     if out.len() < JUDGED_MOST {
@@ -61,7 +56,7 @@ pub fn put_judged<'a>(
     if !are_ticks(finish, &judged.end, n) {
         return 0;
     }
-    let past = put_figures(out, n, finish, &judged.known, &judged.end);
+    let past = put_figures(out, n, finish, judged);
     put_verdict(out, past, judged.answer)
 }
 
@@ -73,9 +68,8 @@ pub fn write_judged(plan: &[u8], log: &[u8], out: &mut [u8]) -> usize
         return 0;
     }
     let reading = read_plan(plan);
-    let refusal = reading.answer;
-    if refusal.code != 0 {
-        return put_refused(out, 0, refusal.code, refusal.first, refusal.second);
+    if reading.answer.code != 0 {
+        return put_refused(out, 0, reading.answer);
     }
     let judged = judge_log(reading.plan, log);
     put_judged(out, reading.plan.tasks, &reading.plan.finish, &judged)

@@ -8,14 +8,14 @@ pub const TAB: u8 = 9;
 
 pub const LF: u8 = 10;
 
-// The place of the first c; the length where there is none.
+// The place of the first c; the length where there is none, so that what stands before it is the whole text.
 pub fn find(s: &[u8], c: u8) -> usize
     ensures { result ≡ index_of c s.now }
 {
     s.iter().position(|b| *b == c).unwrap_or(s.len())
 }
 
-pub fn part_before<'a>(s: &'a [u8], c: u8) -> &'a [u8]
+pub fn part_before(s: &[u8], c: u8) -> &[u8]
     ensures { result.now ≡ before c s.now }
 {
     let k = find(s, c);
@@ -23,7 +23,7 @@ pub fn part_before<'a>(s: &'a [u8], c: u8) -> &'a [u8]
 }
 
 // What stands past the first k bytes and a separator; nothing where the text ends before.
-pub fn past<'a>(s: &'a [u8], k: usize) -> &'a [u8]
+pub fn past(s: &[u8], k: usize) -> &[u8]
     ensures { result.now ≡ drop (suc k) s.now }
 {
     let n = s.len();
@@ -34,7 +34,7 @@ pub fn past<'a>(s: &'a [u8], k: usize) -> &'a [u8]
 }
 
 // Where there is no c, nothing stands after it.
-pub fn part_after<'a>(s: &'a [u8], c: u8) -> &'a [u8]
+pub fn part_after(s: &[u8], c: u8) -> &[u8]
     ensures { result.now ≡ after c s.now }
 {
     past(s, find(s, c))
@@ -54,7 +54,7 @@ pub fn count_fields(line: &[u8]) -> usize
 }
 
 // What is left of a line after its first n fields.
-pub fn past_fields<'a>(line: &'a [u8], n: usize) -> &'a [u8]
+pub fn past_fields(line: &[u8], n: usize) -> &[u8]
     ensures { result.now ≡ skip_on TAB n line.now }
 {
     let mut rest = line;
@@ -65,7 +65,7 @@ pub fn past_fields<'a>(line: &'a [u8], n: usize) -> &'a [u8]
 }
 
 // The n-th field of a line, from 0; past the last, the empty part.
-pub fn field<'a>(line: &'a [u8], n: usize) -> &'a [u8]
+pub fn field(line: &[u8], n: usize) -> &[u8]
     ensures { result.now ≡ field line.now n }
 {
     part_before(past_fields(line, n), TAB)

@@ -5,7 +5,7 @@ ghost use Rattle.text.specs.Put.{Put};
 
 use crate::put::has_room;
 
-// How many digits n has.
+// How many digits n has. Not a `for`: how often ten goes into n is what is counted.
 pub(crate) fn width(n: u64) -> usize
     ensures { result ≡ length (digits_of n) }
 {

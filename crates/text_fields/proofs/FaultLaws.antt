@@ -1,24 +1,30 @@
 -- The codes of a line's fields, and its fault by them.
-use Prim.Native.Nat.{ℕ, suc, ◌+◌, ◌-◌, ◌≤◌, ◌<◌}
-use mathlib.Core.Path.{◌≡◌, refl, sym, ◌∙◌}
+use Prim.Native.Nat.{ℕ, suc, ◌+◌, ◌≤◌, ◌<◌}
+use mathlib.Core.Path.{◌≡◌, refl, sym, ap, ◌∙◌}
 use mathlib.Core.Bool.{Bool, true, false, not, cond, ◌&&◌, ◌||◌}
 use mathlib.Core.List.{List, [], ◌∷◌}
 use native.Mathlib.Omega.{arith}
 use lib.Dec.{eqb, leb, ltb}
-use lib.ListN.{length, get_or, drop, drop_of_length-le}
+use lib.ListN.{length, get_or, drop, drop_of_length-le, length-map}
 use lib.Seq.{drop-cons}
 use native.Mathlib.Numerals.{add-one}
-use Rattle.std.specs.List.{list_all, list_any}
-use borrow.Author.Tests.{not-true, eq-eqb, ne_eqb, eqb-true, le-leb, lt-leb, leb-true, lt-ltb, le-ltb}
-use Rattle.laws.proofs.Cases.{by_bool, by-eq, by_le, and_l, and_r, and_no, and-of}
+use Rattle.std.specs.Prelude.{Option, Some, None, is_some}
+use Rattle.std.specs.List.{list_all, position, position_or_len}
+use Rattle.std.proofs.lemmas.List.Recursion.{is_position_or_len}
+use borrow.Author.Tests.{eq-eqb, ne_eqb, eqb-true, le-leb, lt-leb, leb-true, lt-ltb, le-ltb}
+use Rattle.laws.proofs.Cases.{by_bool, by-eq, by_le, and_l, and_r, and_no, and-of, true-false}
 use Rattle.laws.specs.Lists.{all_of, any_of, same}
-use Rattle.laws.proofs.Lists.{all-at, all-turn}
+use Rattle.laws.proofs.Lists.{all-at}
 use Rattle.laws.specs.Split.{index_of, skip_on}
 use Rattle.laws.proofs.Split.{skip-le}
 use Rattle.text.specs.Number.{is_number, value_of, most, number_of}
 use Rattle.text_fields.specs.Items.{between}
 use Rattle.text.specs.Line.{TAB, fields}
 use Rattle.text_fields.specs.Faults.{code_for, field_code, word_code, end_code, worst, column_of, fault_of}
+use Rattle.text_fields.specs.Said.{fault_number, code_in, codes_in}
+use Rattle.text_fields.specs.Private.Place.{place_in}
+use Rattle.text_fields.specs.declared.FieldFault.{FieldFault}
+use Rattle.text_fields.specs.declared.FieldFault.TheVariants.{Misspelt, OutOfRange, Shared, ReadyLate}
 
 -- ---- words and ends
 
@@ -129,13 +135,42 @@ faultless-is (c ∷ l) h =
     last false false true = refl
     last false false false = refl
 
-pub all-zero : (codes : List ℕ) → list_all (λ code. eqb code 0) codes ≡ all_of (eqb 0) codes
+-- each fault has one of these codes, and only a right field has 0
+pub fault-is-code : (fault : Option FieldFault) → is_code (code_in fault) ≡ true
+unfolding is_code
+fault-is-code None = refl
+fault-is-code (Some Misspelt) = refl
+fault-is-code (Some OutOfRange) = refl
+fault-is-code (Some Shared) = refl
+fault-is-code (Some ReadyLate) = refl
+
+pub faults-are-codes : (faults : List (Option FieldFault)) → all_of is_code (codes_in faults) ≡ true
+unfolding all_of
+faults-are-codes [] = refl
+faults-are-codes (f ∷ l) = and-of (fault-is-code f) (faults-are-codes l)
+
+pub number-some : (kind : FieldFault) → eqb (fault_number kind) 0 ≡ false
+number-some Misspelt = refl
+number-some OutOfRange = refl
+number-some Shared = refl
+number-some ReadyLate = refl
+
+pub none-is-zero : (fault : Option FieldFault) (b : Bool) → is_some fault ≡ not b → b ≡ eqb 0 (code_in fault)
+none-is-zero None true h = refl
+none-is-zero None false h = true-false h refl
+none-is-zero (Some Misspelt) true h = true-false refl h
+none-is-zero (Some OutOfRange) true h = true-false refl h
+none-is-zero (Some Shared) true h = true-false refl h
+none-is-zero (Some ReadyLate) true h = true-false refl h
+none-is-zero (Some Misspelt) false h = refl
+none-is-zero (Some OutOfRange) false h = refl
+none-is-zero (Some Shared) false h = refl
+none-is-zero (Some ReadyLate) false h = refl
+
+pub all-zero : (faults : List (Option FieldFault)) → list_all (λ f. eqb 0 (code_in f)) faults ≡ all_of (eqb 0) (codes_in faults)
 unfolding all_of
 all-zero [] = refl
-all-zero (c ∷ l) =
-    by-eq c 0
-    (λ e. rw (eq-eqb c 0 e, eq-eqb 0 c (sym e)) (all-zero l))
-    (λ n. rw (ne_eqb c 0 n, ne_eqb 0 c (λ e. n (sym e))))
+all-zero (f ∷ l) = ap (λ (b : Bool). eqb 0 (code_in f) && b) (all-zero l)
 
 -- a code of 0, and what it says
 pub for-zero : (spelt fine : Bool) → code_for spelt fine ≡ 0 → (spelt ≡ true) × (fine ≡ true)
@@ -190,10 +225,26 @@ any_found c (x ∷ l) =
         (λ h. rw (le-ltb a b h, le-ltb (suc a) (suc b) (omega arith)))
         (λ h. rw (lt-ltb a b h, lt-ltb (suc a) (suc b) (omega arith)))
 
-pub column-is :
-    (line codes : List ℕ) (code : ℕ) {place : ℕ} {rest : List ℕ} → place ≡ index_of code codes → rest ≡ skip_on TAB place line
-    → length line - length rest + 1 ≡ column_of line codes code
-column-is line codes code p q = rw (q, p)
+module _ (n : ℕ) where
+  pub place-is : (faults : List (Option FieldFault)) → position (λ f. eqb (code_in f) n) faults ≡ place_in n (codes_in faults)
+  unfolding place_in index_of
+  place-is faults =
+      let e : index_of n (codes_in faults) ≡ position_or_len (λ f. eqb (code_in f) n) faults =
+      is_position_or_len (λ l. index_of n (codes_in l)) (λ f. eqb (code_in f) n) refl (λ x xs. by_bool (eqb (code_in x) n) (λ e. rw e) (λ e. rw e (omega arith))) faults
+      in
+      rw (any_found n (codes_in faults), length-map faults code_in, e)
+
+  module _ (codes : List ℕ) where
+    pub place-none : None ≡ place_in n codes → any_of (eqb n) codes ≡ false
+    unfolding place_in
+    place-none h = by_bool (any_of (eqb n) codes) (λ e. let q : ◌≡◌ {A = Option ℕ} None (Some (index_of n codes)) = rw e at h in absurd cc) (λ e. e)
+
+    pub place-some : {place : ℕ} → Some place ≡ place_in n codes → (any_of (eqb n) codes ≡ true) × (place ≡ index_of n codes)
+    unfolding place_in
+    place-some {place} h =
+        by_bool (any_of (eqb n) codes)
+        (λ e. let q : Some place ≡ Some (index_of n codes) = rw e at h in (e, cc))
+        (λ e. let q : Some place ≡ None = rw e at h in absurd cc)
 
 pub rest-short : (line : List ℕ) (place : ℕ) {rest : List ℕ} → rest ≡ skip_on TAB place line → length rest ≤ length line
 rest-short line place q = rw q (skip-le TAB place line)
@@ -204,51 +255,44 @@ unfolding fault_of
 column-most line codes =
     by_bool (eqb (worst codes) 0) (λ e. rw e (omega arith)) (λ e. rw e (omega arith))
 
--- of the codes of a list, the first that a field has; 0 where none has one
-unfoldable pub worst_in : List ℕ → List ℕ → ℕ
+-- of some faults, the number of the first that a field has; 0 where none has one
+unfoldable pub worst_in : List FieldFault → List ℕ → ℕ
 worst_in [] codes = 0
-worst_in (c ∷ l) codes = cond (any_of (eqb c) codes) c (worst_in l codes)
+worst_in (kind ∷ l) codes = cond (any_of (eqb (fault_number kind)) codes) (fault_number kind) (worst_in l codes)
 
-any-is : (c : ℕ) (codes : List ℕ) → list_any (λ y. eqb y c) codes ≡ any_of (eqb c) codes
-unfolding any_of
-any-is c [] = refl
-any-is c (x ∷ l) =
-    by-eq x c
-    (λ e. rw (eq-eqb x c e, eq-eqb c x (sym e)))
-    (λ n. rw (ne_eqb x c n, ne_eqb c x (λ e. n (sym e))) (any-is c l))
+-- those from place i on give the worst
+pub record WorstFrom (kinds : List FieldFault) (codes : List ℕ) (i : ℕ) : Type 0 where
+  pub rest : worst_in (drop i kinds) codes ≡ worst codes
 
--- the codes from place i on give the worst, and none of them is 0
-pub record WorstFrom (l codes : List ℕ) (i : ℕ) : Type 0 where
-  pub rest : worst_in (drop i l) codes ≡ worst codes
-  pub some : all_of (λ c. not (eqb c 0)) (drop i l) ≡ true
+pub worst-start : (codes : List ℕ) → WorstFrom (Misspelt ∷ OutOfRange ∷ Shared ∷ ReadyLate ∷ []) codes 0
+unfolding worst worst_in
+worst-start codes = record { rest = refl }
 
-pub worst-start : (codes : List ℕ) → WorstFrom (3 ∷ 4 ∷ 20 ∷ 18 ∷ []) codes 0
-unfolding worst worst_in all_of
-worst-start codes = record { rest = refl; some = refl }
+module _ (line codes : List ℕ) where
+  module _ (kinds : List FieldFault) (i : ℕ) (q : WorstFrom kinds codes i) where
+    abbrev kind : FieldFault
+    kind = get_or kinds i Misspelt
 
-module _ (line l codes : List ℕ) (i : ℕ) (q : WorstFrom l codes i) where
-  worst-here : i < length l → worst_in (drop i l) codes ≡ cond (any_of (eqb (get_or l i 0)) codes) (get_or l i 0) (worst_in (drop (suc i) l) codes)
-  unfolding worst_in
-  worst-here h = rw (drop-cons l i 0 h)
+    worst-here : i < length kinds → worst_in (drop i kinds) codes ≡ cond (any_of (eqb (fault_number kind)) codes) (fault_number kind) (worst_in (drop (suc i) kinds) codes)
+    unfolding worst_in
+    worst-here h = rw (drop-cons kinds i Misspelt h)
 
-  pub worst-next : i < length l → false ≡ list_any (λ y. eqb y (get_or l i 0)) codes → WorstFrom l codes (i + 1)
-  unfolding all_of
-  worst-next h n = record {
-    rest = let e : any_of (eqb (get_or l i 0)) codes ≡ false = sym (n ∙ any-is (get_or l i 0) codes) in
-        rw add-one ((rw e at (sym (worst-here h))) ∙ q.rest);
-    some = and_r (not (eqb (get_or l i 0) 0)) (all_of (λ c. not (eqb c 0)) (drop (i + 1) l)) (sym (all-turn (λ c. not (eqb c 0)) l i 0 h) ∙ q.some);
-  }
+    pub worst-next : i < length kinds → any_of (eqb (fault_number kind)) codes ≡ false → WorstFrom kinds codes (i + 1)
+    worst-next h n = record { rest = rw add-one ((rw n at (sym (worst-here h))) ∙ q.rest) }
 
-  pub worst-found :
-      {column : ℕ} → i < length l → true ≡ list_any (λ y. eqb y (get_or l i 0)) codes → column ≡ column_of line codes (get_or l i 0)
-      → record { code = get_or l i 0; column = column } ≡ fault_of line codes
+    pub worst-found :
+        {column : ℕ} → i < length kinds → any_of (eqb (fault_number kind)) codes ≡ true → column ≡ column_of line codes (fault_number kind)
+        → record { code = fault_number kind; column = column } ≡ fault_of line codes
+    unfolding fault_of
+    worst-found h n e =
+        let w : fault_number kind ≡ worst codes = (rw n at (sym (worst-here h))) ∙ q.rest in
+        rw (← w, number-some kind, e)
+
+    pub worst-none : length kinds ≤ i → record { code = 0; column = 0 } ≡ fault_of line codes
+    unfolding fault_of worst_in
+    worst-none h = let z : 0 ≡ worst codes = rw (drop_of_length-le kinds h) at q.rest in rw (← z)
+
+  -- and a line whose codes are all 0 has none
+  pub worst-right : all_of is_code codes ≡ true → all_of (eqb 0) codes ≡ true → record { code = 0; column = 0 } ≡ fault_of line codes
   unfolding fault_of
-  worst-found h n e =
-      let f : any_of (eqb (get_or l i 0)) codes ≡ true = sym (n ∙ any-is (get_or l i 0) codes) in
-      let w : get_or l i 0 ≡ worst codes = (rw f at (sym (worst-here h))) ∙ q.rest in
-      let z : eqb (get_or l i 0) 0 ≡ false = not-true (eqb (get_or l i 0) 0) (and_l (not (eqb (get_or l i 0) 0)) (all_of (λ c. not (eqb c 0)) (drop (i + 1) l)) (sym (all-turn (λ c. not (eqb c 0)) l i 0 h) ∙ q.some)) in
-      rw (← w, z, e)
-
-  pub worst-none : length l ≤ i → record { code = 0; column = 0 } ≡ fault_of line codes
-  unfolding fault_of worst_in
-  worst-none h = let z : 0 ≡ worst codes = rw (drop_of_length-le l h) at q.rest in rw (← z)
+  worst-right kinds h = let z : worst codes ≡ 0 = eqb-true (worst codes) 0 (sym (faultless-is codes kinds) ∙ h) in rw z

@@ -8,3 +8,4 @@ pub mod RangedLaws
 pub mod FaultLaws
 pub mod Alike
 pub mod UnlessLaws
+pub mod SaidLaws

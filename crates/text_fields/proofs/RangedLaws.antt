@@ -1,18 +1,22 @@
 -- A number in a range: its code, its value, and what a code of 0 says.
 use Prim.Native.Nat.{ℕ, ◌≤◌, ◌<◌}
-use mathlib.Core.Path.{◌≡◌, sym, ap, ◌∙◌}
+use mathlib.Core.Path.{◌≡◌, refl, sym, ap, ◌∙◌}
 use mathlib.Core.Bool.{true, false}
 use mathlib.Core.List.{List}
 use native.Mathlib.Omega.{arith}
 use lib.Dec.{leb}
 use borrow.Author.Tests.{eq-eqb, le-leb, lt-leb, leb-true, leb-false}
-use Rattle.laws.proofs.Cases.{by_bool, and_l, and_r, and_no}
+use Rattle.laws.proofs.Cases.{by_bool, and_l, and_r, and_no, true-false}
 use Rattle.text.specs.Number.{is_number, value_of, most, number_of}
 use Rattle.text_fields.specs.Items.{between}
-use Rattle.text_fields.specs.Faults.{code_for, field_code, ranged_read}
-use Rattle.std.specs.Prelude.{Ok, Err}
+use Rattle.text_fields.specs.Faults.{Ranged, code_for, field_code, ranged_read}
+use Rattle.std.specs.Prelude.{Result, Ok, Err, IsOk}
+use Rattle.std.specs.Result.{result_err}
+use Rattle.text.specs.declared.NumberFault.{NumberFault}
 use Rattle.text.specs.declared.NumberFault.TheVariants.{Over, Misspelt}
-use Rattle.text_fields.specs.declared.Ranged.{Ranged}
+use Rattle.text_fields.specs.Said.{fault_number, fault_by, code_in, ranged_in}
+use Rattle.text_fields.specs.declared.FieldFault.{FieldFault}
+use Rattle.text_fields.proofs.FaultLaws.{number-some}
 use Rattle.text_fields.proofs.ItemLaws.{value-is}
 
 -- in a range that ends at 1,000,000 at the latest
@@ -47,13 +51,10 @@ module _ (low high : ℕ) (s : List ℕ) where
     pub ranged-high : high < v → ◌≡◌ {A = Ranged} (record { code = 4; value = 0 }) (ranged_read low high s)
     ranged-high h = ranged-off (rw (lt-leb v high h) (and_no (leb low v)))
 
-  pub ranged-over : {j : ℕ} → Err (Over j) ≡ number_of s → ◌≡◌ {A = Ranged} (record { code = 4; value = 0 }) (ranged_read low high s)
+  pub ranged-fault : (fault : NumberFault) → Err fault ≡ number_of s → ◌≡◌ {A = Ranged} (record { code = fault_number (fault_by fault); value = 0 }) (ranged_read low high s)
   unfolding ranged_read
-  ranged-over q = rw (← q)
-
-  pub ranged-misspelt : {j : ℕ} → Err (Misspelt j) ≡ number_of s → ◌≡◌ {A = Ranged} (record { code = 3; value = 0 }) (ranged_read low high s)
-  unfolding ranged_read
-  ranged-misspelt q = rw (← q)
+  ranged-fault (Over j) q = rw (← q)
+  ranged-fault (Misspelt j) q = rw (← q)
 
 -- a code of 0, and what it says
 pub record InRange (low high : ℕ) (s : List ℕ) : Type 0 where
@@ -90,7 +91,20 @@ module _ (low high : ℕ) (s : List ℕ) {x : Ranged} (p : x ≡ ranged_read low
   unfolding ranged_read
   ranged-value z = rw (p, eq-eqb (field_code low high s) 0 z)
 
+-- what reading a number answers
 module _ (low high : ℕ) (s : List ℕ) where
+  pub err-code : (r : Result ℕ FieldFault) → ranged_in r ≡ ranged_read low high s → code_in (result_err r) ≡ field_code low high s
+  err-code (Ok v) p = ranged-code low high s p
+  err-code (Err fault) p = ranged-code low high s p
+
+  -- a right one is there
+  pub ok-there : (r : Result ℕ FieldFault) → ranged_in r ≡ ranged_read low high s → field_code low high s ≡ 0 → IsOk r
+  ok-there (Ok v) p z = refl
+  ok-there (Err fault) p z = let e : fault_number fault ≡ 0 = ranged-code low high s p ∙ z in true-false (eq-eqb (fault_number fault) 0 e) (number-some fault)
+
+  pub ok-value : {v : ℕ} (r : Result ℕ FieldFault) → ranged_in r ≡ ranged_read low high s → r ≡ Ok v → v ≡ value_of s
+  ok-value r p e = let q : record { code = 0; value = _ } ≡ ranged_read low high s = rw e at p in ranged-value low high s q (sym (ranged-code low high s q))
+
   ranged-most : (ranged_read low high s).value ≤ most
   unfolding ranged_read number_of
   ranged-most =

@@ -16,9 +16,8 @@ use Rattle.laws.specs.Private.Rise.{rises_from}
 use Rattle.laws.proofs.Rise.{rises-is}
 use Rattle.laws.specs.Split.{index_of, skip_on, split_on, before, after}
 use Rattle.laws.proofs.Split.{index-le, begin-first, begin-next}
-use Rattle.text_fields.specs.declared.Items.{Items}
 use Rattle.text.specs.Number.{is_number, value_of, number_stop}
-use Rattle.text_fields.specs.Items.{COMMA, NONE, between, is_list, list_of, hold_stop, list_stop, no_items, items_of, holds_ok, holds_read, after_ok, after_read}
+use Rattle.text_fields.specs.Items.{Items, COMMA, NONE, between, is_list, list_of, hold_stop, list_stop, no_items, items_of, holds_ok, holds_read, after_ok, after_read}
 use Rattle.text_fields.proofs.ListFields.{is_after, after_of}
 use Rattle.text_fields.specs.Private.Lettered.{is_item, item_of, item_stop, digits_in, key_of, list_ok, parts_stop, items_read, list_read}
 use Rattle.text_fields.proofs.ItemLaws.{key-item}

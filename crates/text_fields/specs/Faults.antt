@@ -7,8 +7,16 @@ use Rattle.text.specs.Line.{TAB, fields, field}
 use Rattle.text_fields.specs.Items.{between}
 use Rattle.text.specs.declared.NumberFault.{NumberFault}
 use Rattle.text.specs.declared.NumberFault.TheVariants.{Over, Misspelt}
-use Rattle.text_fields.specs.declared.Ranged.{Ranged}
-use Rattle.text_fields.specs.declared.Fault.{Fault}
+
+-- a number field's code and value
+pub record Ranged : Type 0 where
+  pub code : ℕ
+  pub value : ℕ
+
+-- a line's code and column, from 1; zeros where it is faultless
+pub record Fault : Type 0 where
+  pub code : ℕ
+  pub column : ℕ
 
 -- 3 where something is misspelt, else 4 where it is out of range or does not rise
 abbrev pub code_for : Bool → Bool → ℕ
@@ -48,8 +56,7 @@ line_codes word codes ended line = word_code word (field line 0) ∷ field_codes
 -- 3, then 4, then 20, then 18
 unfoldable pub worst : List ℕ → ℕ
 worst codes =
-    cond (any_of (eqb 3) codes) 3
-    (cond (any_of (eqb 4) codes) 4 (cond (any_of (eqb 20) codes) 20 (cond (any_of (eqb 18) codes) 18 0)))
+    cond (any_of (eqb 3) codes) 3 (cond (any_of (eqb 4) codes) 4 (cond (any_of (eqb 20) codes) 20 (cond (any_of (eqb 18) codes) 18 0)))
 
 -- where the leftmost field of that code begins, from 1; just past the line's last byte where none stands there
 abbrev pub column_of : List ℕ → List ℕ → ℕ → ℕ
@@ -57,8 +64,7 @@ column_of line codes code = begin_of TAB line (index_of code codes) + 1
 
 -- a line's code by those of its fields from the left and of its end, and the column
 unfoldable pub fault_of : List ℕ → List ℕ → Fault
-fault_of line codes =
-    let code = worst codes in record { code = code; column = cond (eqb code 0) 0 (column_of line codes code) }
+fault_of line codes = let code = worst codes in record { code = code; column = cond (eqb code 0) 0 (column_of line codes code) }
 
 -- what a faultless line says, or its refusal with code and column
 abbrev pub unless_fault : {A : Type 0} → Fault → (ℕ → ℕ → A) → A → A

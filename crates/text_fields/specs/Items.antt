@@ -5,7 +5,6 @@ use Rattle.laws.specs.Split.{begin_of, split_on, join_on}
 use Rattle.laws.specs.Digits.{digits_of}
 use Rattle.text.specs.Bytes.{bytes}
 use Rattle.text.specs.Number.{is_number, value_of, number_stop}
-use Rattle.text_fields.specs.declared.Items.{Items}
 use Rattle.std.proofs.lemmas.List.Edits.{sets}
 
 abbrev pub between : ℕ → ℕ → ℕ → Bool
@@ -73,6 +72,13 @@ unfoldable pub list_stop : (List ℕ → Bool) → (List ℕ → ℕ) → List �
 list_stop is_item item_stop s =
     let parts = split_on COMMA s in
     let wrong = first_not is_item parts in cond (same s NONE) 1 (begin_of COMMA s wrong + item_stop (get_or parts wrong []))
+
+-- a list field's code, where its reader stopped, and its items
+pub record Items : Type 0 where
+  pub code : ℕ
+  pub stop : ℕ
+  pub count : ℕ
+  pub items : List ℕ
 
 -- a list reader's answer, with where it stopped: 3 for a misspelt list, 4 for one out of range or not rising, else its items,
 -- zeros after them

@@ -1,3 +1,4 @@
 pub mod Items
 pub mod Private
 pub mod Faults
+pub mod Said

@@ -1,1 +1,2 @@
 pub mod Lettered
+pub mod Place

@@ -1,83 +1,94 @@
-// The fault of a line: the codes of its fields, the worst of them, and the column where the leftmost such field begins.
+// The fault of a line: the faults of its fields, the worst of them, and the column where the leftmost such field begins.
 ghost use Rattle.std.specs.Prelude.{◌≡◌, ◌+◌, eqb};
 ghost use Rattle.laws.specs.Lists.{all_of};
-ghost use Rattle.text_fields.specs.Faults.{ranged_read, word_code, end_code, column_of, fault_of};
+ghost use Rattle.laws.specs.Split.{begin_of};
+ghost use Rattle.text.specs.Line.{TAB};
+ghost use Rattle.text_fields.specs.Faults.{ranged_read, word_code, end_code, fault_of};
+ghost use Rattle.text_fields.specs.Said.{fault_number, code_in, codes_in, ranged_in, fault_in};
+ghost use Rattle.text_fields.specs.Private.Place.{place_in};
 
-use crate::{Fault, MISSPELT, OUT_OF_RANGE, Ranged};
-use text::NumberFault;
+use crate::{Fault, FieldFault};
 use text::decimal::read_number;
-use text::part::{count_fields, find, past_fields};
+use text::part::{count_fields, past_fields};
 
-// A shared hold in a line that allows none.
-const SHARED: u8 = 20;
-
-// A ready tick after the planned start.
-const READY_LATE: u8 = 18;
-
-const WORST_FIRST: [u8; 4] = [MISSPELT, OUT_OF_RANGE, SHARED, READY_LATE];
-
-fn refused(code: u8) -> Ranged
-    ensures { result ≡ record { code = code; value = 0 } }
-{
-    Ranged { code, value: 0 }
-}
+const WORST_FIRST: [FieldFault; 4] = [
+    FieldFault::Misspelt,
+    FieldFault::OutOfRange,
+    FieldFault::Shared,
+    FieldFault::ReadyLate,
+];
 
 // A number from low to high.
-pub fn read_ranged(field: &[u8], low: u32, high: u32) -> Ranged
-    ensures { result ≡ ranged_read low high field.now }
+pub fn read_ranged(field: &[u8], low: u32, high: u32) -> Result<u32, FieldFault>
+    ensures { ranged_in result ≡ ranged_read low high field.now }
 {
-    match read_number(field) {
-        Ok((value, _)) => {
-            if low <= value && value <= high {
-                return Ranged { code: 0, value };
-            }
-            refused(OUT_OF_RANGE)
-        }
-        Err(NumberFault::Over(_)) => refused(OUT_OF_RANGE),
-        Err(NumberFault::Misspelt(_)) => refused(MISSPELT),
+    let (value, _) = read_number(field)?;
+    if value < low || high < value {
+        return Err(FieldFault::OutOfRange);
     }
+    Ok(value)
 }
 
-pub fn word_code(field: &[u8], word: &[u8]) -> u8
-    ensures { result ≡ word_code word.now field.now }
+pub fn word_fault(field: &[u8], word: &[u8]) -> Option<FieldFault>
+    ensures { code_in result ≡ word_code word.now field.now }
 {
-    if field == word { 0 } else { MISSPELT }
+    if field == word {
+        None
+    } else {
+        Some(FieldFault::Misspelt)
+    }
 }
 
 // A line of n fields has no field more, and is ended by its LF.
-pub fn end_code(line: &[u8], n: usize, ended: bool) -> u8
-    ensures { result ≡ end_code ended n line.now }
+pub fn end_fault(line: &[u8], n: usize, ended: bool) -> Option<FieldFault>
+    ensures { code_in result ≡ end_code ended n line.now }
 {
     if ended && count_fields(line) <= n {
-        0
+        None
     } else {
-        MISSPELT
+        Some(FieldFault::Misspelt)
     }
 }
 
-pub fn is_faultless(codes: &[u8]) -> bool
-    ensures { result ≡ all_of (eqb 0) codes.now }
+fn is_faultless(faults: &[Option<FieldFault>]) -> bool
+    ensures { result ≡ all_of (eqb 0) (codes_in faults.now) }
 {
-    codes.iter().all(|code| *code == 0)
+    faults.iter().all(|fault| fault.is_none())
 }
 
-// Where the leftmost field of that code begins.
-fn column_of(line: &[u8], codes: &[u8], code: u8) -> usize
-    ensures { result ≡ column_of line.now codes.now code }
+fn is_kind(fault: Option<FieldFault>, kind: FieldFault) -> bool
+    ensures { result ≡ eqb (code_in fault) (fault_number kind) }
 {
-    let place = find(codes, code);
+    fault == Some(kind)
+}
+
+// The leftmost field of that fault.
+fn place_of(faults: &[Option<FieldFault>], kind: FieldFault) -> Option<usize>
+    ensures { result ≡ place_in (fault_number kind) (codes_in faults.now) }
+{
+    faults.iter().position(|fault| is_kind(*fault, kind))
+}
+
+// Where the field at that place begins, from 1.
+fn column_at(line: &[u8], place: usize) -> usize
+    ensures { result ≡ begin_of TAB line.now place + 1 }
+{
     let rest = past_fields(line, place);
     line.len() - rest.len() + 1
 }
 
-pub fn fault_of(line: &[u8], codes: &[u8]) -> Fault
-    ensures { result ≡ fault_of line.now codes.now }
+// The worst of its fields' faults refuses a line. Most lines have none, so only a faulty one is searched.
+pub fn check_line(line: &[u8], faults: &[Option<FieldFault>]) -> Result<(), Fault>
+    ensures { fault_in result ≡ fault_of line.now (codes_in faults.now) }
 {
-    for code in WORST_FIRST {
-        if codes.contains(&code) {
-            let column = column_of(line, codes, code);
-            return Fault { code, column };
+    if is_faultless(faults) {
+        return Ok(());
+    }
+    for kind in WORST_FIRST {
+        if let Some(place) = place_of(faults, kind) {
+            let column = column_at(line, place);
+            return Err(Fault { kind, column });
         }
     }
-    Fault { code: 0, column: 0 }
+    Ok(())
 }

@@ -3,30 +3,60 @@
 pub mod faults;
 pub mod list;
 
-const MISSPELT: u8 = 3;
+ghost use Rattle.std.specs.Prelude.{◌≡◌};
+ghost use Rattle.text_fields.specs.Said.{fault_number, fault_by};
 
-const OUT_OF_RANGE: u8 = 4;
+use text::NumberFault;
 
-// What a list field says: code 0 with its items, zeros after them, or 3 or 4 with none; and where its reader stopped.
+// Why a field is refused, with its number.
+#[derive(Clone, Copy, PartialEq, Eq)]
+pub enum FieldFault {
+    Misspelt = 3,
+    // A number out of its range, or a list that does not rise.
+    OutOfRange = 4,
+    // A shared hold in a line that allows none.
+    Shared = 20,
+    // A ready tick after the planned start.
+    ReadyLate = 18,
+}
+
+impl FieldFault {
+    pub fn number(self) -> u32
+        ensures { result ≡ fault_number self }
+    {
+        self as u32
+    }
+}
+
+impl From<NumberFault> for FieldFault {
+    ghost from_gives = { λ fault kind. kind ≡ fault_by fault };
+
+    fn from(fault: NumberFault) -> FieldFault {
+        match fault {
+            NumberFault::Over(_) => FieldFault::OutOfRange,
+            NumberFault::Misspelt(_) => FieldFault::Misspelt,
+        }
+    }
+}
+
+// What a list of a task lists: holds, each a number after its letter `e` or `s`, or tasks, each a number.
+#[derive(Clone, Copy)]
+pub enum Listed {
+    Holds,
+    Tasks,
+}
+
+// What a list field says: its items, zeros after them, and where its reader stopped. All 64 places are walked alike.
 #[derive(Clone, Copy)]
 pub struct Items {
-    pub code: u8,
     pub stop: usize,
     pub count: usize,
     pub items: [u8; 64],
 }
 
-// A number in a range: code 0 with its value, or 3 or 4 with 0.
-// Its code, as that of `Items`, stands in the line's list of codes, where 0 is a right field: no `Result`.
+// What a line is refused by, and the column from 1.
 #[derive(Clone, Copy)]
-pub struct Ranged {
-    pub code: u8,
-    pub value: u32,
-}
-
-// What a line is refused by, and the column from 1; zeros where it is faultless.
-#[derive(Drop)]
 pub struct Fault {
-    pub code: u8,
+    pub kind: FieldFault,
     pub column: usize,
 }

@@ -34,7 +34,7 @@ fn no_logs() -> Totals
     }
 }
 
-// The front of the buffer is the whole report, whatever the totals hold.
+// The front of the buffer is the whole report, whatever the totals hold. `past` is whether names were left over: a fact handed on.
 fn put_report<'o>(totals: Totals, past: bool, out: &'o mut [u8; REPORT_MOST]) -> &'o [u8]
     ensures { result.now ≡ year_text past totals }
 {

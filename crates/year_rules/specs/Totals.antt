@@ -26,8 +26,7 @@ board_tally totals b =
 -- at most 1,000,000 ticks a task; the greatest and the least also where no task ended
 abbrev pub board_ok : Totals → ℕ → Bool
 board_ok totals b =
-    leb (at totals.sum b) (1000000 * at totals.ended b)
-    && (leb (at totals.greatest b) 1000000 && leb (at totals.least b) 1000000)
+    leb (at totals.sum b) (1000000 * at totals.ended b) && (leb (at totals.greatest b) 1000000 && leb (at totals.least b) 1000000)
 
 -- at most 10,000 logs, 64 tasks a log, 1,000,000 ticks a task
 unfoldable pub totals_ok : Totals → Bool

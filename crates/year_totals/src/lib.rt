@@ -8,8 +8,9 @@ ghost use Rattle.year_rules.specs.Totals.{totals_ok, with_figures, with_refused,
 ghost use Rattle.year_totals.specs.Private.Tallies.{with_figure, tally_after};
 ghost use Rattle.plan.specs.Read.{reading_of};
 
-use plan::{Answer, Plan, refuse};
+use plan::{Answer, Plan, Refusal, granted};
 use plan_read::read_plan;
+use school::JudgedLog;
 use school_judge::{judge_log, not_read};
 use year_rules::{AddResult, LOGS_MOST, Tally, Totals, are_in_bounds};
 
@@ -37,36 +38,23 @@ fn with_figure(held: Tally, figure: u32) -> Tally
 }
 
 // The figures of the tasks that stand on a board: no accepted log ends late.
-fn board_after<'a>(
-    held: Tally,
-    number: u8,
-    tasks: u8,
-    board: &'a [u8; 64],
-    finish: &'a [u32; 64],
-    end: &'a [u32; 64],
-) -> Tally
-    requires { (tasks ≤ 64) × (held.ended ≤ 640000) × (held.sum ≤ 640000000000) }
-    ensures { result ≡ tally_after held (figures_on number board.now finish.now end.now tasks) }
+fn board_after(held: Tally, number: u8, plan: &Plan, judged: &JudgedLog) -> Tally
+    requires { (plan.now.tasks ≤ 64) × (held.ended ≤ 640000) × (held.sum ≤ 640000000000) }
+    ensures { result ≡ tally_after held (figures_on number plan.now.board plan.now.finish judged.now.end plan.now.tasks) }
 {
     let mut tally = held;
-    for i in 0..usize::from(tasks) {
-        if board[i] == number {
-            tally = with_figure(tally, finish[i].saturating_sub(end[i]));
+    for i in 0..usize::from(plan.tasks) {
+        if plan.board[i] == number {
+            tally = with_figure(tally, plan.finish[i].saturating_sub(judged.end[i]));
         }
     }
     tally
 }
 
 // An accepted log more: of each board the figures of its tasks. The totals are arrays of their own, as C has them.
-fn with_accepted<'a>(
-    totals: Totals,
-    tasks: u8,
-    board: &'a [u8; 64],
-    finish: &'a [u32; 64],
-    end: &'a [u32; 64],
-) -> Totals
-    requires { (tasks ≤ 64) × (totals_ok totals ≡ true) × (totals.accepted + totals.refused < 10000) }
-    ensures { result ≡ with_figures totals (λ b. figures_on (b + 1) board.now finish.now end.now tasks) }
+fn with_accepted(totals: Totals, plan: &Plan, judged: &JudgedLog) -> Totals
+    requires { (plan.now.tasks ≤ 64) × (totals_ok totals ≡ true) × (totals.accepted + totals.refused < 10000) }
+    ensures { result ≡ with_figures totals (λ b. figures_on (b + 1) plan.now.board plan.now.finish judged.now.end plan.now.tasks) }
 {
     let mut ended = [0u32; 8];
     let mut sum = [0u64; 8];
@@ -74,7 +62,7 @@ fn with_accepted<'a>(
     let mut least = [0u32; 8];
     for b in 0..8 {
         let number = (b + 1) as u8;
-        let next = board_after(totals.tally(b), number, tasks, board, finish, end);
+        let next = board_after(totals.tally(b), number, plan, judged);
         ended[b] = next.ended;
         sum[b] = next.sum;
         greatest[b] = next.greatest;
@@ -107,7 +95,7 @@ fn not_added(answer: Answer, totals: Totals) -> AddResult
 {
     AddResult {
         answer,
-        judged: not_read(refuse(0, 0, 0)),
+        judged: not_read(granted()),
         totals,
     }
 }
@@ -117,19 +105,19 @@ pub fn add_log(totals: Totals, plan: Plan, log: &[u8]) -> AddResult
     ensures { result ≡ added_of totals plan log.now }
 {
     if !are_in_bounds(totals) {
-        return not_added(refuse(9, 0, 0), totals);
+        return not_added(Refusal::Unsound.answer(0, 0), totals);
     }
     if LOGS_MOST <= u64::from(totals.accepted) + u64::from(totals.refused) {
-        return not_added(refuse(28, 0, 0), totals);
+        return not_added(Refusal::TooManyLogs.answer(0, 0), totals);
     }
     let judged = judge_log(plan, log);
     let after = if judged.answer.code == 0 {
-        with_accepted(totals, plan.tasks, &plan.board, &plan.finish, &judged.end)
+        with_accepted(totals, &plan, &judged)
     } else {
         with_refused(totals)
     };
     AddResult {
-        answer: refuse(0, 0, 0),
+        answer: granted(),
         judged,
         totals: after,
     }

@@ -14,6 +14,7 @@ ghost use Rattle.year_write.specs.Private.Bests.{joined};
 ghost use Rattle.year_write.specs.Private.Tails.{tally_tail};
 
 use log_write::put_refused;
+use plan::Refusal;
 use text::part::{LF, TAB};
 use text::put::{put_byte, put_text};
 use text::wide::put_wide;
@@ -155,11 +156,11 @@ pub fn write_report(totals: Totals, past: bool, out: &mut [u8]) -> usize
         return 0;
     }
     if !are_in_bounds(totals) {
-        return put_refused(out, 0, 9, 0, 0);
+        return put_refused(out, 0, Refusal::Unsound.answer(0, 0));
     }
     let place = put_report(out, totals);
     if past {
-        return put_refused(out, place, 28, 0, 0);
+        return put_refused(out, place, Refusal::TooManyLogs.answer(0, 0));
     }
     place
 }

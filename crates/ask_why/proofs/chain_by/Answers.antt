@@ -24,10 +24,10 @@ pub returns : goal.returns
 returns c =
     let size : length c.args.book.now.mark ≡ 64 = search rules in
     let e : c.places-n.result ≡ min c.args.book.now.tasks 64 = rw size at c.places-n.ensures in
-    lent-started c.args.book.now c.args.waits.now c.args.task e (sym c.in-Ok.is ∙ c.started.ensures) c.refuse.ensures c.follow-count.ensures
+    lent-started c.args.book.now c.args.waits.now c.args.task e (sym c.in-Ok.is ∙ c.started.ensures) c.granted.ensures c.follow-count.ensures
 
 pub returns-in-Err : goal.returns-in-Err
 returns-in-Err c =
     let size : length c.args.book.now.mark ≡ 64 = search rules in
     let e : c.places-n.result ≡ min c.args.book.now.tasks 64 = rw size at c.places-n.ensures in
-    lent-refused c.args.book.now c.args.waits.now c.args.task e (sym c.in-Err.is ∙ c.started.ensures) c.no_chain.ensures
+    lent-refused c.args.book.now c.args.waits.now c.args.task e (sym c.in-Err.is ∙ c.started.ensures) (rw c.number.ensures at c.no_chain.ensures)

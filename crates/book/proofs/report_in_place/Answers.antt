@@ -1,6 +1,7 @@
 use Prim.Native.Nat.{◌-◌}
 use mathlib.Core.Path.{refl, sym}
-use Rattle.book.proofs.ReportLaws.{is_refused, reported-refused, reported-granted, granted-task, granted-place, granted-accepts, granted-facts, its-sound}
+use Rattle.plan.proofs.RefusalLaws.{has-number}
+use Rattle.book.proofs.ReportLaws.{reported-refused, reported-granted, granted-task, granted-place, granted-accepts, granted-facts, its-sound}
 use Rattle.book.proofs.Fits.{fit-ended}
 use Rattle.book.proofs.LaidOut.{next-laid}
 use Rattle.book.proofs.WaitLaws.{its-code, its-sets, good_of, fit-seen, settled-seen}
@@ -32,14 +33,14 @@ pub returns-in-Err : goal.returns-in-Err
 returns-in-Err c =
     let a = c.args in
     let code = its-code c.view.result c.view.ensures a.task a.tick c.in-Err.ensures.code (sym c.number.ensures) in
-    sym (reported-refused a.book.now a.task a.tick code c.answer_of.ensures (is_refused c.in-Err.refusal c.number.ensures) refl)
+    sym (reported-refused a.book.now a.task a.tick code c.answer_of.ensures (has-number c.in-Err.refusal c.number.ensures) refl)
 
 pub returns-in-Ok : goal.returns-in-Ok
 returns-in-Ok c =
     let a = c.args in
     let code = its-code c.view.result c.view.ensures a.task a.tick c.in-Ok.ensures.code refl in
     let known = good_of a.book.now (its-sound a.book.now a.task a.tick code refl) in
-    sym (reported-granted a.book.now a.task a.tick code c.answer_of-in-Ok.ensures refl
+    sym (reported-granted a.book.now a.task a.tick code c.granted.ensures refl
     (next-laid a.book.now (granted-facts a.book.now a.task a.tick code refl) (search rules) (a.task - 1) a.tick
     (search rules) (search rules) (granted-place a.book.now a.task a.tick code refl)
     c.ended_at-ended.ensures (settled-seen a.book.now known (its-sets c.view.result c.view.ensures c.in-Ok.ensures.sets) _ c.settle-next.ensures)))

@@ -1,13 +1,5 @@
-use mathlib.Core.Path.{sym, ap, ◌∙◌}
-use Rattle.text_fields.specs.declared.Fault.{Fault}
 use Rattle.desk_read.proofs.ReadLaws.{alone-is}
 use Rattle.desk_read.proofs.read_word.Goals as goal
 
-pub returns-then-fault-ne0 : goal.returns-then-fault-ne0
-returns-then-fault-ne0 c =
-    (c.if-fault-ne0.true, alone-is c.args.line.now c.args.word.now _ c.field.ensures c.word_code.ensures c.end_code.ensures c.fault_of-fault.ensures)
-
 pub returns : goal.returns
-returns c =
-    let e = alone-is c.args.line.now c.args.word.now _ c.field.ensures c.word_code.ensures c.end_code.ensures c.fault_of-fault.ensures in
-    sym (ap (λ (x : Fault). x.code) e) ∙ c.if-fault-ne0.false
+returns c = alone-is c.args.line.now c.args.word.now _ c.field.ensures _ c.word_fault.ensures _ c.end_fault.ensures c.check_line.ensures

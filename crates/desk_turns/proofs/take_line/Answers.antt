@@ -1,6 +1,7 @@
 use mathlib.Core.Path.{ap}
 use Rattle.desk_read.proofs.ReadLaws.{step-near}
 use Rattle.desk_read.specs.Asked.{asked}
+use Rattle.text_fields.specs.Said.{fault_number}
 use Rattle.log_read.specs.Said.Entry.{Refused}
 use Rattle.desk_turns.proofs.TurnLaws.{asks, turn_step, turn-rule, turn-early, turn-exact, turn-now, turn-drive, turn-why, near-short}
 use Rattle.desk_turns.proofs.take_line.Goals as goal
@@ -10,7 +11,7 @@ take_entry-requires c =
     near-short _ (step-near _ _ c.args.line.now c.read_asked.ensures (asks c.in-Ok-Step.is c.in-Ok-Step.field-0-is))
 
 pub take_entry-requires-in-Err : goal.take_entry-requires-in-Err
-take_entry-requires-in-Err c = near-short (Refused c.in-Err.fault.code c.in-Err.fault.column) (step-near _ _ c.args.line.now c.read_asked.ensures (ap asked c.in-Err.is))
+take_entry-requires-in-Err c = near-short (Refused (fault_number c.in-Err.fault.kind) c.in-Err.fault.column) (step-near _ _ c.args.line.now c.read_asked.ensures (ap asked c.in-Err.is))
 
 pub returns-in-Ok-Step : goal.returns-in-Ok-Step
 returns-in-Ok-Step c =
@@ -22,23 +23,23 @@ returns-in-Ok-Rule c =
 
 pub returns-in-Ok-Early : goal.returns-in-Ok-Early
 returns-in-Ok-Early c =
-    turn-early c.args.morning _ _ c.args.line.now c.read_asked.ensures c.said.ensures (asks c.in-Ok-Early.is c.in-Ok-Early.field-0-is) c.answer_early-length.ensures
+    turn-early c.args.morning _ _ c.args.line.now c.read_asked.ensures c.said.ensures (asks c.in-Ok-Early.is c.in-Ok-Early.field-0-is) c.answer_early.ensures
 
 pub returns-in-Ok-Exact : goal.returns-in-Ok-Exact
 returns-in-Ok-Exact c =
-    turn-exact c.args.morning _ _ c.args.line.now c.read_asked.ensures c.said-in-Ok-Exact.ensures (asks c.in-Ok-Exact.is c.in-Ok-Exact.field-0-is) c.answer_exact-length.ensures
+    turn-exact c.args.morning _ _ c.args.line.now c.read_asked.ensures c.said-in-Ok-Exact.ensures (asks c.in-Ok-Exact.is c.in-Ok-Exact.field-0-is) c.answer_exact.ensures
 
 pub returns-in-Ok-Now : goal.returns-in-Ok-Now
 returns-in-Ok-Now c =
-    turn-now c.args.morning _ _ c.args.line.now c.read_asked.ensures c.said-in-Ok-Now.ensures (asks c.in-Ok-Now.is c.in-Ok-Now.field-0-is) c.answer_now-length.ensures
+    turn-now c.args.morning _ _ c.args.line.now c.read_asked.ensures c.said-in-Ok-Now.ensures (asks c.in-Ok-Now.is c.in-Ok-Now.field-0-is) c.answer_now.ensures
 
 pub returns-in-Ok-Drive : goal.returns-in-Ok-Drive
 returns-in-Ok-Drive c =
-    turn-drive c.args.morning _ _ c.args.line.now c.read_asked.ensures c.said-in-Ok-Drive.ensures (asks c.in-Ok-Drive.is c.in-Ok-Drive.field-0-is) c.answer_drive-length.ensures
+    turn-drive c.args.morning _ _ c.args.line.now c.read_asked.ensures c.said-in-Ok-Drive.ensures (asks c.in-Ok-Drive.is c.in-Ok-Drive.field-0-is) c.answer_drive.ensures
 
 pub returns-in-Ok-Why : goal.returns-in-Ok-Why
 returns-in-Ok-Why c =
-    turn-why c.args.morning _ _ c.args.line.now c.read_asked.ensures c.said-in-Ok-Why.ensures (asks c.in-Ok-Why.is c.in-Ok-Why.field-0-is) c.answer_why-length.ensures
+    turn-why c.args.morning _ _ c.args.line.now c.read_asked.ensures c.said-in-Ok-Why.ensures (asks c.in-Ok-Why.is c.in-Ok-Why.field-0-is) c.answer_why.ensures
 
 pub returns-in-Err : goal.returns-in-Err
 returns-in-Err c =

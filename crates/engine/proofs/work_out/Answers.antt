@@ -7,7 +7,7 @@ use Rattle.engine.proofs.work_out.Goals as goal
 pub returns-in_default : goal.returns-in_default
 returns-in_default c =
     refused_plan c.args.plan c.args.rule c.args.given c.number_of.ensures c.view.ensures c.in_default.ensures
-    (c.refused.ensures ∙ ap (λ (x : Answer). zero_timetable x) c.refuse.ensures)
+    (c.refused.ensures ∙ ap (λ (x : Answer). zero_timetable x) c.answer.ensures)
 
 pub returns-in-Err : goal.returns-in-Err
 returns-in-Err c =
@@ -21,4 +21,4 @@ work_all-requires c =
 pub returns : goal.returns
 returns c =
     let times = rw c.from.ensures at c.work_all.ensures in
-    filled c.args.plan c.args.rule c.args.given c.number_of.ensures c.view.ensures c.in-Some.ensures c.in_default-length_answer.ensures c.refuse-2.ensures times.0 times.1
+    filled c.args.plan c.args.rule c.args.given c.number_of.ensures c.view.ensures c.in-Some.ensures c.in_default-length_answer.ensures c.granted.ensures times.0 times.1

@@ -1,15 +1,25 @@
 use Rattle.std.proofs.lemmas.Result.{err_from_is_err_and}
-use Rattle.log_read.proofs.EntryLaws.{end_refused, end-says}
+use Rattle.log_read.proofs.EntryLaws.{end_refused, end-task, end-tick, end-says}
 use Rattle.log_read.proofs.read_end.Goals as goal
 
-pub returns-in_err-check : goal.returns-in_err-check
-returns-in_err-check c =
+pub returns-in_err-check_line : goal.returns-in_err-check_line
+returns-in_err-check_line c =
     let p = err_from_is_err_and c.from_residual.result c.from_residual.ensures.1 in
     rw (p.1, p.2)
-    (end_refused _ _ c.requires c.field-3.ensures c.field.ensures c.field-2.ensures c.word_code.ensures c.read_ranged-task.ensures
-    c.read_ranged-tick.ensures c.end_code.ensures c.in_err-check.ensures.0 c.in_err-check.ensures.1)
+    (end_refused _ _ c.requires _ _ _ _ _ _ c.field-3.ensures c.field.ensures c.field-2.ensures c.word_fault.ensures c.read_ranged-task.ensures
+    c.read_ranged-tick.ensures c.err.ensures.value c.err-2.ensures.value c.end_fault.ensures _ c.in_err-check_line.ensures)
+
+pub unwrap-requires : goal.unwrap-requires
+unwrap-requires c =
+    end-task _ _ c.requires _ _ _ _ _ _ c.field-3.ensures c.field.ensures c.field-2.ensures c.word_fault.ensures c.read_ranged-task.ensures
+    c.read_ranged-tick.ensures c.err.ensures.value c.err-2.ensures.value c.end_fault.ensures c.in_ok-check_line.ensures
+
+pub unwrap-requires-2 : goal.unwrap-requires-2
+unwrap-requires-2 c =
+    end-tick _ _ c.requires _ _ _ _ _ _ c.field-3.ensures c.field.ensures c.field-2.ensures c.word_fault.ensures c.read_ranged-task.ensures
+    c.read_ranged-tick.ensures c.err.ensures.value c.err-2.ensures.value c.end_fault.ensures c.in_ok-check_line.ensures
 
 pub returns : goal.returns
 returns c =
-    end-says _ _ c.requires c.field-3.ensures c.field.ensures c.field-2.ensures c.word_code.ensures c.read_ranged-task.ensures
-    c.read_ranged-tick.ensures c.end_code.ensures c.in_ok-check.ensures
+    end-says _ _ c.requires _ _ _ _ _ _ c.field-3.ensures c.field.ensures c.field-2.ensures c.word_fault.ensures c.read_ranged-task.ensures
+    c.read_ranged-tick.ensures c.err.ensures.value c.err-2.ensures.value c.end_fault.ensures c.in_ok-check_line.ensures c.unwrap.ensures c.unwrap-2.ensures

@@ -40,4 +40,4 @@ returns-in-Ok-Chosen c =
 pub returns-in-Err : goal.returns-in-Err
 returns-in-Err c =
     let o = opened-by c.requires c.choose-choice.ensures c.rule_of.ensures c.open-opening.ensures c.early_after-early.ensures in
-    ran-malformed o c.put_opened-at.ensures (said-malformed c.in-Err.is) c.put_refused.ensures
+    ran-malformed o c.put_opened-at.ensures (said-malformed c.in-Err.is) (rw (c.refuse.ensures, c.number.ensures) at c.put_refused.ensures)

@@ -6,17 +6,12 @@ use Rattle.plan.specs.Pairs.{pair_answer}
 use Rattle.plan.specs.declared.Answer.{Answer}
 use Rattle.plan.specs.declared.Plan.{Plan}
 use Rattle.plan_judge.specs.Private.Arrays.{tasks_of}
-use Rattle.plan_judge.specs.declared.PairFault.{PairFault}
-use Rattle.plan_judge.specs.declared.PairFault.TheVariants.{Board, Drive, After}
+use Rattle.plan.specs.Refusal.{refusal_number}
+use Rattle.plan.specs.declared.Refusal.{Refusal}
 
-abbrev pub code_of : PairFault → ℕ
-code_of Board = 6
-code_of Drive = 7
-code_of After = 8
-
-abbrev pub code_or_0 : Option PairFault → ℕ
+abbrev pub code_or_0 : Option Refusal → ℕ
 code_or_0 None = 0
-code_or_0 (Some fault) = code_of fault
+code_or_0 (Some fault) = refusal_number fault
 
 -- an answer that refuses
 abbrev pub refusal : Answer → Option Answer

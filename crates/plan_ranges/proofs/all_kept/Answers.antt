@@ -1,5 +1,4 @@
 use mathlib.Core.Path.{refl, sym, ◌∙◌}
-use borrow.Author.Tests.{not-true, not-false}
 use Rattle.laws.specs.Every.{every}
 use Rattle.laws.proofs.Every.{every-not, every-pass, every-out}
 use Rattle.plan_ranges.proofs.all_kept.Goals as goal
@@ -10,11 +9,11 @@ loop-k-init c = refl
 
 pub returns-then-not-task_ok : goal.returns-then-not-task_ok
 returns-then-not-task_ok c =
-    sym (every-not _ _ _ c.loop-k-test.true (sym c.task_ok.ensures ∙ not-true _ c.if-not-task_ok.true-raw))
+    sym (every-not _ _ _ c.loop-k-test.true (sym c.task_ok.ensures ∙ c.if-not-task_ok.true))
 
 pub loop-k-preserved : goal.loop-k-preserved
 loop-k-preserved c =
-    every-pass _ _ c.loop-k.invariant (sym c.task_ok.ensures ∙ not-false _ c.if-not-task_ok.false-raw)
+    every-pass _ _ c.loop-k.invariant (sym c.task_ok.ensures ∙ c.if-not-task_ok.false)
 
 pub returns : goal.returns
 returns c = every-out _ _ _ c.loop-k.invariant c.loop-k-test.false

@@ -8,8 +8,8 @@ use Rattle.plan.specs.Task.{Task}
 use Rattle.plan.specs.Write.{written_of, buffer_after}
 use Rattle.plan.specs.declared.Plan.{Plan}
 use Rattle.plan.specs.declared.WriteResult.{WriteResult}
-use Rattle.plan_write.specs.declared.Listed.{Listed}
-use Rattle.plan_write.specs.declared.Listed.TheVariants.{Holds, Tasks}
+use Rattle.text_fields.specs.declared.Listed.{Listed}
+use Rattle.text_fields.specs.declared.Listed.TheVariants.{Holds, Tasks}
 
 -- an item of the holds, which are lettered, or of the after
 abbrev pub item_text : Listed → ℕ → List ℕ

@@ -17,8 +17,7 @@ use Rattle.laws.proofs.Split.{index-found}
 use Rattle.text.specs.Bytes.{bytes}
 use Rattle.text.specs.Number.{is_number, value_of}
 use Rattle.text.specs.Line.{has_line, skip, line_at, field}
-use Rattle.text_fields.specs.Faults.{worst, fault_of}
-use Rattle.text_fields.specs.declared.Fault.{Fault}
+use Rattle.text_fields.specs.Faults.{Fault, worst, fault_of}
 use Rattle.text_fields.proofs.FaultLaws.{any_found}
 use Rattle.plan.specs.Answer.{refuse, granted, is_granted, is_refused}
 use Rattle.plan.specs.Judged.{tasks_answer}

@@ -3,16 +3,15 @@ use Rattle.std.specs.Prelude.{ℕ, ◌+◌, Bool, true, false, cond, ◌&&◌, �
 use Rattle.laws.specs.Lists.{all_of, first_not, rising}
 use Rattle.laws.specs.Split.{split_on, begin_of}
 use Rattle.text.specs.Number.{is_number, value_of, number_stop, number_of}
-use Rattle.text_fields.specs.Items.{COMMA, between, is_list, list_of, drive_of, is_hold, hold_of, hold_stop, list_stop, items_of}
-use Rattle.text_fields.specs.declared.Items.{Items}
+use Rattle.text_fields.specs.Items.{Items, COMMA, between, is_list, list_of, drive_of, is_hold, hold_of, hold_stop, list_stop, items_of}
 use Rattle.text.specs.declared.NumberFault.{NumberFault}
 use Rattle.text.specs.declared.NumberFault.TheVariants.{Misspelt}
-use Rattle.text_fields.specs.declared.list.ListKind.{ListKind}
-use Rattle.text_fields.specs.declared.list.ListKind.TheVariants.{Holds, After}
+use Rattle.text_fields.specs.declared.Listed.{Listed}
+use Rattle.text_fields.specs.declared.Listed.TheVariants.{Holds, Tasks}
 
-abbrev pub lettered : ListKind → Bool
+abbrev pub lettered : Listed → Bool
 lettered Holds = true
-lettered After = false
+lettered Tasks = false
 
 unfoldable pub is_item : Bool → List ℕ → Bool
 is_item lettered = cond lettered is_hold is_number

@@ -1,11 +1,10 @@
-use Prim.Native.Nat.{◌+◌}
 use native.Mathlib.Omega.{arith}
-use Rattle.year_rules.specs.Figures.{figures_on}
+use Rattle.year_rules.proofs.AddedLaws.{figures_in}
 use Rattle.year_totals.proofs.AddLaws.{board-roomy, filled_none, filled-turn, filled-all}
 use Rattle.year_totals.proofs.with_accepted.Goals as goal
 
 pub loop-b-init : goal.loop-b-init
-loop-b-init c = filled_none c.args.totals (λ b. figures_on (b + 1) c.args.board.now c.args.finish.now c.args.end.now c.args.tasks)
+loop-b-init c = filled_none c.args.totals (figures_in c.args.plan.now c.args.judged.now)
 
 pub board_after-next-requires : goal.board_after-next-requires
 board_after-next-requires c =
@@ -14,8 +13,8 @@ board_after-next-requires c =
 
 pub loop-b-preserved : goal.loop-b-preserved
 loop-b-preserved c =
-    filled-turn c.args.totals (λ b. figures_on (b + 1) c.args.board.now c.args.finish.now c.args.end.now c.args.tasks) c.loop-b.b c.loop-b.invariant (rw c.tally.ensures at c.board_after-next.ensures)
+    filled-turn c.args.totals (figures_in c.args.plan.now c.args.judged.now) c.loop-b.b c.loop-b.invariant (rw c.tally.ensures at c.board_after-next.ensures)
 
 pub returns : goal.returns
 returns c =
-    filled-all c.args.totals (λ b. figures_on (b + 1) c.args.board.now c.args.finish.now c.args.end.now c.args.tasks) c.loop-b.b (omega arith) c.loop-b.invariant
+    filled-all c.args.totals (figures_in c.args.plan.now c.args.judged.now) c.loop-b.b (omega arith) c.loop-b.invariant

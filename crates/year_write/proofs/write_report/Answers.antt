@@ -6,13 +6,13 @@ pub returns-then-out-lt-REPORT_MOST : goal.returns-then-out-lt-REPORT_MOST
 returns-then-out-lt-REPORT_MOST c = ran-short _ _ _ c.if-out-lt-REPORT_MOST.true
 
 pub returns-then-not-are_in_bounds : goal.returns-then-not-are_in_bounds
-returns-then-not-are_in_bounds c = let a = c.args in ran-nine a.totals a.past a.out.now c.if-out-lt-REPORT_MOST.false c.are_in_bounds.ensures c.if-not-are_in_bounds.true c.put_refused.ensures
+returns-then-not-are_in_bounds c = let a = c.args in ran-nine a.totals a.past a.out.now c.if-out-lt-REPORT_MOST.false c.are_in_bounds.ensures c.if-not-are_in_bounds.true (rw c.answer.ensures at c.put_refused.ensures)
 
 pub put_report-place-requires : goal.put_report-place-requires
 put_report-place-requires c = let a = c.args in (c.if-out-lt-REPORT_MOST.false, in_bounds a.totals a.past a.out.now c.if-out-lt-REPORT_MOST.false c.are_in_bounds.ensures c.if-not-are_in_bounds.false)
 
 pub returns-then-past : goal.returns-then-past
-returns-then-past c = let a = c.args in ran-past a.totals a.past a.out.now c.if-out-lt-REPORT_MOST.false c.are_in_bounds.ensures c.if-not-are_in_bounds.false c.put_report-place.ensures c.if-past.true c.put_refused-then-past.ensures
+returns-then-past c = let a = c.args in ran-past a.totals a.past a.out.now c.if-out-lt-REPORT_MOST.false c.are_in_bounds.ensures c.if-not-are_in_bounds.false c.put_report-place.ensures c.if-past.true (rw c.answer-then-past.ensures at c.put_refused-then-past.ensures)
 
 pub returns : goal.returns
 returns c = let a = c.args in ran-alone a.totals a.past a.out.now c.if-out-lt-REPORT_MOST.false c.are_in_bounds.ensures c.if-not-are_in_bounds.false c.put_report-place.ensures c.if-past.false

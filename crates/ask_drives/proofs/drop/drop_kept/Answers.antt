@@ -6,7 +6,7 @@ use Rattle.ask_drives.proofs.drop.drop_kept.Goals as goal
 
 pub returns-in_default : goal.returns-in_default
 returns-in_default c =
-    sym (rw c.refuse.ensures (other-kept c.args.book.now c.args.sheet (sym c.in_default.is ∙ c.seen_in.ensures) (dropped_of c.args.book.now c.args.task)))
+    sym (rw c.answer.ensures (other-kept c.args.book.now c.args.sheet (sym c.in_default.is ∙ c.seen_in.ensures) (dropped_of c.args.book.now c.args.task)))
 
 pub returns : goal.returns
 returns c =

@@ -9,10 +9,10 @@ pub returns-then-is_none : goal.returns-then-is_none
 returns-then-is_none c =
     let v = c.view-view in
     figure-refused c.args.self (ap is_some (its-judged v.result v.ensures c.sound_waits.ensures) ∙ its-soundness c.args.self)
-    (ap not c.if-is_none.ensures) c.answer_of.ensures
+    (ap not c.if-is_none.ensures) c.answer.ensures
 
 pub returns : goal.returns
 returns c =
     let v = c.view-view in
     figure-granted c.args.self (ap is_some (its-judged v.result v.ensures c.sound_waits.ensures) ∙ its-soundness c.args.self)
-    (ap not c.if-is_none.ensures) c.answer_of-2.ensures (its-figure v.result v.ensures c.least_early.ensures)
+    (ap not c.if-is_none.ensures) c.granted.ensures (its-figure v.result v.ensures c.least_early.ensures)

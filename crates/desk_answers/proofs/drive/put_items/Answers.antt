@@ -1,26 +1,31 @@
 use native.Mathlib.Omega.{arith}
 use Rattle.log_write.proofs.WriteLaws.{wrote-length, left-all}
 use Rattle.desk_answers.proofs.DriveLaws.{dash-wrote, rest-turn, items-wrote}
-use borrow.Author.Rules.{rules}
 use Rattle.desk_answers.proofs.drive.put_items.Goals as goal
 
-pub returns-then-items-eq0 : goal.returns-then-items-eq0
-returns-then-items-eq0 c = dash-wrote c.args.items.now c.if-items-eq0.true (omega (arith, c.requires)) c.put_text.ensures
+pub returns-in_default : goal.returns-in_default
+returns-in_default c = dash-wrote c.args.items.now c.in_default.ensures.cases (omega (arith, c.requires)) c.put_text.ensures
 
 pub put_after-place-requires : goal.put_after-place-requires
-put_after-place-requires c = omega (arith, c.requires, c.if-items-eq0.false)
+put_after-place-requires c = omega (arith, c.requires, c.in-Some.ensures.cases.1)
 
-pub loop-i-init : goal.loop-i-init
-loop-i-init c = let w = c.put_after-place.ensures in (omega arith, omega (arith, c.if-items-eq0.false), search rules, omega (arith, c.requires, wrote-length w), omega (arith, w.place, w.small), left-all)
+pub loop-task-init : goal.loop-task-init
+loop-task-init c = let w = c.put_after-place.ensures in (omega arith, omega (arith, c.requires, wrote-length w), omega (arith, w.place, w.small), left-all)
 
-pub put_after-place-requires-in-loop-i : goal.put_after-place-requires-in-loop-i
-put_after-place-requires-in-loop-i c = omega (arith, c.loop-i.invariant.3, c.loop-i.invariant.4, c.loop-i-test.true, c.loop-i.invariant.2)
+pub put_after-place-requires-in-loop-task : goal.put_after-place-requires-in-loop-task
+put_after-place-requires-in-loop-task c =
+    omega (arith, c.loop-task.invariant.1, c.loop-task.invariant.2, c.loop-task-test.true, c.in-Some.ensures.cases.1)
 
-pub loop-i-preserved : goal.loop-i-preserved
-loop-i-preserved c = let w = c.put_after-place-in-loop-i.ensures in (omega arith, search rules, search rules, omega (arith, c.loop-i.invariant.3, wrote-length w), omega (arith, w.place, w.small, c.loop-i.invariant.4), rest-turn c.args.items.now c.loop-i.i (search rules) c.from-in-loop-i.ensures c.loop-i.invariant.5 w)
+pub loop-task-preserved : goal.loop-task-preserved
+loop-task-preserved c =
+    let w = c.put_after-place-in-loop-task.ensures in
+    let walk = c.loop-task.invariant in
+    (omega (arith, c.loop-task-test.true), omega (arith, walk.1, wrote-length w), omega (arith, w.place, w.small, walk.2), rest-turn c.in-Some.others.now c.loop-task.task-index c.loop-task-test.true c.from-in-loop-task.ensures walk.3 w)
 
 pub returns : goal.returns
-returns c = items-wrote c.args.items.now c.loop-i.i c.if-items-eq0.false (omega (arith, c.loop-i.invariant.2, c.loop-i-test.false)) c.from.ensures c.put_after-place.ensures c.loop-i.invariant.5 (omega (arith, c.loop-i.invariant.1, c.loop-i.invariant.4))
+returns c =
+    let walk = c.loop-task.invariant in
+    items-wrote c.in-Some.first.now c.in-Some.others.now c.loop-task.task-index c.in-Some.ensures.cases.0 c.loop-task-test.false c.from.ensures c.put_after-place.ensures walk.3 (omega (arith, walk.0, walk.2, c.in-Some.ensures.cases.1))
 
 pub shape_of-out : goal.shape_of-out
 shape_of-out c = wrote-length (returns c)

@@ -3,7 +3,7 @@ use borrow.Author.Rules.{rules}
 use Rattle.desk_answers.proofs.running.answer_now.Goals as goal
 
 pub returns-then-not-is_sound : goal.returns-then-not-is_sound
-returns-then-not-is_sound c = now-no c.args.book.now c.is_sound.ensures (search rules) c.refuse.ensures c.answer_refused.ensures
+returns-then-not-is_sound c = now-no c.args.book.now c.is_sound.ensures (search rules) c.answer.ensures c.answer_refused.ensures
 
 pub put_running-written-requires : goal.put_running-written-requires
 put_running-written-requires c = (now-few c.args.book.now c.is_sound.ensures (search rules), search rules, now-fits c.args.book.now c.is_sound.ensures (search rules))

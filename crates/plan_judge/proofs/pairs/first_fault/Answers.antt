@@ -14,4 +14,4 @@ pub loop-a-preserved : goal.loop-a-preserved
 loop-a-preserved c = row-passed _ _ _ c.loop-a.invariant c.loop-a-test.true (rw c.in_default.is at c.row_fault.ensures)
 
 pub returns : goal.returns
-returns c = rw c.refuse.ensures (none_found _ _ _ c.loop-a.invariant c.loop-a-test.false)
+returns c = rw c.granted.ensures (none_found _ _ _ c.loop-a.invariant c.loop-a-test.false)

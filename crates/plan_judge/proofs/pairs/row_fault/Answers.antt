@@ -1,7 +1,8 @@
 use mathlib.Core.Path.{refl, sym, ◌∙◌}
 use native.Mathlib.Omega.{arith}
 use Rattle.plan.specs.View.{viewed}
-use Rattle.plan_judge.proofs.PairLaws.{pair-passed, pair_found, no-pair, code-some}
+use Rattle.plan.proofs.RefusalLaws.{has-number}
+use Rattle.plan_judge.proofs.PairLaws.{pair-passed, pair_found, no-pair}
 use Rattle.plan_judge.proofs.OrderLaws.{pair-in-order, passed_over}
 use Rattle.plan_judge.proofs.pairs.row_fault.Goals as goal
 
@@ -23,8 +24,8 @@ pair_fault-requires c =
 
 pub returns-in-Some : goal.returns-in-Some
 returns-in-Some c =
-    rw c.refuse.ensures
-    (pair_found _ _ _ _ c.loop-b.invariant c.loop-b-test.true (c.code.ensures ∙ c.in-Some.ensures) (λ z. code-some c.in-Some.fault (sym c.code.ensures ∙ z)))
+    rw c.answer.ensures
+    (pair_found _ _ _ _ c.loop-b.invariant c.loop-b-test.true c.in-Some.ensures (has-number c.in-Some.fault refl))
 
 pub next_pair-b-requires : goal.next_pair-b-requires
 next_pair-b-requires c = (c.requires.1, omega (arith, c.loop-b-test.true), c.requires.0.few)

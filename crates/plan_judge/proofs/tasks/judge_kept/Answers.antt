@@ -5,7 +5,7 @@ use Rattle.plan_judge.proofs.tasks.judge_kept.Goals as goal
 
 pub returns-then-least-ne0 : goal.returns-then-least-ne0
 returns-then-least-ne0 c =
-    c.refuse.ensures ∙ answered-late (viewed c.args.plan.now) c.least_start-least.ensures c.if-least-ne0.true
+    c.answer.ensures ∙ answered-late (viewed c.args.plan.now) c.least_start-least.ensures c.if-least-ne0.true
 
 pub returns : goal.returns
 returns c =

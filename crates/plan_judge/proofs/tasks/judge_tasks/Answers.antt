@@ -8,7 +8,7 @@ use Rattle.plan_judge.proofs.tasks.judge_tasks.Goals as goal
 pub returns-then-not-plan-places_ok : goal.returns-then-not-plan-places_ok
 returns-then-not-plan-places_ok c =
     let p = viewed c.args.plan.now in
-    c.refuse.ensures ∙ tasks-nine p (ap (λ (b : Bool). between 1 64 p.tasks && b) c.places_ok.ensures) c.if-not-plan-places_ok.true
+    c.answer.ensures ∙ tasks-nine p (ap (λ (b : Bool). between 1 64 p.tasks && b) c.places_ok.ensures) c.if-not-plan-places_ok.true
 
 pub judge_kept-requires : goal.judge_kept-requires
 judge_kept-requires c =

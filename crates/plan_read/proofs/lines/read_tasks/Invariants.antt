@@ -1,11 +1,10 @@
-use Prim.Native.Nat.{◌-◌, ◌≤◌}
+use mathlib.Core.Path.{◌≡◌}
+use Rattle.plan_read.specs.Private.Editions.{edition_number, is_mended}
 use Rattle.plan_read.proofs.TaskLaws.{Going}
 use Rattle.plan_read.proofs.lines.read_tasks.Given as goal
 
--- `plan_lines::lines::read_tasks` meets its contract: what the lines so far made, and what the rest gives.
+-- What the lines so far made, and what the rest gives.
 abbrev pub invariant-loop-k : goal.invariant-loop-k
 invariant-loop-k l =
-    (l.k ≤ l.tasks) × Going l.mends l.text l.k l.board l.ready l.begin l.finish l.holds l.after l.rest
-
-abbrev pub decreases-loop-k : goal.decreases-loop-k
-decreases-loop-k l = l.tasks - l.k
+    (l.plan.edition ≡ edition_number l.sizes.edition) × (l.plan.boards ≡ l.sizes.boards) × (l.plan.tasks ≡ l.sizes.tasks)
+    × Going (is_mended l.sizes.edition) l.text l.k l.plan.board l.plan.ready l.plan.begin l.plan.finish l.plan.holds l.plan.after l.rest

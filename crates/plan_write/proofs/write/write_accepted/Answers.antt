@@ -6,7 +6,7 @@ tasks_len-requires c = few_tasks _ c.requires
 
 pub returns-then-out-needed : goal.returns-then-out-needed
 returns-then-out-needed c =
-    sixteen _ _ c.requires c.sizes_len.ensures c.tasks_len.ensures c.if-out-needed.true (rw c.refuse.ensures)
+    sixteen _ _ c.requires c.sizes_len.ensures c.tasks_len.ensures c.if-out-needed.true (rw c.answer.ensures)
 
 pub put_sizes-at-requires : goal.put_sizes-at-requires
 put_sizes-at-requires c =
@@ -20,4 +20,4 @@ put_tasks-requires c =
 pub returns : goal.returns
 returns c =
     granted-text _ _ c.requires c.sizes_len.ensures c.tasks_len.ensures c.if-out-needed.false c.put_sizes-at.ensures
-    c.put_tasks.ensures (rw c.refuse-2.ensures)
+    c.put_tasks.ensures (rw c.granted.ensures)

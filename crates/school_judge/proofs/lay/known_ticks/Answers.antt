@@ -1,4 +1,3 @@
-use Prim.Native.Nat.{◌+◌}
 use Rattle.plan.specs.Value.{at}
 use native.Mathlib.Omega.{arith}
 use Rattle.book_view.proofs.Laid.{laid-first, laid_more}
@@ -13,7 +12,7 @@ pub loop-i-preserved : goal.loop-i-preserved
 loop-i-preserved c =
     elim c.if-known-i-eq1.branch [
       | then-known-i-eq1 w ↦ laid_more _ _ c.loop-i.invariant (tick-is w.if-known-i-eq1.true w.ticks-is)
-      | else-known-i-eq1 w ↦ laid_more _ _ c.loop-i.invariant (tick-none (at c.args.tick.now (c.loop-i.i + 1)) w.if-known-i-eq1.false w.ticks-is)
+      | else-known-i-eq1 w ↦ laid_more _ _ c.loop-i.invariant (tick-none (at c.args.noted.now.tick c.loop-i.i) w.if-known-i-eq1.false w.ticks-is)
     ]
 
 pub returns : goal.returns

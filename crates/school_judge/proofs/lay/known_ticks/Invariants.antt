@@ -4,4 +4,4 @@ use Rattle.book_view.specs.View.{laid}
 use Rattle.school_judge.proofs.lay.known_ticks.Given as goal
 
 abbrev pub invariant-loop-i : goal.invariant-loop-i
-invariant-loop-i l = l.ticks ≡ laid l.i (tick_in l.known l.tick)
+invariant-loop-i l = l.ticks ≡ laid l.i (tick_in l.known l.noted)

@@ -1,20 +1,19 @@
-use mathlib.Core.Path.{◌∙◌}
-use Rattle.text_fields.proofs.RangedLaws.{ranged-in, ranged-low, ranged-high, ranged-over, ranged-misspelt}
+use Rattle.std.proofs.lemmas.Result.{err_from_is_err_and}
+use native.Mathlib.Omega.{arith}
+use Rattle.text_fields.proofs.RangedLaws.{ranged-in, ranged-low, ranged-high, ranged-fault}
 use Rattle.text_fields.proofs.faults.read_ranged.Goals as goal
-use Rattle.text_fields.proofs.faults.read_ranged.Goals.{else-low-value-via-then-low-value+else-value-high, else-low-value-via-else-low-value}
+use Rattle.text_fields.proofs.faults.read_ranged.Goals.{then-value-low-via-then-value-low, then-value-low-via-else-value-low+then-high-value}
 
-pub returns-then-value-high : goal.returns-then-value-high
-returns-then-value-high c = ranged-in _ _ _ c.in-Ok.ensures c.if-low-value.true c.if-value-high.true
+pub returns-in_err-value : goal.returns-in_err-value
+returns-in_err-value c =
+    let p = err_from_is_err_and c.from_residual.result c.from_residual.ensures.1 in
+    rw (p.1, p.2) (ranged-fault _ _ _ _ c.in_err-value.ensures)
 
-pub returns-else-low-value : goal.returns-else-low-value
-returns-else-low-value c = c.refused.ensures ∙ (elim c.else-low-value.branch [
-  | else-low-value-via-then-low-value+else-value-high w ↦ ranged-high _ _ _ c.in-Ok.ensures w.if-value-high.false
-  | else-low-value-via-else-low-value w ↦ ranged-low _ _ _ c.in-Ok.ensures w.if-low-value.false
-])
+pub returns-then-value-low : goal.returns-then-value-low
+returns-then-value-low c = elim c.then-value-low.branch [
+  | then-value-low-via-then-value-low w ↦ ranged-low _ _ _ c.in_ok-value.ensures w.if-value-low.true
+  | then-value-low-via-else-value-low+then-high-value w ↦ ranged-high _ _ _ c.in_ok-value.ensures w.if-high-value.true
+]
 
-pub returns-in-Err-Over : goal.returns-in-Err-Over
-returns-in-Err-Over c = c.refused-in-Err-Over.ensures ∙ ranged-over _ _ _ (rw c.in-Err-Over.field-0-is at c.in-Err-Over.ensures)
-
-pub returns-in-Err-Misspelt : goal.returns-in-Err-Misspelt
-returns-in-Err-Misspelt c =
-    c.refused-in-Err-Misspelt.ensures ∙ ranged-misspelt _ _ _ (rw c.in-Err-Misspelt.field-0-is at c.in-Err-Misspelt.ensures)
+pub returns : goal.returns
+returns c = ranged-in _ _ _ c.in_ok-value.ensures (omega (arith, c.if-value-low.false)) (omega (arith, c.if-high-value.false))

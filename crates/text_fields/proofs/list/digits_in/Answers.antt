@@ -4,5 +4,5 @@ use Rattle.text_fields.proofs.list.digits_in.Goals as goal
 pub returns-in-Holds : goal.returns-in-Holds
 returns-in-Holds c = rw c.in-Holds.is (digits-past _ c.past.ensures)
 
-pub returns-in-After : goal.returns-in-After
-returns-in-After c = rw c.in-After.is (digits-plain _)
+pub returns-in-Tasks : goal.returns-in-Tasks
+returns-in-Tasks c = rw c.in-Tasks.is (digits-plain _)

@@ -10,5 +10,5 @@ returns-in-Holds c = rw c.in-Holds.is (item-shared _ _ (rw c.in-Holds.is at c.re
 pub returns-in-Holds-2 : goal.returns-in-Holds-2
 returns-in-Holds-2 c = rw c.in-Holds-2.is (item-alone _ _ (rw c.in-Holds-2.is at c.requires.1) c.if-part-eq115.false)
 
-pub returns-in-After : goal.returns-in-After
-returns-in-After c = rw c.in-After.is (item-plain _ _ (rw c.in-After.is at c.requires.1))
+pub returns-in-Tasks : goal.returns-in-Tasks
+returns-in-Tasks c = rw c.in-Tasks.is (item-plain _ _ (rw c.in-Tasks.is at c.requires.1))

@@ -16,8 +16,8 @@ pub returns-in-Holds : goal.returns-in-Holds
 returns-in-Holds c =
     let h = stop-some _ _ c.if-not-starts_item.ensures c.digits_in.ensures c.number_stop-stop.ensures in rw c.in-Holds.is (rw c.in-Holds.is at h)
 
-pub returns-in-After : goal.returns-in-After
-returns-in-After c =
+pub returns-in-Tasks : goal.returns-in-Tasks
+returns-in-Tasks c =
     let h = stop-some _ _ c.if-not-starts_item.ensures c.digits_in.ensures c.number_stop-stop.ensures in
-    let k = rw c.in-After.is at h in
-    rw c.in-After.is (omega (arith, k))
+    let k = rw c.in-Tasks.is at h in
+    rw c.in-Tasks.is (omega (arith, k))

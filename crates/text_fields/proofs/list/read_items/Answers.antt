@@ -15,7 +15,7 @@ loop-n-init c = (omega arith, omega arith, search rules, refl, items-start _ _ _
 pub returns-in_default : goal.returns-in_default
 returns-in_default c =
     let part = c.part_before-part.ensures in
-    c.refused_items.ensures
+    c.list_fault.ensures
     ∙ refused-is _ _ _
     (λ t.
     let spelt = first_passes (is_item _) _ _ part (c.loop-n.invariant.3 ∙ t) in
@@ -26,7 +26,7 @@ pub returns-then-n-last : goal.returns-then-n-last
 returns-then-n-last c =
     let part = c.part_before-part.ensures in
     let spelt = value-item _ _ c.in-Ok.ensures in
-    c.refused_items-then-n-last.ensures
+    c.list_fault-then-n-last.ensures
     ∙ refused-is _ _ _
     (λ t. refuse _ _ _ _ _ _ _ _ _ _ part (value-is _ _ _ (number-spelt _ _ spelt c.in-Ok.ensures)) c.loop-n.invariant.4 c.if-n-last.true)
 

@@ -14,8 +14,8 @@ invariant-loop-n l =
     (l.count ≤ l.last)
     × (l.last ≤ l.high)
     × (length l.items ≡ 64)
-    × (all_of (is_item (lettered l.kind)) (split_on COMMA l.rest) ≡ all_of (is_item (lettered l.kind)) (split_on COMMA l.s))
-    × (items_left (lettered l.kind) l.high (length l.s) l.items l.count l.last (split_on COMMA l.rest) ≡ spelt_read (lettered l.kind) l.high (length l.s) (split_on COMMA l.s))
+    × (all_of (is_item (lettered l.listed)) (split_on COMMA l.rest) ≡ all_of (is_item (lettered l.listed)) (split_on COMMA l.s))
+    × (items_left (lettered l.listed) l.high (length l.s) l.items l.count l.last (split_on COMMA l.rest) ≡ spelt_read (lettered l.listed) l.high (length l.s) (split_on COMMA l.s))
 
 abbrev pub decreases-loop-n : goal.decreases-loop-n
 decreases-loop-n l = length l.rest

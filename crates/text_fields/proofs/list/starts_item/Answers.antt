@@ -4,5 +4,5 @@ use Rattle.text_fields.proofs.list.starts_item.Goals as goal
 pub returns-in-Holds : goal.returns-in-Holds
 returns-in-Holds c = rw c.in-Holds.is c.starts_hold.ensures
 
-pub returns-in-After : goal.returns-in-After
-returns-in-After c = rw c.in-After.is (starts-plain _)
+pub returns-in-Tasks : goal.returns-in-Tasks
+returns-in-Tasks c = rw c.in-Tasks.is (starts-plain _)

@@ -9,7 +9,7 @@ loop-b-init c = row_first c.args.self.now.tasks (is_against_in c.args.self.now) 
 
 pub returns-then-is_sooner : goal.returns-then-is_sooner
 returns-then-is_sooner c =
-    row-hit c.args.self.now.tasks (is_against_in c.args.self.now) c.args.a c.loop-b.b c.loop-b.invariant (omega arith) (both c.is_sooner.ensures c.is_sooner-in-loop-b.ensures c.if-is_sooner.true) c.refuse.ensures
+    row-hit c.args.self.now.tasks (is_against_in c.args.self.now) c.args.a c.loop-b.b c.loop-b.invariant (omega arith) (both c.is_sooner.ensures c.is_sooner-in-loop-b.ensures c.if-is_sooner.true) c.answer.ensures
 
 pub loop-b-preserved : goal.loop-b-preserved
 loop-b-preserved c =
