@@ -1,7 +1,7 @@
 -- What is answered about a drive, and a sheet that is made.
 use Prim.Native.Nat.{ℕ, ◌-◌, ◌≤◌, ◌<◌}
 use native.Mathlib.Omega.{arith}
-use Rattle.std.specs.Prelude.{Option, is_some}
+use Rattle.std.specs.Prelude.{Result, is_ok}
 use mathlib.Core.Path.{◌≡◌, sym, ap, ◌∙◌}
 use mathlib.Core.Bool.{Bool, true, false, ◌&&◌}
 use mathlib.Core.List.{List}
@@ -21,7 +21,7 @@ use Rattle.ask_drives.specs.Seen.{seen_of}
 use Rattle.ask_drives.specs.declared.SheetResult.{SheetResult}
 use Rattle.ask_drives.specs.declared.OnDrive.{OnDrive}
 use Rattle.ask_drives.specs.declared.SheetCheck.{SheetCheck}
-use Rattle.ask_drives.proofs.Keep.{some-own}
+use Rattle.ask_drives.proofs.Keep.{ok-own}
 
 module _ (book : Book) {sound : Bool} (known_is : sound ≡ is_sound book) where
   pub made-refused :
@@ -40,12 +40,12 @@ module _ (book : Book) {sound : Bool} (known_is : sound ≡ is_sound book) where
       let s : is_sound book ≡ true = sym known_is ∙ h in
       rw s (λ i. record { answer = e i; sheet = f i })
 
-  module _ (sheet : Sheet) (drive : ℕ) {seen : Option SheetCheck} (look : seen ≡ seen_of book sheet) where
-    own_is : (sound && is_some seen) ≡ is_own book sheet
-    own_is = λ i. known_is i && (ap (λ (o : Option SheetCheck). is_some o) look ∙ some-own book sheet) i
+  module _ (sheet : Sheet) (drive : ℕ) {seen : Result SheetCheck SheetCheck} (look : seen ≡ seen_of book sheet) where
+    own_is : (sound && is_ok seen) ≡ is_own book sheet
+    own_is = λ i. known_is i && (ap (λ (o : Result SheetCheck SheetCheck). is_ok o) look ∙ ok-own book sheet) i
 
     pub asked-other :
-        (sound && is_some seen) ≡ false → {answer : Answer} → answer ≡ refuse 9 0 0 → {r : OnDrive} → r ≡ no_drive answer
+        (sound && is_ok seen) ≡ false → {answer : Answer} → answer ≡ refuse 9 0 0 → {r : OnDrive} → r ≡ no_drive answer
         → r ≡ on_drive_of book sheet drive
     unfolding on_drive_of
     asked-other h e q =
@@ -53,7 +53,7 @@ module _ (book : Book) {sound : Bool} (known_is : sound ≡ is_sound book) where
         q ∙ ap no_drive e ∙ (rw s)
 
     pub asked-far :
-        (sound && is_some seen) ≡ true → between 1 32 drive ≡ false → {answer : Answer} → answer ≡ refuse 21 drive 0
+        (sound && is_ok seen) ≡ true → between 1 32 drive ≡ false → {answer : Answer} → answer ≡ refuse 21 drive 0
         → {r : OnDrive} → r ≡ no_drive answer → r ≡ on_drive_of book sheet drive
     unfolding on_drive_of
     asked-far h far e q =
@@ -61,7 +61,7 @@ module _ (book : Book) {sound : Bool} (known_is : sound ≡ is_sound book) where
         q ∙ ap no_drive e ∙ (rw (s, far))
 
     pub asked-near :
-        (sound && is_some seen) ≡ true → between 1 32 drive ≡ true → {answer : Answer} → answer ≡ granted
+        (sound && is_ok seen) ≡ true → between 1 32 drive ≡ true → {answer : Answer} → answer ≡ granted
         → {running : List ℕ} → running ≡ row 8 sheet.running (drive - 1)
         → record { answer = answer; running = running; next = at sheet.next (drive - 1) } ≡ on_drive_of book sheet drive
     unfolding on_drive_of

@@ -1,7 +1,6 @@
 -- A sheet kept through a step of its book is the sheet of the book after it.
 use Prim.Native.Nat.{ℕ}
-use Rattle.std.specs.Prelude.{Some, None, is_some}
-use Rattle.std.proofs.lemmas.Option.{none-some}
+use Rattle.std.specs.Prelude.{Result, Ok, Err, is_ok}
 use mathlib.Core.Path.{◌≡◌, sym, ap, ◌∙◌}
 use mathlib.Core.Bool.{Bool, true, false, cond}
 use mathlib.Core.List.{List}
@@ -79,24 +78,24 @@ module _ (book : Book) (sheet : Sheet) where
   abbrev of : SheetCheck
   of = record { held = (holders_of book.holds).held; before = standing_in book }
 
-  pub some-own : is_some (seen_of book sheet) ≡ same_sheet sheet (sheet_in book)
-  some-own = by_bool (same_sheet sheet (sheet_in book)) (λ o. rw o) (λ o. rw o)
+  pub ok-own : is_ok (seen_of book sheet) ≡ same_sheet sheet (sheet_in book)
+  ok-own = by_bool (same_sheet sheet (sheet_in book)) (λ o. rw o) (λ o. rw o)
 
-  own-seen : {seen : SheetCheck} → Some seen ≡ seen_of book sheet → (same_sheet sheet (sheet_in book) ≡ true) × (seen ≡ of)
+  own-seen : {seen : SheetCheck} → Ok seen ≡ seen_of book sheet → (same_sheet sheet (sheet_in book) ≡ true) × (seen ≡ of)
   own-seen {seen} q =
       by_bool (same_sheet sheet (sheet_in book))
-      (λ o. let z : Some seen ≡ Some of = q ∙ rw o in (o, cc))
-      (λ o. let z : None ≡ Some seen = sym (q ∙ rw o) in absurd (none-some _ z))
+      (λ o. let z : ◌≡◌ {A = Result SheetCheck SheetCheck} (Ok seen) (Ok of) = q ∙ rw o in (o, cc))
+      (λ o. let z : ◌≡◌ {A = Result SheetCheck SheetCheck} (Ok seen) (Err of) = q ∙ rw o in absurd cc)
 
-  not-own : None ≡ seen_of book sheet → is_own book sheet ≡ false
-  not-own q =
+  not-own : {seen : SheetCheck} → Err seen ≡ seen_of book sheet → is_own book sheet ≡ false
+  not-own {seen} q =
       by_bool (same_sheet sheet (sheet_in book))
-      (λ o. let z : None ≡ Some of = q ∙ rw o in absurd (none-some _ z))
+      (λ o. let z : ◌≡◌ {A = Result SheetCheck SheetCheck} (Err seen) (Ok of) = q ∙ rw o in absurd cc)
       (λ o. rw o (and_no (is_sound book)))
 
   -- one that is not is handed back with the book
   pub other-kept :
-      None ≡ seen_of book sheet → (handed : BookResult)
+      {seen : SheetCheck} → Err seen ≡ seen_of book sheet → (handed : BookResult)
       → record { result = record { answer = refuse 9 0 0; book = book }; sheet = sheet } ≡ kept_with book sheet handed
   unfolding kept_with
   other-kept q handed = rw (not-own q)
@@ -122,7 +121,7 @@ module _ (book : Book) (sheet : Sheet) where
         rw (mine, made.unsound s))
 
     pub step-kept :
-        {seen : SheetCheck} → Some seen ≡ seen_of book sheet → {handed : BookResult} → handed ≡ step → {next : Sheet}
+        {seen : SheetCheck} → Ok seen ≡ seen_of book sheet → {handed : BookResult} → handed ≡ step → {next : Sheet}
         → next ≡ cond (eqb handed.answer.code 0) (renewed_by seen.held handed.book.begin seen.before (standing_in handed.book) sheet) sheet
         → record { result = handed; sheet = next } ≡ kept_with book sheet step
     step-kept {seen} q {handed} h {next} k =
@@ -134,7 +133,7 @@ module _ (book : Book) (sheet : Sheet) where
 pub seen-is :
     (book : Book) (sheet : Sheet) → length book.holds ≡ 2048 → {all : Holders} → all ≡ holders_of book.holds → {now : Standing} → now ≡ standing_in book
     → {again : Sheet} → again ≡ sheet_by all.held book.begin now → {b : Bool} → b ≡ same_sheet sheet again
-    → cond b (Some (record { held = all.held; before = now })) None ≡ seen_of book sheet
+    → cond b (Ok (record { held = all.held; before = now })) (Err (record { held = all.held; before = now })) ≡ seen_of book sheet
 seen-is book sheet size {all} e {now} f {again} q {b} s =
     let fresh = fresh-is book.holds size book.tasks book.begin (book_view book) e f q in
-    λ i. cond ((s ∙ ap (same_sheet sheet) fresh) i) (Some (record { held = (e i).held; before = f i })) None
+    λ i. cond ((s ∙ ap (same_sheet sheet) fresh) i) (Ok (record { held = (e i).held; before = f i })) (Err (record { held = (e i).held; before = f i }))

@@ -1,13 +1,15 @@
 -- A report and a drop as steps of a book.
 use Prim.Native.Nat.{ℕ, ◌-◌}
+use native.Mathlib.Omega.{arith}
 use mathlib.Core.Path.{◌≡◌}
-use mathlib.Core.Bool.{false}
+use mathlib.Core.Bool.{true, false}
+use mathlib.Core.Logic.{◌≢◌}
 use Rattle.laws.proofs.Cases.{by_bool}
 use Rattle.plan.specs.Answer.{refuse, is_granted}
 use Rattle.book.specs.View.{plan_in}
 use Rattle.book.specs.Sound.{is_sound}
-use Rattle.book.specs.Report.{report_answer, reported_of}
-use Rattle.book.specs.Drop.{drop_answer, dropped_of}
+use Rattle.book.specs.Report.{code_of, report_answer, reported_of}
+use Rattle.book.specs.Drop.{drop_code_of, drop_answer, dropped_of}
 use Rattle.book.specs.declared.Book.{Book}
 use Rattle.book.proofs.Sizes.{plan-next, plan-dropped}
 use Rattle.ask_drives.proofs.Keep.{Step}
@@ -24,6 +26,21 @@ module _ (book : Book) (task tick : ℕ) where
   pub report-step : Step book (reported_of book task tick)
   report-step = record { unsound = unsound-report; plan = plan-reported }
 
+-- no task has the number 0: a report of it is refused, and the book stays
+module _ (book : Book) (tick : ℕ) where
+  none-reported : is_sound book ≡ true → reported_of book 0 tick ≡ record { answer = refuse 10 0 tick; book = book }
+  unfolding reported_of report_answer code_of
+  none-reported h = rw h
+
+  pub report-nobody : (reported_of book 0 tick).answer.code ≢ 0
+  report-nobody =
+      by_bool (is_sound book)
+      (λ s z. let e = rw (none-reported s) at z in omega (arith, e))
+      (λ s z. let e = rw (unsound-report book 0 tick s) at z in omega (arith, e))
+
+  pub report-unmoved : (reported_of book 0 tick).book ≡ book
+  report-unmoved = by_bool (is_sound book) (λ s. rw (none-reported s)) (λ s. rw (unsound-report book 0 tick s))
+
 module _ (book : Book) (task : ℕ) where
   unsound-drop : is_sound book ≡ false → dropped_of book task ≡ record { answer = refuse 9 0 0; book = book }
   unfolding dropped_of drop_answer
@@ -35,3 +52,18 @@ module _ (book : Book) (task : ℕ) where
 
   pub drop-step : Step book (dropped_of book task)
   drop-step = record { unsound = unsound-drop; plan = plan-kept }
+
+-- likewise a drop of the number 0
+module _ (book : Book) where
+  none_dropped : is_sound book ≡ true → dropped_of book 0 ≡ record { answer = refuse 10 0 0; book = book }
+  unfolding dropped_of drop_answer drop_code_of
+  none_dropped h = rw h
+
+  pub drop-nobody : (dropped_of book 0).answer.code ≢ 0
+  drop-nobody =
+      by_bool (is_sound book)
+      (λ s z. let e = rw (none_dropped s) at z in omega (arith, e))
+      (λ s z. let e = rw (unsound-drop book 0 s) at z in omega (arith, e))
+
+  pub drop-unmoved : (dropped_of book 0).book ≡ book
+  drop-unmoved = by_bool (is_sound book) (λ s. rw (none_dropped s)) (λ s. rw (unsound-drop book 0 s))

@@ -2,29 +2,24 @@
 ghost use Rattle.std.specs.Prelude.{◌≡◌, length};
 ghost use Rattle.ask_drives.specs.Sheets.{dropped_with};
 
-use crate::{BookAndSheet, SheetResult, kept_sheet, seen_in};
+use crate::{BookAndSheet, keep_sheet, seen_in};
 use ask_sheet::Sheet;
 use book::{Book, BookResult, drop_in_place};
 use plan::{Refusal, granted};
 
 // As `report_kept`.
 #[inline(never)]
-fn drop_kept(book: &mut Book, sheet: Sheet, task: u32) -> SheetResult
-    requires { length book.old.holds ≡ 2048 }
-    ensures { dropped_with book.old sheet task ≡ record { result = record { answer = result.answer; book = book.new }; sheet = result.sheet } }
+fn drop_kept(both: &mut BookAndSheet, task: u32)
+    requires { length both.old.result.book.holds ≡ 2048 }
+    ensures { both.new ≡ dropped_with both.old.result.book both.old.sheet task }
 {
-    let Some(seen) = seen_in(book, sheet) else {
-        return SheetResult {
-            answer: Refusal::Unsound.answer(0, 0),
-            sheet,
-        };
+    let Ok(seen) = seen_in(&both.result.book, both.sheet) else {
+        both.result.answer = Refusal::Unsound.answer(0, 0);
+        return;
     };
-    let answer = drop_in_place(book, task);
-    let next = kept_sheet(answer, sheet, &seen, book);
-    SheetResult {
-        answer,
-        sheet: next,
-    }
+    let answer = drop_in_place(&mut both.result.book, task);
+    both.result.answer = answer;
+    keep_sheet(&mut both.sheet, answer, &seen, &both.result.book);
 }
 
 pub fn drop_sheet(book: Book, sheet: Sheet, task: u32) -> BookAndSheet
@@ -37,8 +32,6 @@ pub fn drop_sheet(book: Book, sheet: Sheet, task: u32) -> BookAndSheet
         },
         sheet,
     };
-    let kept = drop_kept(&mut both.result.book, sheet, task);
-    both.result.answer = kept.answer;
-    both.sheet = kept.sheet;
+    drop_kept(&mut both, task);
     both
 }

@@ -39,7 +39,7 @@ pub struct OnDrive {
     pub next: u8,
 }
 
-// Who holds each drive, and who runs and who waits, of a book whose sheet is its own.
+// Who holds each drive, and who runs and who waits.
 #[derive(Drop)]
 pub struct SheetCheck {
     pub held: [u64; 32],
@@ -84,23 +84,24 @@ pub fn make_sheet(book: Book) -> SheetResult
     }
 }
 
-// What is looked at before a step, if the sheet is the book's. Who holds which drive is worked out once a call, since no step moves it.
+// What is looked at before a step, as a refusal where the sheet is not the book's. Who holds which drive is worked out once a call,
+// since no step moves it.
 #[inline(never)]
-pub fn seen_in(book: &Book, sheet: Sheet) -> Option<SheetCheck>
+pub fn seen_in(book: &Book, sheet: Sheet) -> Result<SheetCheck, SheetCheck>
     ensures { result ≡ seen_of book.now sheet }
 {
     let holders = holders_of(&book.holds);
     let before = standing(book);
-    if !is_same(sheet, fresh_sheet(&holders.held, &book.begin, before)) {
-        return None;
-    }
-    Some(SheetCheck {
+    let own = is_same(sheet, fresh_sheet(&holders.held, &book.begin, before));
+    let seen = SheetCheck {
         held: holders.held,
         before,
-    })
+    };
+    if own { Ok(seen) } else { Err(seen) }
 }
 
 // The sheet after an accepted step, by the book after it; else as it was.
+#[inline(always)]
 pub fn kept_sheet(answer: Answer, sheet: Sheet, seen: &SheetCheck, book: &Book) -> Sheet
     ensures { result ≡ cond (eqb answer.code 0) (renewed_by seen.now.held book.now.begin seen.now.before (standing_in book.now) sheet) sheet }
 {
@@ -110,24 +111,27 @@ pub fn kept_sheet(answer: Answer, sheet: Sheet, seen: &SheetCheck, book: &Book) 
     renew_sheet(sheet, &seen.held, &book.begin, seen.before, standing(book))
 }
 
-// A report where the book stands, and its sheet after it. A call of its own, so that the stack holds one book more.
+// The same where the sheet stands. A call of its own: its part of the stack is not there while the step is made.
 #[inline(never)]
-fn report_kept(book: &mut Book, sheet: Sheet, task: u32, tick: u32) -> SheetResult
-    requires { length book.old.holds ≡ 2048 }
-    ensures { reported_with book.old sheet task tick ≡ record { result = record { answer = result.answer; book = book.new }; sheet = result.sheet } }
+pub(crate) fn keep_sheet(sheet: &mut Sheet, answer: Answer, seen: &SheetCheck, book: &Book)
+    ensures { sheet.new ≡ cond (eqb answer.code 0) (renewed_by seen.now.held book.now.begin seen.now.before (standing_in book.now) sheet.old) sheet.old }
 {
-    let Some(seen) = seen_in(book, sheet) else {
-        return SheetResult {
-            answer: Refusal::Unsound.answer(0, 0),
-            sheet,
-        };
+    *sheet = kept_sheet(answer, *sheet, seen, book);
+}
+
+// A report where the book and its sheet stand. A call of its own, so that the stack holds one book more.
+#[inline(never)]
+fn report_kept(both: &mut BookAndSheet, task: u32, tick: u32)
+    requires { length both.old.result.book.holds ≡ 2048 }
+    ensures { both.new ≡ reported_with both.old.result.book both.old.sheet task tick }
+{
+    let Ok(seen) = seen_in(&both.result.book, both.sheet) else {
+        both.result.answer = Refusal::Unsound.answer(0, 0);
+        return;
     };
-    let answer = report_in_place(book, task, tick);
-    let next = kept_sheet(answer, sheet, &seen, book);
-    SheetResult {
-        answer,
-        sheet: next,
-    }
+    let answer = report_in_place(&mut both.result.book, task, tick);
+    both.result.answer = answer;
+    keep_sheet(&mut both.sheet, answer, &seen, &both.result.book);
 }
 
 pub fn report_sheet(book: Book, sheet: Sheet, task: u32, tick: u32) -> BookAndSheet
@@ -140,9 +144,7 @@ pub fn report_sheet(book: Book, sheet: Sheet, task: u32, tick: u32) -> BookAndSh
         },
         sheet,
     };
-    let kept = report_kept(&mut both.result.book, sheet, task, tick);
-    both.result.answer = kept.answer;
-    both.sheet = kept.sheet;
+    report_kept(&mut both, task, tick);
     both
 }
 
@@ -172,7 +174,7 @@ pub fn on_drive(book: Book, sheet: Sheet, drive: u32) -> OnDrive
     ensures { result ≡ on_drive_of book sheet drive }
 {
     let seen = seen_in(&book, sheet);
-    if !(is_sound(&book) & seen.is_some()) {
+    if !(is_sound(&book) & seen.is_ok()) {
         return refused(Refusal::Unsound.answer(0, 0));
     }
     if !((1 <= drive) & (drive <= 32)) {

@@ -5,7 +5,7 @@ use mathlib.Core.Option.{none, some}
 use mathlib.Core.Option as math
 use mathlib.Core.Path.{◌≡◌, refl, sym, ap, ◌∙◌}
 use mathlib.Core.List.{List}
-use Rattle.std.specs.Prelude.{Option, Some, None}
+use Rattle.std.specs.Prelude.{Option, Some, None, Ok, Err}
 use borrow.Author.Tests.{not-true, not-false}
 use Rattle.laws.proofs.Cases.{and_l}
 use Rattle.laws.proofs.Latest.{latest-same}
@@ -21,7 +21,7 @@ use Rattle.book.specs.View.{plan_in, plan_view, book_view}
 use Rattle.book.specs.Sound.{is_sound, judged_in}
 use Rattle.book.specs.declared.Book.{Book}
 use Rattle.book.proofs.Soundness.{is-sound-facts}
-use Rattle.book.proofs.WaitLaws.{unsound-none, sound-some}
+use Rattle.book.proofs.WaitLaws.{unsound-err, sound-ok}
 use Rattle.ask_exact.specs.Shown.{shown}
 use Rattle.ask_exact.specs.Step.{handed, plan_by}
 use Rattle.ask_exact.specs.Private.Step.{answered_by}
@@ -35,13 +35,13 @@ answered-is answer (some v) = refl
 
 module _ (book : Book) where
   pub exact-refused :
-      None ≡ judged_in book → {answer : Answer} → answer ≡ refuse 9 0 0 → {r : Exact} → r ≡ answered_by answer None → r ≡ exact_of book
+      {held : Option (List ℕ)} → Err held ≡ judged_in book → {answer : Answer} → answer ≡ refuse 9 0 0 → {r : Exact} → r ≡ answered_by answer None → r ≡ exact_of book
   unfolding exact_of
-  exact-refused w a q = q ∙ rw (a, unsound-none book w)
+  exact-refused w a q = q ∙ rw (a, unsound-err book w)
 
-  module _ {sets : List ℕ} (w : Some sets ≡ judged_in book) where
+  module _ {sets : List ℕ} (w : Ok sets ≡ judged_in book) where
     sound : is_sound book ≡ true
-    sound = (sound-some book w).0
+    sound = (sound-ok book w).0
 
     -- the sets say what the rule says
     by-sets : step_early (plan_by book sets) (book_view book) ≡ step_early (plan_view book) (book_view book)
@@ -49,7 +49,7 @@ module _ (book : Book) where
     by-sets =
         least-same book.tasks _ _ _ (λ i l.
         ap (λ (x : ℕ). (plan_view book).begin i - max (cond (is_dropped (book_view book).dropped i) 0 ((plan_view book).ready i)) x)
-        (latest-same book.tasks _ _ _ _ (λ j lj. agree book.rule (plan_in book) (and_l _ _ sound) (sound-some book w).1 i j l lj) (λ j lj h. refl)))
+        (latest-same book.tasks _ _ _ _ (λ j lj. agree book.rule (plan_in book) (and_l _ _ sound) (sound-ok book w).1 i j l lj) (λ j lj h. refl)))
 
     pub exact-granted :
         {answer : Answer} → answer ≡ granted → {figure : Option ℕ}

@@ -129,7 +129,7 @@ fn answered(answer: Answer, figure: Option<u32>) -> Exact
 pub fn exact_early(book: Book) -> Exact
     ensures { result ≡ exact_of book }
 {
-    let Some(waits) = judged(&book) else {
+    let Ok(waits) = judged(&book) else {
         return answered(Refusal::Unsound.answer(0, 0), None);
     };
     answered(granted(), step_early(&book, &waits))

@@ -16,8 +16,8 @@ use Rattle.plan.specs.Answer.{refuse, granted}
 use Rattle.plan.specs.Value.{at, is_accepted}
 use Rattle.book_view.specs.View.{is_rule, book_seen}
 use Rattle.book_view.proofs.Accepted.{plan-lawful}
-use Rattle.std.specs.Prelude.{Some, None}
-use Rattle.book.proofs.WaitLaws.{unsound-none, sound-some}
+use Rattle.std.specs.Prelude.{Option, Ok, Err}
+use Rattle.book.proofs.WaitLaws.{unsound-err, sound-ok}
 use Rattle.book_sound.proofs.WaitLaws.{few, agree}
 use Rattle.book.specs.View.{plan_in, plan_view}
 use Rattle.book.specs.Sound.{is_sound, judged_in}
@@ -51,13 +51,13 @@ module _ (tasks : ℕ) (ready begin finish from to : ℕ → ℕ) (these those :
       ∙ asked-started _ _ task f m))
 
 module _ (book : Book) (task : ℕ) where
-  pub why-unsound : {r : Chain} → r ≡ chained (refuse 9 0 0) [] → None ≡ judged_in book → r ≡ why_of book task
+  pub why-unsound : {r : Chain} → r ≡ chained (refuse 9 0 0) [] → {held : Option (List ℕ)} → Err held ≡ judged_in book → r ≡ why_of book task
   unfolding why_of
-  why-unsound q w = q ∙ rw (unsound-none book w)
+  why-unsound q w = q ∙ rw (unsound-err book w)
 
-  module _ {sets : List ℕ} (w : Some sets ≡ judged_in book) where
+  module _ {sets : List ℕ} (w : Ok sets ≡ judged_in book) where
     sound : is_sound book ≡ true
-    sound = (sound-some book w).0
+    sound = (sound-ok book w).0
 
     good : (is_accepted (plan_in book) && is_rule book.rule) ≡ true
     good = and_l (is_accepted (plan_in book) && is_rule book.rule) _ sound
@@ -73,7 +73,7 @@ module _ (book : Book) (task : ℕ) where
         (i j : ℕ) → i < book.tasks → j < book.tasks
         → (has (at sets i) j && ltb (at book.begin j) (at book.begin i)) ≡ (plan_view book).waits i j
     says i j li lj =
-        let same = agree book.rule (plan_in book) good (sound-some book w).1 i j li lj in
+        let same = agree book.rule (plan_in book) good (sound-ok book w).1 i j li lj in
         by_bool ((plan_view book).waits i j)
         (λ t. and-of (same ∙ t) (lt-ltb _ _ ((lawful-falls (plan_view book) lawful).sooner i j li lj t)) ∙ sym t)
         (λ f. rw (same ∙ f) (sym f))

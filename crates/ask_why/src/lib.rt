@@ -72,7 +72,7 @@ pub fn chain_by(book: &Book, waits: &[u64; 64], task: u32) -> Chain
 pub fn why(book: Book, task: u32) -> Chain
     ensures { result ≡ why_of book task }
 {
-    let Some(waits) = judged(&book) else {
+    let Ok(waits) = judged(&book) else {
         return no_chain(Refusal::Unsound.number(), 0);
     };
     chain_by(&book, &waits, task)

@@ -2,7 +2,7 @@
 use Prim.Native.Nat.{ℕ, zero, suc, ◌<◌, ◌≤◌, max}
 use native.Mathlib.Omega.{arith}
 use mathlib.Core.Bool.{false, cond, and_comm}
-use mathlib.Core.List.{List}
+use mathlib.Core.List.{List, []}
 use mathlib.Core.Path.{◌≡◌, refl, ap, ◌∙◌}
 use lib.ListN.{length}
 use borrow.Author.Tests.{le-ltb}
@@ -14,6 +14,7 @@ use Rattle.theory.proofs.Past.{past_skip, past-let-go}
 use Rattle.theory.proofs.Reflect.{all-ended-at}
 use Rattle.theory.proofs.Skip.{goes_at}
 use Rattle.plan.specs.Value.{at}
+use Rattle.book_view.specs.View.{plan_seen}
 use Rattle.book.specs.Private.Table.{SmallTable, goes_by_row, skips_by_row, round_by, rounds_by, starts_by, seen_as, moved_to, TableTo, Closed, Past, Fit}
 use Rattle.book.specs.declared.StepArrays.{StepArrays}
 use Rattle.book.proofs.StartLaws.{put-at, length-put, go-by-row}
@@ -33,6 +34,12 @@ closed-skip plan book closed i j li lj n w =
   where
     ended-on : book.mark j ≡ 2 → cond (skips plan book j) 2 (book.mark j) ≡ 2
     ended-on e = by_bool (skips plan book j) (λ h. rw h) (λ h. rw h e)
+
+-- the table looks at no ready tick
+pub seen-rows :
+    (tasks : ℕ) (ready finish waits : List ℕ) (board mark : ℕ → ℕ) (n : ℕ) (table : List (List ℕ))
+    → TableTo (plan_seen tasks [] [] finish waits) board mark n table → TableTo (plan_seen tasks ready [] finish waits) board mark n table
+seen-rows tasks ready finish waits board mark n table t = record { rows = λ i l z. record { cells = (t.rows i l z).cells } }
 
 module _ (plan : Plan) (board : ℕ → ℕ) (dropped : List ℕ) (clock : ℕ) (table : List (List ℕ)) where
   -- what the rounds and the starts keep

@@ -4,8 +4,8 @@ use mathlib.Core.Bool.{Bool, true, false, not, cond, ◌&&◌}
 use mathlib.Core.List.{List, []}
 use mathlib.Core.Path.{◌≡◌, sym, ap, ◌∙◌}
 use mathlib.Core.Logic.{⊎_elim, inl, inr}
-use Rattle.std.specs.Prelude.{Option, Some, None}
-use Rattle.std.specs.Option.{is_some}
+use Rattle.std.specs.Prelude.{Option, Result, Ok, Err}
+use Rattle.std.specs.Result.{is_ok}
 use Rattle.laws.proofs.Cases.{by_bool, and_l}
 use Rattle.theory.specs.Plan as theory-plan
 use Rattle.theory.specs.Book as theory-book
@@ -19,7 +19,7 @@ use Rattle.book_view.specs.Shown.{plan_shown, book_shown}
 use Rattle.book_view.specs.declared.BookView.{BookView}
 use Rattle.book_waits.specs.Waits.{sets_by}
 use Rattle.book_sound.specs.Sound.{sound_waits}
-use Rattle.book_sound.proofs.WaitLaws.{agree, none-sound, some-sound}
+use Rattle.book_sound.proofs.WaitLaws.{agree, err-sound, ok-sound}
 use Rattle.book.specs.View.{plan_in, plan_view, book_view, shown}
 use Rattle.book.specs.Sound.{is_sound, judged_in}
 use Rattle.book.specs.Report.{code_of}
@@ -30,16 +30,16 @@ use Rattle.book.specs.declared.StepArrays.{StepArrays}
 
 -- a book that is judged
 module _ (book : Book) where
-  pub its-soundness : is_some (judged_in book) ≡ is_sound book
+  pub its-soundness : is_ok (judged_in book) ≡ is_sound book
   unfolding sound_waits
   its-soundness = by_bool (is_sound book) (λ t. rw t) (λ f. rw f)
 
-  pub unsound-none : None ≡ judged_in book → is_sound book ≡ false
-  unsound-none w = none-sound book.rule (plan_in book) book.mark book.start book.end book.dropped book.clock (sym w)
+  pub unsound-err : {held : Option (List ℕ)} → Err held ≡ judged_in book → is_sound book ≡ false
+  unsound-err w = err-sound book.rule (plan_in book) book.mark book.start book.end book.dropped book.clock (sym w)
 
-  pub sound-some : {sets : List ℕ} → Some sets ≡ judged_in book → (is_sound book ≡ true) × (sets ≡ sets_by book.rule (plan_in book))
-  sound-some w =
-      let known = some-sound book.rule (plan_in book) book.mark book.start book.end book.dropped book.clock (sym w) in (known.0, sym known.1)
+  pub sound-ok : {sets : List ℕ} → Ok sets ≡ judged_in book → (is_sound book ≡ true) × (sets ≡ sets_by book.rule (plan_in book))
+  sound-ok w =
+      let known = ok-sound book.rule (plan_in book) book.mark book.start book.end book.dropped book.clock (sym w) in (known.0, sym known.1)
 
 -- what is judged where the book stands
 module _ (v : BookView) {book : Book} (s : shown v ≡ book) where
@@ -60,7 +60,7 @@ module _ (v : BookView) {book : Book} (s : shown v ≡ book) where
       {early : ℕ} → early ≡ minimum_early (plan_shown v) (book_shown v) → early ≡ minimum_early (plan_view book) (book_view book)
   its-figure e = e ∙ ap (λ (b : Book). minimum_early (plan_view b) (book_view b)) s
 
-  pub its-judged : {judged : Option (List ℕ)} → judged ≡ judged_in (shown v) → judged ≡ judged_in book
+  pub its-judged : {judged : Result (List ℕ) (Option (List ℕ))} → judged ≡ judged_in (shown v) → judged ≡ judged_in book
   its-judged e = e ∙ ap judged_in s
 
 -- a code once it is known whether the book is sound

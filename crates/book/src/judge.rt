@@ -18,7 +18,7 @@ pub(crate) fn judge_report(book: &BookView<'_>, task: u32, tick: u32) -> Result<
     ensures code { number_in result ≡ cond (not (is_sound (shown book.now))) 9 (code_of (shown book.now) task tick) }
     ensures sets { IfOk result (λ sets. sets ≡ sets_by book.now.rule (viewed book.now.plan)) }
 {
-    let Some(waits) = sound_waits(book) else {
+    let Ok(waits) = sound_waits(book) else {
         return Err(Refusal::Unsound);
     };
     check_report(book, task, tick)?;
@@ -29,7 +29,7 @@ pub(crate) fn judge_report(book: &BookView<'_>, task: u32, tick: u32) -> Result<
 pub(crate) fn judge_drop(book: &BookView<'_>, task: u32) -> Result<(), Refusal>
     ensures { number_in result ≡ cond (not (is_sound (shown book.now))) 9 (drop_code_of (shown book.now) task) }
 {
-    if sound_waits(book).is_none() {
+    if sound_waits(book).is_err() {
         return Err(Refusal::Unsound);
     }
     check_drop(book, task)

@@ -98,8 +98,8 @@ pub fn answer_of(code: u32, first: u32, second: u32) -> Answer
     refuse(code, first, second)
 }
 
-// The wait sets of a book's tasks; none where it is not sound: the test of code 9.
-pub fn judged(book: &Book) -> Option<[u64; 64]>
+// The wait sets of a book's tasks, as a refusal where it is not sound: the test of code 9.
+pub fn judged(book: &Book) -> Result<[u64; 64], Option<[u64; 64]>>
     ensures { result ≡ judged_in book.now }
 {
     sound_waits(&book.view())
@@ -108,7 +108,7 @@ pub fn judged(book: &Book) -> Option<[u64; 64]>
 pub fn is_sound(book: &Book) -> bool
     ensures { result ≡ is_sound book.now }
 {
-    judged(book).is_some()
+    judged(book).is_ok()
 }
 
 // The book's own arrays are lent, and there is one way out, so that the stack holds one copy of it.
@@ -212,7 +212,7 @@ impl Book {
         ensures { result ≡ figure_of self }
     {
         let view = self.view();
-        if sound_waits(&view).is_none() {
+        if sound_waits(&view).is_err() {
             return Figure {
                 answer: Refusal::Unsound.answer(0, 0),
                 early: 0,

@@ -3,7 +3,7 @@ use Prim.Native.Nat.{ℕ, ◌<◌, ◌≤◌}
 use mathlib.Core.Bool.{Bool, true, false, ◌&&◌}
 use mathlib.Core.List.{List}
 use mathlib.Core.Path.{◌≡◌, sym, ap, ◌∙◌}
-use Rattle.std.specs.Prelude.{Some, None}
+use Rattle.std.specs.Prelude.{Option, Some, None, Result, Ok, Err}
 use Rattle.std.proofs.lemmas.Option.{none-some, cond_some}
 use Rattle.laws.proofs.Cases.{by_bool, and_l}
 use Rattle.laws.specs.Bits.{has, set_of}
@@ -47,18 +47,24 @@ module _ (rule : ℕ) (plan : Plan) where
     abbrev pub sound : Bool
     sound = good && sound_on (plan_for rule plan) mark start end dropped clock
 
-    -- whether a book has them
-    pub none-sound : sound_waits rule plan mark start end dropped clock ≡ None → sound ≡ false
+    -- whether they are those of a sound book
+    pub err-sound : {held : Option (List ℕ)} → sound_waits rule plan mark start end dropped clock ≡ Err held → sound ≡ false
     unfolding sound_waits
-    none-sound w = by_bool sound (λ t. absurd (none-some (sets_by rule plan) (sym w ∙ rw t))) (λ f. f)
+    err-sound {held} w =
+        by_bool sound
+        (λ t. let q : ◌≡◌ {A = Result (List ℕ) (Option (List ℕ))} (Ok (sets_by rule plan)) (Err held) = rw t at w in absurd cc)
+        (λ f. f)
 
-    pub some-sound : {sets : List ℕ} → sound_waits rule plan mark start end dropped clock ≡ Some sets → (sound ≡ true) × (sets_by rule plan ≡ sets)
+    pub ok-sound : {sets : List ℕ} → sound_waits rule plan mark start end dropped clock ≡ Ok sets → (sound ≡ true) × (sets_by rule plan ≡ sets)
     unfolding sound_waits
-    some-sound {sets} w = cond_some sound (sets_by rule plan) sets w
+    ok-sound {sets} w =
+        by_bool sound
+        (λ t. let q : ◌≡◌ {A = Result (List ℕ) (Option (List ℕ))} (Ok (sets_by rule plan)) (Ok sets) = rw t at w in (t, cc))
+        (λ f. let q : ◌≡◌ {A = Result (List ℕ) (Option (List ℕ))} (Err (waits_of rule plan)) (Ok sets) = rw f at w in absurd cc)
 
-    pub not-known : waits_of rule plan ≡ None → None ≡ sound_waits rule plan mark start end dropped clock
+    pub not-known : waits_of rule plan ≡ None → Err None ≡ sound_waits rule plan mark start end dropped clock
     unfolding sound_waits
-    not-known w = rw (none-known w)
+    not-known w = rw (none-known w, w)
 
     module _ {sets : List ℕ} (w : waits_of rule plan ≡ Some sets) where
       seen :
@@ -71,14 +77,14 @@ module _ (rule : ℕ) (plan : Plan) where
           (agree known.0 (sym known.1)) (book_seen mark start end dropped clock))
 
       module _ {ok : Bool} (e : ok ≡ sound_on (plan_seen plan.tasks plan.ready plan.begin plan.finish sets) mark start end dropped clock) where
-        pub judged-sound : ok ≡ true → Some sets ≡ sound_waits rule plan mark start end dropped clock
+        pub judged-sound : ok ≡ true → Ok sets ≡ sound_waits rule plan mark start end dropped clock
         unfolding sound_waits
         judged-sound t =
             let known = some-known w in
             rw (known.0, sym (seen) ∙ sym e ∙ t, known.1)
 
-        pub judged-unsound : ok ≡ false → None ≡ sound_waits rule plan mark start end dropped clock
+        pub judged-unsound : ok ≡ false → Err (Some sets) ≡ sound_waits rule plan mark start end dropped clock
         unfolding sound_waits
         judged-unsound f =
             let known = some-known w in
-            rw (known.0, sym (seen) ∙ sym e ∙ f)
+            rw (known.0, sym (seen) ∙ sym e ∙ f, w)

@@ -123,13 +123,16 @@ fn is_sound(book: &BookView<'_>, waits: &[u64; 64]) -> bool
     book.clock == last_end(book)
 }
 
-// The wait sets of a book's tasks by its rule; none where the book is not sound: the test of code 9, in one call.
-pub fn sound_waits(book: &BookView<'_>) -> Option<[u64; 64]>
+// The wait sets of a book's tasks by its rule: the test of code 9, in one call. Where the book is not sound they are the refusal,
+// which has none where its plan is not accepted or its rule is none of the two.
+pub fn sound_waits(book: &BookView<'_>) -> Result<[u64; 64], Option<[u64; 64]>>
     ensures { result ≡ sound_waits book.now.rule (viewed book.now.plan) book.now.mark.now book.now.start.now book.now.end.now book.now.dropped.now book.now.clock }
 {
-    let waits = wait_sets(book.rule, &book.plan)?;
+    let Some(waits) = wait_sets(book.rule, &book.plan) else {
+        return Err(None);
+    };
     if is_sound(book, &waits) {
-        return Some(waits);
+        return Ok(waits);
     }
-    None
+    Err(Some(waits))
 }

@@ -1,19 +1,30 @@
 -- The fronts of the buffers that the program prints.
-use Prim.Native.Nat.{ℕ, ◌≤◌}
+use Prim.Native.Nat.{ℕ, ◌+◌, ◌≤◌}
 use mathlib.Core.Path.{◌≡◌, ap, ◌∙◌}
 use mathlib.Core.List.{List}
 use native.Mathlib.Omega.{arith}
+use lib.Dec.{leb}
 use lib.Seq.{sets, length-sets}
 use lib.ListN.{length, take}
+use borrow.Author.Tests.{leb-true}
+use Rattle.laws.proofs.Cases.{by_bool}
 use Rattle.io.specs.Counts.{IsPrefixLen}
 use Rattle.io.proofs.Counting.{prefix_len_of_le}
 use Rattle.laws.proofs.Sets.{front-is}
+use Rattle.text.specs.Put.{Put}
 use Rattle.log_run.specs.Log.{log_most}
 use Rattle.desk_turns.specs.Turns.{Turned, Took}
 use Rattle.desk_turns.specs.declared.Turn.{Turn}
 use Rattle.desk_start.specs.Start.{start_log, begun_of}
 use Rattle.desk_start.specs.declared.DeskOpening.{DeskOpening}
 use Rattle.desk.specs.Printed.{TurnIs}
+
+-- a place stays within the buffer
+pub put-le : {out : List ℕ} {at : ℕ} {text written : List ℕ} {r : ℕ} → at ≤ length out → Put out at text written r → r ≤ length out
+put-le {out} {at} {text} h w =
+    by_bool (leb (at + length text) (length out))
+    (λ e. let q = rw e at w.place in omega (arith, q, leb-true (at + length text) (length out) e))
+    (λ e. let q = rw e at w.place in omega (arith, q))
 
 module _ {out : List ℕ} {turned : Turned} {written : List ℕ} {r : Turn} (size : length out ≡ 3432) (took : Took out turned written r) where
   pub turn-within : IsPrefixLen r.length written

@@ -1,5 +1,5 @@
 // Lines kept in ends.txt. What is said here of the disk is the system's word; no contract can say it.
-ghost use Rattle.std.specs.Prelude.{◌≡◌, ◌++◌, ◌∷◌, []};
+ghost use Rattle.std.specs.Prelude.{◌≡◌, ◌≤◌, ◌++◌, ◌∷◌, []};
 
 use crate::TypedLine;
 use arrayvec::ArrayVec;
@@ -67,7 +67,9 @@ fn cut_to(rt: &impl Files, length: usize) -> io::Result<()> {
 }
 
 // What stands past so many bytes was never answered.
-pub(crate) fn cut(rt: &(impl Files + Say), length: usize) -> Result<(), Told> {
+pub(crate) fn cut(rt: &(impl Files + Say), length: usize) -> Result<(), Told>
+    requires { length ≤ 32769 }
+{
     or_tell(rt, ENDS.as_bytes(), cut_to(rt, length))?;
     rt.say(b"note: what followed the last LF of ends.txt was never answered, and is cut off\n");
     Ok(())

@@ -3,7 +3,7 @@
 
 mod keeping;
 
-ghost use Rattle.std.specs.Prelude.{◌≡◌, take};
+ghost use Rattle.std.specs.Prelude.{◌≡◌, ◌≤◌, take};
 ghost use Rattle.io.specs.Counts.{IsPrefixLen};
 ghost use Rattle.desk_turns.specs.Turns.{turn_of};
 ghost use Rattle.desk_start.specs.Start.{start_log, begun_of};
@@ -117,7 +117,9 @@ fn listen(rt: &(impl Input + Files + Print + Say), morning: Morning) -> Result<(
 }
 
 // What follows the last LF of ends.txt is cut off, where the desk goes on.
-fn cut_tail(rt: &(impl Files + Say), begun: &DeskOpening, length: usize) -> Result<(), Told> {
+fn cut_tail(rt: &(impl Files + Say), begun: &DeskOpening, length: usize) -> Result<(), Told>
+    requires { length ≤ 32769 }
+{
     match begun.way {
         Way::Goes if begun.morning.kept < length => cut(rt, begun.morning.kept),
         Way::Goes | Way::Refused | Way::Stops => Ok(()),

@@ -7,7 +7,7 @@ use mathlib.Core.List.{List, [], ◌∷◌}
 use native.Mathlib.Omega.{arith}
 use lib.Dec.{eqb}
 use lib.ListN.{length}
-use borrow.Author.Tests.{eqb-false, lt-ltb, le-ltb}
+use borrow.Author.Tests.{eq-eqb, eqb-false, lt-ltb, le-ltb}
 use Rattle.laws.proofs.Cases.{by_bool, by_le}
 use Rattle.laws.specs.Lists.{all_of, same}
 use Rattle.text.specs.Bytes.{bytes}
@@ -16,7 +16,8 @@ use Rattle.text.specs.Line.{field}
 use Rattle.std.specs.Prelude.{Option, Result, Ok, IsOk}
 use Rattle.std.specs.Result.{result_err}
 use Rattle.text_fields.specs.Faults.{Fault, word_code, field_code, end_code, field_codes, line_codes, fault_of, unless_fault, ranged_read}
-use Rattle.text_fields.specs.Said.{fault_number, code_in, codes_in, ranged_in}
+use Rattle.text_fields.specs.Said.{fault_number, code_in, ranged_in}
+use Rattle.text_fields.proofs.Codes.{codes_in}
 use Rattle.text_fields.specs.declared.FieldFault.{FieldFault}
 use Rattle.text_fields.proofs.RangedLaws.{err-code, ok-there, ok-value}
 use Rattle.text_fields.proofs.FaultLaws.{zero-at, column-most, number-some}
@@ -73,6 +74,11 @@ number_is line g x n e = ok-value 0 most (field line 1) x (rw g at n) e
 -- the refusal of a faulty line
 pub unless-no : (kind : FieldFault) (column : ℕ) (asked : DeskLine) → refused_by (fault_number kind) column ≡ unless_fault (record { code = fault_number kind; column = column }) refused_by asked
 unless-no kind column asked = rw (number-some kind)
+
+-- a faultless line asks what it says
+module _ (fault : Fault) (asked : DeskLine) where
+  pub unless-yes : fault.code ≡ 0 → asked ≡ unless_fault fault refused_by asked
+  unless-yes z = rw (eq-eqb fault.code 0 z)
 
 -- ---- the word
 

@@ -10,7 +10,7 @@ ghost use Rattle.desk_read.specs.Asked.{asked};
 ghost use Rattle.desk_read.specs.Lines.{word_asked, asked_of};
 
 use log_read::rules::read_choice;
-use log_read::{Choice, Entry, read_entry};
+use log_read::{Choice, Entry, LineFault, read_entry};
 use text::decimal::NUMBER_MOST;
 use text::part::{field, same};
 use text_fields::faults::{check_line, end_fault, read_ranged, word_fault};
@@ -55,7 +55,7 @@ fn read_number(line: &[u8], word: &[u8], ended: bool) -> Result<u32, Fault>
 }
 
 // By its word; any other is an `end` or a `drop` line. `ended` as above.
-fn by_word(line: &[u8], ended: bool) -> Result<DeskLine, Fault>
+fn by_word(line: &[u8], ended: bool) -> Result<DeskLine, LineFault>
     ensures { asked result ≡ word_asked ended line.now }
 {
     let word = field(line, 0);
@@ -83,15 +83,22 @@ fn by_word(line: &[u8], ended: bool) -> Result<DeskLine, Fault>
     Ok(DeskLine::Step(entry))
 }
 
+// A line that is misspelt there.
+fn misspelt(column: usize) -> LineFault
+    ensures { result ≡ record { number = 3; column = column } }
+{
+    LineFault {
+        number: FieldFault::Misspelt.number(),
+        column,
+    }
+}
+
 // A line without its LF and whether it had one, and whether the rule may still be chosen.
-pub fn read_asked(line: &[u8], ended: bool, free: bool) -> Result<DeskLine, Fault>
+pub fn read_asked(line: &[u8], ended: bool, free: bool) -> Result<DeskLine, LineFault>
     ensures { asked result ≡ asked_of free ended line.now }
 {
     if TYPED_MOST < line.len() {
-        return Err(Fault {
-            kind: FieldFault::Misspelt,
-            column: TYPED_MOST + 1,
-        });
+        return Err(misspelt(TYPED_MOST + 1));
     }
     if !free {
         return by_word(line, ended);
@@ -99,9 +106,6 @@ pub fn read_asked(line: &[u8], ended: bool, free: bool) -> Result<DeskLine, Faul
     match read_choice(line, ended) {
         Ok(Choice::Unsaid) => by_word(line, ended),
         Ok(Choice::Chosen) => Ok(DeskLine::Rule),
-        Err(column) => Err(Fault {
-            kind: FieldFault::Misspelt,
-            column,
-        }),
+        Err(column) => Err(misspelt(column)),
     }
 }

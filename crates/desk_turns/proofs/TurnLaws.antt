@@ -10,7 +10,7 @@ use lib.ListN.{length}
 use borrow.Author.Tests.{eq-eqb, ne_eqb, le-leb, lt-leb, leb-true}
 use Rattle.laws.proofs.Cases.{by_le, by-eq}
 use Rattle.std.specs.Prelude.{Result, Ok}
-use Rattle.text_fields.specs.declared.Fault.{Fault}
+use Rattle.log_read.specs.declared.LineFault.{LineFault}
 use Rattle.plan.specs.Answer.{refuse}
 use Rattle.plan.specs.declared.Answer.{Answer}
 use Rattle.plan.specs.declared.Plan.{Plan}
@@ -179,7 +179,7 @@ module _ (morning : Morning) (size : ℕ) {room : Bool} (e : room ≡ leb (morni
 
 -- ---- what the code tells apart by a match
 
-pub asks : {r : Result line.DeskLine Fault} {this that : line.DeskLine} → r ≡ Ok this → this ≡ that → asked r ≡ asked (Ok that)
+pub asks : {r : Result line.DeskLine LineFault} {this that : line.DeskLine} → r ≡ Ok this → this ≡ that → asked r ≡ asked (Ok that)
 asks p q = ap asked p ∙ ap (λ (x : line.DeskLine). asked (Ok x)) q
 
 -- ---- the whole line

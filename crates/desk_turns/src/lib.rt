@@ -15,14 +15,13 @@ use desk_answers::drive::answer_drive;
 use desk_answers::running::answer_now;
 use desk_answers::{answer_early, answer_exact, answer_refused};
 use desk_read::{DeskLine, read_asked};
-use log_read::Entry;
+use log_read::{Entry, LineFault};
 use log_run::answers::{log_entry, log_opening};
 use log_run::told::tell_entry;
 use log_run::{LogResult, StepOutcome};
 use log_write::ANSWER_MOST;
 use plan::{Answer, Plan, Refusal};
 use text::TEXT_MOST;
-use text_fields::Fault;
 
 // The book, and how many bytes ends.txt has.
 #[derive(Clone, Copy)]
@@ -95,7 +94,7 @@ fn take_entry(
     morning: Morning,
     number: u32,
     size: usize,
-    entry: Result<Entry, Fault>,
+    entry: Result<Entry, LineFault>,
     out: &mut [u8; ANSWER_MOST],
 ) -> Turn
     requires { Short (said entry) }

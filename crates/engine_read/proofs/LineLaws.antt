@@ -15,7 +15,8 @@ use Rattle.text.specs.Bytes.{bytes}
 use Rattle.text.specs.Line.{LF, field}
 use Rattle.text.specs.Number.{most}
 use Rattle.text_fields.specs.Faults.{field_code, ranged_read, word_code, end_code, field_codes, fault_of}
-use Rattle.text_fields.specs.Said.{fault_number, code_in, codes_in, ranged_in, fault_in}
+use Rattle.text_fields.specs.Said.{fault_number, code_in, ranged_in, fault_in}
+use Rattle.text_fields.proofs.Codes.{codes_in}
 use Rattle.text_fields.specs.declared.FieldFault.{FieldFault}
 use Rattle.text_fields.specs.declared.Fault.{Fault}
 use Rattle.text_fields.proofs.RangedLaws.{err-code, ok-there, ok-value}

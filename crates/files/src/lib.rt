@@ -99,6 +99,16 @@ fn read_file(rt: &impl Files, path: &[u8], text: &mut [u8]) -> io::Result<usize>
     read_open(open(rt, path)?, text)
 }
 
+// Of a file that cannot be opened: a missing one counts as empty.
+fn unopened(error: Error) -> io::Result<usize>
+    ensures { IfOk result (λ length. length ≡ 0) }
+{
+    if error.kind() == ErrorKind::NotFound {
+        return Ok(0);
+    }
+    Err(error)
+}
+
 // Reads as much of a file as the buffer holds. A missing file counts as empty.
 pub fn read_text<'t>(
     rt: &(impl Files + Say),
@@ -109,8 +119,7 @@ pub fn read_text<'t>(
 {
     let read = match open(rt, path) {
         Ok(file) => read_open(file, text),
-        Err(error) if error.kind() == ErrorKind::NotFound => Ok(0),
-        Err(error) => Err(error),
+        Err(error) => unopened(error),
     };
     let length = or_tell(rt, path, read)?;
     Ok(&text[..length])

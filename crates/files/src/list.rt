@@ -5,15 +5,12 @@ use crate::read_piece;
 use crate::say::{Say, Told};
 use text::part::LF;
 
-const PART: usize = 4096;
-
-// A part of the list, of which the bytes before `at` are taken. Memory is fixed: std's `BufReader` needs a heap.
+// What is left of the part of the list that the caller lends: its bytes from `at` to `filled`. Memory is fixed: std's `BufReader`
+// needs a heap.
 #[derive(Drop)]
 pub struct ListPart {
-    bytes: [u8; PART],
-    at: usize,
-    filled: usize,
-    ghost within: { filled ≤ 4096 },
+    pub at: usize,
+    pub filled: usize,
 }
 
 // A line of the list; of one that is longer than the room for it, as much as there is room for, which is said.
@@ -26,25 +23,21 @@ pub struct Line<'n> {
 impl ListPart {
     // Of a list of which nothing is read yet.
     pub fn new() -> ListPart
-        ensures { (result.at ≡ 0) × (result.filled ≡ 0) }
+        ensures { result ≡ record { at = 0; filled = 0 } }
     {
-        ListPart {
-            bytes: [0; PART],
-            at: 0,
-            filled: 0,
-        }
+        ListPart { at: 0, filled: 0 }
     }
 
-    // The next byte, and none at the end of the list. Where the part has been taken, the next one is read.
-    fn next(&mut self, rt: &(impl Input + Say)) -> Result<Option<u8>, Told> {
-        if self.at >= self.filled {
-            self.filled = read_piece(rt, &mut self.bytes)?.len();
+    // The next byte, and none at the end of the list. Where the part has been taken, or is not so long, the next one is read.
+    fn next(&mut self, rt: &(impl Input + Say), part: &mut [u8]) -> Result<Option<u8>, Told> {
+        if self.at >= self.filled || self.filled > part.len() {
+            self.filled = read_piece(rt, part)?.len();
             self.at = 0;
         }
         if self.filled == 0 {
             return Ok(None);
         }
-        let byte = self.bytes[self.at];
+        let byte = part[self.at];
         self.at += 1;
         Ok(Some(byte))
     }
@@ -54,11 +47,12 @@ impl ListPart {
         &mut self,
         rt: &(impl Input + Say),
         name: &'n mut [u8],
+        part: &mut [u8],
     ) -> Result<Option<Line<'n>>, Told>
         ensures { IfOk result (λ found. IfSome found (λ line. length line.name.now ≤ length name.old)) }
     {
         let mut length = 0;
-        while let Some(byte) = self.next(rt)? {
+        while let Some(byte) = self.next(rt, part)? {
             let ends = byte == LF;
             if ends || length >= name.len() {
                 return Ok(Some(Line {

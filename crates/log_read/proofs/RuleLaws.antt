@@ -11,7 +11,8 @@ use Rattle.laws.specs.Split.{index_of}
 use Rattle.text.specs.Bytes.{bytes}
 use Rattle.text.specs.Line.{LF, field}
 use Rattle.text_fields.specs.Faults.{word_code, end_code, field_codes, fault_of}
-use Rattle.text_fields.specs.Said.{code_in, codes_in, fault_in}
+use Rattle.text_fields.specs.Said.{code_in, fault_in}
+use Rattle.text_fields.proofs.Codes.{codes_in}
 use Rattle.text_fields.specs.declared.FieldFault.{FieldFault}
 use Rattle.text_fields.specs.declared.Fault.{Fault}
 use Rattle.text_fields.proofs.UnlessLaws.{refuses, says}

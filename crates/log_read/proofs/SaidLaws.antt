@@ -2,8 +2,7 @@
 use Prim.Native.Nat.{ℕ}
 use mathlib.Core.Path.{◌≡◌, refl, sym, ap, ◌∙◌}
 use Rattle.std.specs.Prelude.{Result, Ok, Err}
-use Rattle.text_fields.specs.declared.Fault.{Fault}
-use Rattle.text_fields.proofs.SaidLaws.{kind_for, of-fault}
+use Rattle.log_read.specs.declared.LineFault.{LineFault}
 use Rattle.log_read.specs.Said.{Entry, Choice, said, chosen}
 use Rattle.log_read.specs.Said.Entry.{End, Drop, Refused}
 use Rattle.log_read.specs.Said.Choice.{Unsaid, Chosen, Malformed}
@@ -12,17 +11,17 @@ use Rattle.log_read.specs.declared.Entry.TheVariants as read
 use Rattle.log_read.specs.declared.Choice as choice
 use Rattle.log_read.specs.declared.Choice.TheVariants as first
 
-abbrev answer_of : Entry → Result entry.Entry Fault
+abbrev answer_of : Entry → Result entry.Entry LineFault
 answer_of (End task tick) = Ok (read.End task tick)
 answer_of (Drop task) = Ok (read.Drop task)
-answer_of (Refused code column) = Err (record { kind = kind_for code; column = column })
+answer_of (Refused code column) = Err (record { number = code; column = column })
 
-of-said : (r : Result entry.Entry Fault) → answer_of (said r) ≡ r
+of-said : (r : Result entry.Entry LineFault) → answer_of (said r) ≡ r
 of-said (Ok (read.End task tick)) = refl
 of-said (Ok (read.Drop task)) = refl
-of-said (Err fault) = ap (λ (f : Fault). Err f) (of-fault fault)
+of-said (Err fault) = refl
 
-pub said-whole : (a b : Result entry.Entry Fault) → said a ≡ said b → a ≡ b
+pub said-whole : (a b : Result entry.Entry LineFault) → said a ≡ said b → a ≡ b
 said-whole a b e = sym (of-said a) ∙ ap answer_of e ∙ of-said b
 
 abbrev first_of : Choice → Result choice.Choice ℕ

@@ -18,14 +18,13 @@ use Rattle.text.specs.Line.{LF, has_line, fields, field}
 use Rattle.text.specs.Number.{is_number, most}
 use Rattle.std.specs.Prelude.{Result, Ok, Err, is_err}
 use Rattle.text.specs.Number.{value_of}
-use Rattle.text_fields.specs.declared.Fault as line
-use Rattle.text_fields.specs.Said.{fault_number}
 use Rattle.text_fields.specs.Faults.{Fault, field_codes, worst, fault_of, unless_fault}
 use Rattle.text_fields.proofs.RangedLaws.{field-zero}
 use Rattle.text_fields.proofs.FaultLaws.{is_code, faultless-is, word-zero, end-zero, zero-at}
 use Rattle.log_read.specs.Entries.{end_codes, drop_codes, entry_of, next_entry, entry_code}
 use Rattle.log_read.specs.Said.{Entry, said}
 use Rattle.log_read.specs.Said.Entry.{End, Drop, Refused}
+use Rattle.log_read.specs.declared.LineFault.{LineFault}
 use Rattle.log_read.specs.declared.Entry as entry
 use Rattle.log_read.specs.declared.Entry.TheVariants as read
 use Rattle.log_read.proofs.EntryLaws.{end-kinds, drop-kinds}
@@ -137,11 +136,11 @@ next-refused : (s : List ℕ) {code column : ℕ} → next_entry s ≡ Refused c
 unfolding next_entry
 next-refused s e = refused-code (has_line s) (before LF s) e
 
-pub stops-code : (s : List ℕ) (r : Result entry.Entry line.Fault) → said r ≡ next_entry s → is_err r ≡ true → entry_code (next_entry s) ≢ 0
+pub stops-code : (s : List ℕ) (r : Result entry.Entry LineFault) → said r ≡ next_entry s → is_err r ≡ true → entry_code (next_entry s) ≢ 0
 stops-code s (Ok entry) e h = true-false h refl
-stops-code s (Err fault) e h = λ z. let z' : fault_number fault.kind ≡ 0 = rw (← e) at z in next-refused s (sym e) z'
+stops-code s (Err fault) e h = λ z. let z' : fault.number ≡ 0 = rw (← e) at z in next-refused s (sym e) z'
 
-pub goes-code : (s : List ℕ) (r : Result entry.Entry line.Fault) → said r ≡ next_entry s → is_err r ≡ false → entry_code (next_entry s) ≡ 0
+pub goes-code : (s : List ℕ) (r : Result entry.Entry LineFault) → said r ≡ next_entry s → is_err r ≡ false → entry_code (next_entry s) ≡ 0
 goes-code s (Ok (read.End task tick)) e h = ap entry_code (sym e)
 goes-code s (Ok (read.Drop task)) e h = ap entry_code (sym e)
 goes-code s (Err fault) e h = true-false refl h

@@ -1,7 +1,6 @@
 -- What a line of ends.txt says, refusals too, and that a reader's answer says the same: nothing is lost on the way.
 use Rattle.std.specs.Prelude.{ℕ, Result, Ok, Err}
-use Rattle.text_fields.specs.Said.{fault_number}
-use Rattle.text_fields.specs.declared.Fault.{Fault}
+use Rattle.log_read.specs.declared.LineFault.{LineFault}
 use Rattle.log_read.specs.declared.Entry as entry
 use Rattle.log_read.specs.declared.Entry.TheVariants as read
 use Rattle.log_read.specs.declared.Choice as choice
@@ -20,10 +19,10 @@ pub data Choice : Type 0 where
   Malformed : (column : ℕ) → Choice
 
 -- what a reader's answer says of a line
-abbrev pub said : Result entry.Entry Fault → Entry
+abbrev pub said : Result entry.Entry LineFault → Entry
 said (Ok (read.End task tick)) = End task tick
 said (Ok (read.Drop task)) = Drop task
-said (Err fault) = Refused (fault_number fault.kind) fault.column
+said (Err fault) = Refused fault.number fault.column
 
 -- and of the first one
 abbrev pub chosen : Result choice.Choice ℕ → Choice

@@ -7,6 +7,7 @@ ghost use Rattle.std.specs.Prelude.{◌≡◌, true, false};
 ghost use Rattle.laws.specs.Lists.{same};
 ghost use Rattle.text.specs.Bytes.{bytes};
 ghost use Rattle.text.specs.Line.{field};
+ghost use Rattle.text_fields.specs.Said.{fault_number};
 ghost use Rattle.log_read.specs.Said.{said};
 ghost use Rattle.log_read.specs.Entries.{entry_of, next_entry};
 
@@ -29,8 +30,26 @@ pub enum Choice {
     Chosen,
 }
 
+// Why a line is refused: a number of the table, and the column from 1.
+#[derive(Clone, Copy)]
+pub struct LineFault {
+    pub number: u32,
+    pub column: usize,
+}
+
+impl From<Fault> for LineFault {
+    ghost from_gives = { λ fault line. line ≡ record { number = fault_number fault.kind; column = fault.column } };
+
+    fn from(fault: Fault) -> LineFault {
+        LineFault {
+            number: fault.kind.number(),
+            column: fault.column,
+        }
+    }
+}
+
 // `ended`: whether the line had its LF, a fact handed on.
-fn read_end(line: &[u8], ended: bool) -> Result<Entry, Fault>
+fn read_end(line: &[u8], ended: bool) -> Result<Entry, LineFault>
     requires { same (field line.now 0) (bytes "drop") ≡ false }
     ensures { said result ≡ entry_of ended line.now }
 {
@@ -47,7 +66,7 @@ fn read_end(line: &[u8], ended: bool) -> Result<Entry, Fault>
 }
 
 // `ended` as above.
-fn read_drop(line: &[u8], ended: bool) -> Result<Entry, Fault>
+fn read_drop(line: &[u8], ended: bool) -> Result<Entry, LineFault>
     requires { same (field line.now 0) (bytes "drop") ≡ true }
     ensures { said result ≡ entry_of ended line.now }
 {
@@ -62,7 +81,7 @@ fn read_drop(line: &[u8], ended: bool) -> Result<Entry, Fault>
 }
 
 // A line without its LF, and whether it had one.
-pub fn read_entry(line: &[u8], ended: bool) -> Result<Entry, Fault>
+pub fn read_entry(line: &[u8], ended: bool) -> Result<Entry, LineFault>
     ensures { said result ≡ entry_of ended line.now }
 {
     if same(field(line, 0), b"drop") {
@@ -72,7 +91,7 @@ pub fn read_entry(line: &[u8], ended: bool) -> Result<Entry, Fault>
 }
 
 // The line that begins the rest of the text.
-pub fn next_entry(rest: &[u8]) -> Result<Entry, Fault>
+pub fn next_entry(rest: &[u8]) -> Result<Entry, LineFault>
     ensures { said result ≡ next_entry rest.now }
 {
     let end = find(rest, LF);

@@ -55,6 +55,15 @@ choice-short s h =
 pub malformed-short : (s : List ℕ) → length s ≤ 32768 → {choice : Choice} {column : ℕ} → choice ≡ choice_of s → choice ≡ Malformed column → column < 4294967296
 malformed-short s h {column = column} k c = let r : ShortChoice (Malformed column) = rw (← k, c) at (choice-short s (omega arith)) in r
 
+-- any entry is short once its column is
+pub within-short : (entry : Entry) → Short (within entry)
+within-short (End task tick) = omega arith
+within-short (Drop task) = omega arith
+within-short (Refused code column) = omega arith
+
+pub short-made : (entry made : Entry) → made ≡ within entry → Short made
+short-made entry made m = rw m (within-short entry)
+
 pub short-within : (entry : Entry) → Short entry → within entry ≡ entry
 short-within (End task tick) h = refl
 short-within (Drop task) h = refl

@@ -7,16 +7,15 @@ ghost use Rattle.log_run.specs.Answers.{within, entry_log, logged_of, opening_lo
 use crate::told::{early_after, put_opened, put_told, tell_entry};
 use crate::{LogResult, StepOutcome};
 use book::{Book, BookResult, Rule, open_book};
-use log_read::Entry;
+use log_read::{Entry, LineFault};
 use log_write::{ANSWER_MOST, put_refused};
 use plan::Plan;
-use text_fields::Fault;
 
 // What a line prints.
 pub fn log_entry(
     line: u32,
     book: &Book,
-    entry: &Result<Entry, Fault>,
+    entry: &Result<Entry, LineFault>,
     out: &mut [u8; ANSWER_MOST],
 ) -> LogResult
     ensures { (result ≡ logged_of line book.now (within (said entry.now))) × Answered out.old (entry_log line book.now (within (said entry.now))) out.new result.length }

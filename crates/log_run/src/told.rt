@@ -3,7 +3,6 @@ ghost use Rattle.std.specs.Prelude.{◌≡◌, cond, eqb, true, ◌+◌, ◌*◌
 ghost use Rattle.book.specs.Early.{figure_of};
 ghost use Rattle.plan.specs.Answer.{refuse};
 ghost use Rattle.book.specs.Sound.{is_sound};
-ghost use Rattle.text_fields.specs.Said.{fault_number};
 ghost use Rattle.log_read.specs.Said.{said};
 ghost use Rattle.log_write.specs.Private.Wrote.{Wrote};
 ghost use Rattle.log_run.specs.Answers.{within};
@@ -14,10 +13,9 @@ use crate::StepOutcome;
 use crate::starts::put_starts;
 use book::{Book, drop_in_place, report_in_place};
 use book_codes::least_early;
-use log_read::Entry;
+use log_read::{Entry, LineFault};
 use log_write::{put_drop, put_early, put_end, put_refused, put_run};
 use plan::{Answer, granted, refuse};
-use text_fields::Fault;
 
 // What is answered by 0 has a sound book, so the book is not judged again for its figure.
 pub(crate) fn early_after(answer: Answer, book: &Book) -> u32
@@ -41,15 +39,15 @@ fn show(told: &mut StepOutcome, answer: Answer)
 }
 
 // The answer to a line with this fault: a column past 32 bits is told as the greatest number.
-fn refused(line: u32, fault: &Fault) -> Answer
-    ensures { result ≡ refuse (fault_number fault.now.kind) line (min fault.now.column 4294967295) }
+fn refused(line: u32, fault: &LineFault) -> Answer
+    ensures { result ≡ refuse fault.now.number line (min fault.now.column 4294967295) }
 {
     let column = fault.column.min(u32::MAX as usize);
-    refuse(fault.kind.number(), line, column as u32)
+    refuse(fault.number, line, column as u32)
 }
 
 // The step is made where the book stands, so that the stack holds one.
-pub(crate) fn tell_in_place(line: u32, told: &mut StepOutcome, entry: &Result<Entry, Fault>)
+pub(crate) fn tell_in_place(line: u32, told: &mut StepOutcome, entry: &Result<Entry, LineFault>)
     ensures { told.new ≡ told_of line told.old.book (within (said entry.now)) }
 {
     match entry {
@@ -80,7 +78,7 @@ pub(crate) fn untold(book: &Book) -> StepOutcome
 }
 
 // What a line is answered.
-pub fn tell_entry(line: u32, book: &Book, entry: &Result<Entry, Fault>) -> StepOutcome
+pub fn tell_entry(line: u32, book: &Book, entry: &Result<Entry, LineFault>) -> StepOutcome
     ensures { result ≡ told_of line book.now (within (said entry.now)) }
 {
     let mut told = untold(book);
@@ -112,7 +110,7 @@ fn put_ended(out: &mut [u8], at: usize, task: u32, old: &[u8; 64], book: &Book) 
 fn put_lines(
     out: &mut [u8],
     at: usize,
-    entry: &Result<Entry, Fault>,
+    entry: &Result<Entry, LineFault>,
     old: &[u8; 64],
     book: &Book,
 ) -> usize
@@ -130,7 +128,7 @@ fn put_lines(
 pub(crate) fn put_told(
     out: &mut [u8],
     at: usize,
-    entry: &Result<Entry, Fault>,
+    entry: &Result<Entry, LineFault>,
     old: &[u8; 64],
     told: &StepOutcome,
 ) -> usize

@@ -1,14 +1,14 @@
 -- Writing lines, one part after the other.
 use Prim.Native.Nat.{ℕ, ◌+◌, ◌*◌, ◌≤◌, ◌<◌}
 use mathlib.Core.Path.{◌≡◌, refl, sym, ap, ◌∙◌}
-use mathlib.Core.Bool.{Bool, cond, ◌&&◌}
+use mathlib.Core.Bool.{Bool, true, false, not, cond, ◌&&◌}
 use mathlib.Core.List.{List, [], ◌∷◌, ◌++◌, map, append_assoc}
 use native.Mathlib.Omega.{arith}
 use native.Mathlib.Numerals.{add-one}
 use lib.Dec.{leb}
 use lib.ListN.{length, get_or, drop, drop_of_length-le, length-append}
 use lib.Seq.{sets, length-sets, drop-cons}
-use borrow.Author.Tests.{le-leb, lt-leb}
+use borrow.Author.Tests.{le-leb, lt-leb, leb-true, not-true, not-false}
 use Rattle.laws.specs.Digits.{digits_of}
 use Rattle.laws.proofs.Cases.{by_le}
 use Rattle.laws.proofs.Sets.{sets-append}
@@ -151,7 +151,17 @@ line-whole end l {word = word} h v w = rw to-tabbed (looser {a = length word + (
 -- ---- where there is room, and where there is none
 
 module _ {out : List ℕ} {from : ℕ} {line : List ℕ} {most : ℕ} where
+  pub lined-none : length out < from + line_most → Lined out from line most out from
+  lined-none l =
+      let h = lt-leb (from + line_most) (length out) l in
+      record { place = rw h; bytes = rw h; small = λ fits. absurd (omega arith) }
+
   module _ {m : List ℕ} {p : ℕ} where
+    pub lined-all : from + line_most ≤ length out → Wrote out from line most m p → Lined out from line most m p
+    lined-all fits w =
+        let h = le-leb (from + line_most) (length out) fits in
+        record { place = rw h w.place; bytes = rw h w.bytes; small = λ _. w.small }
+
     pub lined-looser : {b : ℕ} → most ≤ b → Lined out from line most m p → Lined out from line b m p
     lined-looser h w = record { place = w.place; bytes = w.bytes; small = λ fits. omega (arith, w.small fits) }
 
@@ -159,3 +169,27 @@ module _ {out : List ℕ} {from : ℕ} {line : List ℕ} {most : ℕ} where
     wrote-line fits w =
         let h = le-leb (from + line_most) (length out) fits in
         record { place = rw h at w.place; bytes = rw h at w.bytes; small = w.small fits }
+
+-- ---- a line that could be too long
+
+lined-nothing : {out : List ℕ} {from most : ℕ} → Lined out from [] most out from
+lined-nothing {out} {from} =
+    by_le (from + line_most) (length out)
+    (λ h. let e = le-leb (from + line_most) (length out) h in record { place = rw e (omega arith); bytes = rw e; small = λ _. omega arith })
+    (λ h. lined-none h)
+
+pub short-rest : (end l : List ℕ) {short : Bool} → short ≡ leb (length end + 11 * length l) 45 → not short ≡ false → length end + 11 * length l ≤ 45
+short-rest end l {short} s n = leb-true (length end + 11 * length l) 45 (sym s ∙ not-false short n)
+
+module _ (end word l : List ℕ) {out : List ℕ} {from most : ℕ} where
+  pub long-word : 7 < length word → Lined out from (short_to end word l) most out from
+  long-word h = rw (lt-leb (length word) 7 h) lined-nothing
+
+  module _ {short : Bool} (s : short ≡ leb (length end + 11 * length l) 45) where
+    pub long_rest : length word ≤ 7 → not short ≡ true → Lined out from (short_to end word l) most out from
+    long_rest h n = rw (le-leb (length word) 7 h, sym s ∙ not-true short n) lined-nothing
+
+    pub short-all :
+        length word ≤ 7 → not short ≡ false → {m : List ℕ} {p : ℕ} → Lined out from (line_to end word l) most m p
+        → Lined out from (short_to end word l) most m p
+    short-all h n w = rw (le-leb (length word) 7 h, sym s ∙ not-false short n) w

@@ -12,7 +12,8 @@ use Rattle.text.specs.Bytes.{bytes}
 use Rattle.text.specs.Number.{value_of, most}
 use Rattle.text.specs.Line.{field}
 use Rattle.text_fields.specs.Faults.{Ranged, Fault, field_code, ranged_read, word_code, end_code, worst, fault_of}
-use Rattle.text_fields.specs.Said.{fault_number, codes_in}
+use Rattle.text_fields.specs.Said.{fault_number}
+use Rattle.text_fields.proofs.Codes.{codes_in}
 use Rattle.text_fields.specs.declared.FieldFault.{FieldFault}
 use Rattle.text_fields.proofs.Alike.{field_plain, misspelt-same}
 use Rattle.text_fields.proofs.FaultLaws.{faultless-is, faults-are-codes, number-some}

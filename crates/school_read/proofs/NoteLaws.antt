@@ -22,8 +22,8 @@ use Rattle.school.specs.declared.LogLine as line
 use Rattle.school.specs.declared.LogLine.TheVariants as read
 use Rattle.book_view.specs.View.{laid}
 use Rattle.book_view.proofs.Laid.{length-laid, laid-at, laid_same, zeros-laid}
-use Rattle.school_read.specs.Private.Noted.{none_noted, noted_at, found_with}
-use Rattle.school_read.specs.Found.{is_formed, up_to_two, noted, lines_found, lines_read}
+use Rattle.school_read.specs.Private.Noted.{none_noted, noted_at, with_one, found_with}
+use Rattle.school_read.specs.Found.{is_formed, up_to_two, noted, starts_none, ends_none, lines_found, lines_read}
 use Rattle.school_read.specs.declared.Found.{Found}
 use Rattle.school_read.specs.declared.Noted.{Noted}
 use Rattle.school_read.proofs.ReadLaws.{none_kept}
@@ -38,6 +38,8 @@ unfoldable pub note_of : Found → LogLine → Found
 note_of found said = record {
   starts = noted_with found.starts said.start said.board said.tick;
   ends = noted_with found.ends said.end said.board said.tick;
+  startless = cond (starts_none said) (with_one found.startless) found.startless;
+  endless = cond (ends_none said) (with_one found.endless) found.endless;
 }
 
 module _ (found : Found) where
@@ -47,9 +49,23 @@ module _ (found : Found) where
   pub note-is : (line : line.LogLine) → found_with found line ≡ note_of found (said (Some line))
   unfolding note_of
   note-is (read.Start m) =
-      let e = with_place found.starts m.place m.board m.tick in λ i. record { starts = e i; ends = found.ends }
+      let e = with_place found.starts m.place m.board m.tick in
+      let n : false ≡ eqb (m.place + 1) 0 = sym (ne_eqb (m.place + 1) 0 (λ z. omega arith)) in
+      λ i. record {
+        starts = e i;
+        ends = found.ends;
+        startless = cond (n i) (with_one found.startless) found.startless;
+        endless = with_one found.endless;
+      }
   note-is (read.End m) =
-      let e = with_place found.ends m.place m.board m.tick in λ i. record { starts = found.starts; ends = e i }
+      let e = with_place found.ends m.place m.board m.tick in
+      let n : false ≡ eqb (m.place + 1) 0 = sym (ne_eqb (m.place + 1) 0 (λ z. omega arith)) in
+      λ i. record {
+        starts = found.starts;
+        ends = e i;
+        startless = with_one found.startless;
+        endless = cond (n i) (with_one found.endless) found.endless;
+      }
   note-is read.Remark = refl
 
 pub formed-is : (line : line.LogLine) → (said (Some line)).formed ≡ true
@@ -186,12 +202,23 @@ module _ (key : LogLine → ℕ) (said : LogLine) (lines : List LogLine) where
   with_turn zero k = none_more k
   with_turn (suc s) k = some_more s (k ∙ sym (add-one s))
 
+-- how many say none, with one line more
+count-turn :
+    (none : LogLine → Bool) (said : LogLine) (lines : List LogLine)
+    → cond (none said) (with_one (up_to_two (how_many none lines))) (up_to_two (how_many none lines)) ≡ up_to_two (how_many none (lines ++ (said ∷ [])))
+count-turn none said lines =
+    by_bool (none said)
+    (λ e. let n = many-same none said e lines in rw e (omega (arith, n)))
+    (λ e. let n = many-other none said e lines in rw e (ap up_to_two (sym n)))
+
 note-turn : (said : LogLine) (lines : List LogLine) → note_of (lines_found lines) said ≡ lines_found (lines ++ (said ∷ []))
 unfolding note_of
 note-turn said lines =
     let a = with_turn (λ x. x.start) said lines said.start refl in
     let b = with_turn (λ x. x.end) said lines said.end refl in
-    λ i. record { starts = a i; ends = b i }
+    let c = count-turn starts_none said lines in
+    let d = count-turn ends_none said lines in
+    λ i. record { starts = a i; ends = b i; startless = c i; endless = d i }
 
 -- ---- all lines
 
@@ -252,21 +279,28 @@ go_all k seen (said ∷ lines) =
     let n : k + 1 ≡ k + 0 + 1 = omega arith in
     go-stop k (lines_found seen) said lines e ∙ rw (all-stop said lines e, first-stop said lines e) (ap Err n))
 
-abbrev pub nothing : Found
-nothing = record { starts = none_noted; ends = none_noted }
+abbrev nothing : Found
+nothing = record { starts = none_noted; ends = none_noted; startless = 0; endless = 0 }
+
+-- with a first line that has its form
+abbrev pub begun : Found
+begun = record { starts = none_noted; ends = none_noted; startless = 1; endless = 1 }
 
 none_is : (by : ℕ → LogLine → Bool) → none_noted ≡ noted by []
 unfolding noted how_many first_of
 none_is by = let z = zeros-laid 64 in λ i. record { many = z i; board = z i; tick = z i }
 
-pub nothing_of : {starts ends : Noted} → starts ≡ none_noted → ends ≡ none_noted → ◌≡◌ {A = Found} (record { starts = starts; ends = ends }) nothing
-nothing_of a b = λ i. record { starts = a i; ends = b i }
+pub begun_of :
+    {starts ends : Noted} → starts ≡ none_noted → ends ≡ none_noted
+    → ◌≡◌ {A = Found} (record { starts = starts; ends = ends; startless = 1; endless = 1 }) begun
+begun_of a b = λ i. record { starts = a i; ends = b i; startless = 1; endless = 1 }
 
 nothing_is : nothing ≡ lines_found []
-nothing_is = λ i. record { starts = none_is is_start i; ends = none_is is_end i }
+unfolding how_many
+nothing_is = λ i. record { starts = none_is is_start i; ends = none_is is_end i; startless = 0; endless = 0 }
 
 -- lines after a first one that has its form
-pub go-later : (lines : List LogLine) → go_on 1 nothing lines ≡ lines_read (says_none true ∷ lines)
+pub go-later : (lines : List LogLine) → go_on 1 begun lines ≡ lines_read (says_none true ∷ lines)
 unfolding lines_read note_of
 go-later lines =
     let n : 0 + first_not is_formed (says_none true ∷ lines) + 1 ≡ first_not is_formed (says_none true ∷ lines) + 1 = omega arith in

@@ -25,7 +25,7 @@ use Rattle.school.specs.declared.LogLine.TheVariants as read
 use Rattle.school_read.specs.Found.{lines_read, found_of}
 use Rattle.school_read.specs.Private.Noted.{IsPlaced, found_with}
 use Rattle.school_read.specs.declared.Found.{Found}
-use Rattle.school_read.proofs.NoteLaws.{note_of, note-is, formed-is, go_on, nothing, go-none, go-line, go-stop, go-later, no_first}
+use Rattle.school_read.proofs.NoteLaws.{note_of, note-is, formed-is, go_on, begun, go-none, go-line, go-stop, go-later, no_first}
 
 -- ---- one line of the rest
 
@@ -116,7 +116,7 @@ pub record Walk (boards tasks : ℕ) (later : List ℕ) (found : Found) (lines :
   pub short : length later < 9223372036854775808
 
 pub walk_start :
-    (boards tasks : ℕ) (later : List ℕ) {found : Found} → found ≡ nothing → length later < 9223372036854775808 → Walk boards tasks later found 1 later
+    (boards tasks : ℕ) (later : List ℕ) {found : Found} → found ≡ begun → length later < 9223372036854775808 → Walk boards tasks later found 1 later
 walk_start boards tasks later e h = record {
   goes = rw e (go-later (later_lines boards tasks later));
   few = omega arith;

@@ -1,5 +1,5 @@
 -- What is found in a log: the lowest line that has not its form, or what its lines say of each task.
-use Rattle.std.specs.Prelude.{ℕ, ◌+◌, min, Bool, cond, List, Result, Ok, Err}
+use Rattle.std.specs.Prelude.{ℕ, ◌+◌, min, Bool, cond, List, eqb, Result, Ok, Err}
 use Rattle.laws.specs.Lists.{all_of, first_not}
 use Rattle.book_view.specs.View.{laid}
 use Rattle.school.specs.Lines.{said_in}
@@ -24,9 +24,21 @@ noted says lines =
       tick = all (λ i. (first_of (says i) lines).tick);
     }
 
--- the starts, and the ends
+-- the line says no start, or no end, of a task
+abbrev pub starts_none : LogLine → Bool
+starts_none said = eqb said.start 0
+
+abbrev pub ends_none : LogLine → Bool
+ends_none said = eqb said.end 0
+
+-- the starts, and the ends; and how many lines say no start, and no end
 abbrev pub lines_found : List LogLine → Found
-lines_found lines = record { starts = noted is_start lines; ends = noted is_end lines }
+lines_found lines = record {
+  starts = noted is_start lines;
+  ends = noted is_end lines;
+  startless = up_to_two (how_many starts_none lines);
+  endless = up_to_two (how_many ends_none lines);
+}
 
 -- the lowest line that has not its form, from 1, or what is found
 unfoldable pub lines_read : List LogLine → Result Found ℕ

@@ -9,7 +9,7 @@ ghost use Rattle.plan.specs.Read.{ranged};
 ghost use Rattle.school.specs.Lines.{is_earliness, is_run, says_none, later_said, said_from};
 ghost use Rattle.school.specs.Said.{said};
 ghost use Rattle.school_read.specs.Private.Rest.{number_in, moment_in, two_ticks, three_ticks, remark_rest};
-ghost use Rattle.school_read.specs.Private.Noted.{none_noted, noted_at, IsPlaced, found_with};
+ghost use Rattle.school_read.specs.Private.Noted.{with_one, none_noted, noted_at, IsPlaced, found_with};
 ghost use Rattle.school_read.specs.Found.{lines_read, found_of};
 
 use plan::few;
@@ -168,10 +168,20 @@ impl Noted {
     }
 }
 
+// And how many lines say no start, and no end: one, 2 for more. The first line says neither.
 #[derive(Drop)]
 pub struct Found {
     pub starts: Noted,
     pub ends: Noted,
+    pub startless: u8,
+    pub endless: u8,
+}
+
+// One, or more.
+fn with_one(n: u8) -> u8
+    ensures { result ≡ with_one n }
+{
+    n.min(1) + 1
 }
 
 impl Found {
@@ -180,9 +190,18 @@ impl Found {
         ensures { self.new ≡ found_with self.old line }
     {
         match line {
-            LogLine::Start(moment) => self.starts.note(moment),
-            LogLine::End(moment) => self.ends.note(moment),
-            LogLine::Remark => {}
+            LogLine::Start(moment) => {
+                self.starts.note(moment);
+                self.endless = with_one(self.endless);
+            }
+            LogLine::End(moment) => {
+                self.ends.note(moment);
+                self.startless = with_one(self.startless);
+            }
+            LogLine::Remark => {
+                self.startless = with_one(self.startless);
+                self.endless = with_one(self.endless);
+            }
         }
     }
 }
@@ -196,6 +215,8 @@ fn read_later(boards: u8, tasks: u8, later: &[u8]) -> Result<Found, usize>
     let mut found = Found {
         starts: Noted::none(),
         ends: Noted::none(),
+        startless: 1,
+        endless: 1,
     };
     let mut lines = 1;
     let mut rest = later;

@@ -1,3 +1,4 @@
+pub mod SignedLaws
 pub mod LineLaws
 pub mod TickLaws
 pub mod TextLaws

@@ -1,11 +1,12 @@
 -- Writing into lent bytes.
-use Prim.Native.Nat.{ℕ, ◌+◌, ◌-◌, ◌/◌, ◌%◌, ◌≤◌, ◌<◌}
+use Prim.Native.Nat.{ℕ, suc, ◌+◌, ◌-◌, ◌/◌, ◌%◌, ◌≤◌, ◌<◌}
 use mathlib.Core.Path.{◌≡◌, refl, sym, ap, ◌∙◌}
 use mathlib.Core.Bool.{true, false}
 use mathlib.Core.List.{List, [], ◌∷◌, ◌++◌, append_assoc, append-nil}
 use native.Mathlib.Omega.{arith}
-use lib.ListN.{length, take, drop, set, drop_of_length-le, length-append, length-drop}
-use lib.Seq.{sets}
+use lib.ListN.{length, take, drop, get_or, set, drop_of_length-le, length-append, length-drop}
+use lib.Seq.{drop-cons, sets}
+use native.Mathlib.Numerals.{add-one}
 use Rattle.std.proofs.lemmas.List.Edits.{paste_all, sets-eq}
 use Rattle.std.proofs.lemmas.Slice.{put_mid-paste}
 use Rattle.std.proofs.lemmas.List.{drop-set}
@@ -41,6 +42,21 @@ pub put-stored :
 put-stored out at k text written h e w =
     let room = leb-true (at + length text) (length out) (sym h) in
     put_whole out at text _ _ room refl (ap (put_mid at k out) w ∙ stored out at k text room e)
+
+-- ---- byte after byte
+
+pub copy_start : (out : List ℕ) (at : ℕ) (s : List ℕ) → sets out (at + 0) (drop 0 s) ≡ sets out at s
+copy_start out at s = let e : at + 0 ≡ at = omega arith in rw e
+
+pub copy-turn :
+    (out : List ℕ) (at : ℕ) (s : List ℕ) (i : ℕ) (x : List ℕ) → i < length s → sets out (at + i) (drop i s) ≡ x
+    → sets (set out (at + i) (get_or s i 0)) (at + (i + 1)) (drop (i + 1) s) ≡ x
+copy-turn out at s i x h p =
+    let e : at + (i + 1) ≡ suc (at + i) = omega arith in rw (e, add-one) (rw (drop-cons s i 0 h) at p)
+
+pub copy-end :
+    (out : List ℕ) (at : ℕ) (s : List ℕ) (i : ℕ) (x : List ℕ) → length s ≤ i → sets out (at + i) (drop i s) ≡ x → out ≡ x
+copy-end out at s i x h p = rw (drop_of_length-le s h) at p
 
 -- ---- digit before digit
 
@@ -89,3 +105,22 @@ pub digits-turn :
 digits-turn n out i rest q h g long =
     let e : i - 1 + 1 ≡ i = omega arith in
     digits-turn-at n out (i - 1) rest (omega arith) long (rw e (q.some h))
+
+-- where one place is left, one digit is
+module _ (n : ℕ) (out : List ℕ) (rest : ℕ) {i : ℕ} (one : i ≡ 1) (left : DigitsLeft n out i rest) (long : length out ≡ length (digits_of n)) where
+  whole : digits_of rest ++ drop 1 out ≡ digits_of n
+  whole = rw one at (left.some (omega (arith, one)))
+
+  pub digit-left : rest < 10
+  digit-left =
+      by_le 10 rest
+      (λ g.
+      let size : length (digits_of rest) + (length out - 1) ≡ length (digits_of n) = simp (length-append, length-drop) at (ap length whole) in
+      absurd (omega (arith, width-big rest g, some-digits (rest / 10), some-digits n, size)))
+      (λ g. g)
+
+  pub digits-done : set out 0 (48 + rest) ≡ digits_of n
+  digits-done =
+      let small : rest % 10 ≡ rest = omega (arith, digit-left) in
+      let turned = (digits-turn n out 1 rest (rw one at left) (omega arith) (omega (arith, some-digits n)) long).none refl in
+      rw small at turned

@@ -28,9 +28,11 @@ pub fn put_text(out: &mut [u8], at: usize, s: &[u8]) -> usize
     if !has_room(out.len(), at, s.len()) {
         return at;
     }
-    let end = at + s.len();
-    out[at..end].copy_from_slice(s);
-    end
+    // not `copy_from_slice`: of two slices that a caller lends that needs `memmove` from outside
+    for i in 0..s.len() {
+        out[at + i] = s[i];
+    }
+    at + s.len()
 }
 
 pub fn put_number(out: &mut [u8], at: usize, n: u32) -> usize

@@ -24,10 +24,11 @@ fn put_digits(out: &mut [u8], n: u64)
     ensures { out.new ≡ digits_of n }
 {
     let mut rest = n;
-    for i in (0..out.len()).rev() {
+    for i in (1..out.len()).rev() {
         out[i] = b'0' + (rest % 10) as u8;
         rest /= 10;
     }
+    out[0] = b'0' + rest as u8;
 }
 
 // All of its digits where they fit from `at`, and otherwise nothing.

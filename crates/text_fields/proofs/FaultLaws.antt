@@ -2,13 +2,13 @@
 use Prim.Native.Nat.{ℕ, suc, ◌+◌, ◌≤◌, ◌<◌}
 use mathlib.Core.Path.{◌≡◌, refl, sym, ap, ◌∙◌}
 use mathlib.Core.Bool.{Bool, true, false, not, cond, ◌&&◌, ◌||◌}
-use mathlib.Core.List.{List, [], ◌∷◌}
+use mathlib.Core.List.{List, [], ◌∷◌, map}
 use native.Mathlib.Omega.{arith}
 use lib.Dec.{eqb, leb, ltb}
 use lib.ListN.{length, get_or, drop, drop_of_length-le, length-map}
 use lib.Seq.{drop-cons}
 use native.Mathlib.Numerals.{add-one}
-use Rattle.std.specs.Prelude.{Option, Some, None, is_some}
+use Rattle.std.specs.Prelude.{Option, Some, None}
 use Rattle.std.specs.List.{list_all, position, position_or_len}
 use Rattle.std.proofs.lemmas.List.Recursion.{is_position_or_len}
 use borrow.Author.Tests.{eq-eqb, ne_eqb, eqb-true, le-leb, lt-leb, leb-true, lt-ltb, le-ltb}
@@ -21,7 +21,8 @@ use Rattle.text.specs.Number.{is_number, value_of, most, number_of}
 use Rattle.text_fields.specs.Items.{between}
 use Rattle.text.specs.Line.{TAB, fields}
 use Rattle.text_fields.specs.Faults.{code_for, field_code, word_code, end_code, worst, column_of, fault_of}
-use Rattle.text_fields.specs.Said.{fault_number, code_in, codes_in}
+use Rattle.text_fields.specs.Said.{fault_number, code_in}
+use Rattle.text_fields.proofs.Codes.{codes_in}
 use Rattle.text_fields.specs.Private.Place.{place_in}
 use Rattle.text_fields.specs.declared.FieldFault.{FieldFault}
 use Rattle.text_fields.specs.declared.FieldFault.TheVariants.{Misspelt, OutOfRange, Shared, ReadyLate}
@@ -155,23 +156,6 @@ number-some OutOfRange = refl
 number-some Shared = refl
 number-some ReadyLate = refl
 
-pub none-is-zero : (fault : Option FieldFault) (b : Bool) → is_some fault ≡ not b → b ≡ eqb 0 (code_in fault)
-none-is-zero None true h = refl
-none-is-zero None false h = true-false h refl
-none-is-zero (Some Misspelt) true h = true-false refl h
-none-is-zero (Some OutOfRange) true h = true-false refl h
-none-is-zero (Some Shared) true h = true-false refl h
-none-is-zero (Some ReadyLate) true h = true-false refl h
-none-is-zero (Some Misspelt) false h = refl
-none-is-zero (Some OutOfRange) false h = refl
-none-is-zero (Some Shared) false h = refl
-none-is-zero (Some ReadyLate) false h = refl
-
-pub all-zero : (faults : List (Option FieldFault)) → list_all (λ f. eqb 0 (code_in f)) faults ≡ all_of (eqb 0) (codes_in faults)
-unfolding all_of
-all-zero [] = refl
-all-zero (f ∷ l) = ap (λ (b : Bool). eqb 0 (code_in f) && b) (all-zero l)
-
 -- a code of 0, and what it says
 pub for-zero : (spelt fine : Bool) → code_for spelt fine ≡ 0 → (spelt ≡ true) × (fine ≡ true)
 for-zero true true z = (refl, refl)
@@ -225,15 +209,26 @@ any_found c (x ∷ l) =
         (λ h. rw (le-ltb a b h, le-ltb (suc a) (suc b) (omega arith)))
         (λ h. rw (lt-ltb a b h, lt-ltb (suc a) (suc b) (omega arith)))
 
-module _ (n : ℕ) where
-  pub place-is : (faults : List (Option FieldFault)) → position (λ f. eqb (code_in f) n) faults ≡ place_in n (codes_in faults)
-  unfolding place_in index_of
-  place-is faults =
-      let e : index_of n (codes_in faults) ≡ position_or_len (λ f. eqb (code_in f) n) faults =
-      is_position_or_len (λ l. index_of n (codes_in l)) (λ f. eqb (code_in f) n) refl (λ x xs. by_bool (eqb (code_in x) n) (λ e. rw e) (λ e. rw e (omega arith))) faults
-      in
-      rw (any_found n (codes_in faults), length-map faults code_in, e)
+-- whatever tells the codes
+module _ {A : Type 0} (code : A → ℕ) where
+  pub all-zero : (faults : List A) → list_all (λ f. eqb (code f) 0) faults ≡ all_of (eqb 0) (map code faults)
+  unfolding all_of
+  all-zero [] = refl
+  all-zero (f ∷ l) =
+      let r = all-zero l in
+      by-eq (code f) 0
+      (λ e. rw (eq-eqb (code f) 0 e, eq-eqb 0 (code f) (sym e)) r)
+      (λ n. rw (ne_eqb (code f) 0 n, ne_eqb 0 (code f) (λ e. n (sym e))))
 
+  pub place-is : (n : ℕ) (faults : List A) → position (λ f. eqb (code f) n) faults ≡ place_in n (map code faults)
+  unfolding place_in index_of
+  place-is n faults =
+      let e : index_of n (map code faults) ≡ position_or_len (λ f. eqb (code f) n) faults =
+      is_position_or_len (λ l. index_of n (map code l)) (λ f. eqb (code f) n) refl (λ x xs. by_bool (eqb (code x) n) (λ e. rw e) (λ e. rw e (omega arith))) faults
+      in
+      rw (any_found n (map code faults), length-map faults code, e)
+
+module _ (n : ℕ) where
   module _ (codes : List ℕ) where
     pub place-none : None ≡ place_in n codes → any_of (eqb n) codes ≡ false
     unfolding place_in
@@ -268,6 +263,15 @@ pub worst-start : (codes : List ℕ) → WorstFrom (Misspelt ∷ OutOfRange ∷ 
 unfolding worst worst_in
 worst-start codes = record { rest = refl }
 
+-- where all codes are 0, none is another
+none-else : (c : ℕ) → eqb c 0 ≡ false → (codes : List ℕ) → all_of (eqb 0) codes ≡ true → any_of (eqb c) codes ≡ false
+unfolding all_of any_of
+none-else c n [] h = refl
+none-else c n (x ∷ l) h =
+    let z : 0 ≡ x = eqb-true 0 x (and_l (eqb 0 x) (all_of (eqb 0) l) h) in
+    let r = none-else c n l (and_r (eqb 0 x) (all_of (eqb 0) l) h) in
+    rw (← z, n) r
+
 module _ (line codes : List ℕ) where
   module _ (kinds : List FieldFault) (i : ℕ) (q : WorstFrom kinds codes i) where
     abbrev kind : FieldFault
@@ -293,6 +297,6 @@ module _ (line codes : List ℕ) where
     worst-none h = let z : 0 ≡ worst codes = rw (drop_of_length-le kinds h) at q.rest in rw (← z)
 
   -- and a line whose codes are all 0 has none
-  pub worst-right : all_of is_code codes ≡ true → all_of (eqb 0) codes ≡ true → record { code = 0; column = 0 } ≡ fault_of line codes
-  unfolding fault_of
-  worst-right kinds h = let z : worst codes ≡ 0 = eqb-true (worst codes) 0 (sym (faultless-is codes kinds) ∙ h) in rw z
+  pub worst-right : all_of (eqb 0) codes ≡ true → record { code = 0; column = 0 } ≡ fault_of line codes
+  unfolding fault_of worst
+  worst-right h = rw (none-else 3 refl codes h, none-else 4 refl codes h, none-else 20 refl codes h, none-else 18 refl codes h)

@@ -9,7 +9,8 @@ use borrow.Author.Tests.{eq-eqb, ne_eqb}
 use Rattle.std.specs.Prelude.{Option}
 use Rattle.laws.specs.Lists.{all_of}
 use Rattle.text_fields.specs.Faults.{worst, column_of, fault_of, unless_fault}
-use Rattle.text_fields.specs.Said.{fault_number, codes_in}
+use Rattle.text_fields.specs.Said.{fault_number}
+use Rattle.text_fields.proofs.Codes.{codes_in}
 use Rattle.text_fields.specs.declared.FieldFault.{FieldFault}
 use Rattle.text_fields.proofs.FaultLaws.{is_code, faultless-is, faults-are-codes, number-some}
 

@@ -1,5 +1,5 @@
 -- What the readers of a line and of its fields answer, in the documents' numbers: nothing is lost on the way.
-use Rattle.std.specs.Prelude.{ℕ, List, map, Option, None, Some, Result, Ok, Err}
+use Rattle.std.specs.Prelude.{ℕ, Option, None, Some, Result, Ok, Err}
 use Rattle.text.specs.Number.{fault_stop}
 use Rattle.text.specs.declared.NumberFault.{NumberFault}
 use Rattle.text.specs.declared.NumberFault.TheVariants as number
@@ -25,9 +25,6 @@ fault_by (number.Misspelt stop) = Misspelt
 abbrev pub code_in : Option FieldFault → ℕ
 code_in None = 0
 code_in (Some fault) = fault_number fault
-
-abbrev pub codes_in : List (Option FieldFault) → List ℕ
-codes_in faults = map code_in faults
 
 abbrev pub ranged_in : Result ℕ FieldFault → Ranged
 ranged_in (Ok value) = record { code = 0; value = value }

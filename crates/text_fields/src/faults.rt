@@ -1,13 +1,13 @@
 // The fault of a line: the faults of its fields, the worst of them, and the column where the leftmost such field begins.
-ghost use Rattle.std.specs.Prelude.{◌≡◌, ◌+◌, eqb};
+ghost use Rattle.std.specs.Prelude.{◌≡◌, ◌+◌, eqb, map};
 ghost use Rattle.laws.specs.Lists.{all_of};
 ghost use Rattle.laws.specs.Split.{begin_of};
 ghost use Rattle.text.specs.Line.{TAB};
 ghost use Rattle.text_fields.specs.Faults.{ranged_read, word_code, end_code, fault_of};
-ghost use Rattle.text_fields.specs.Said.{fault_number, code_in, codes_in, ranged_in, fault_in};
+ghost use Rattle.text_fields.specs.Said.{fault_number, code_in, ranged_in, fault_in};
 ghost use Rattle.text_fields.specs.Private.Place.{place_in};
 
-use crate::{Fault, FieldFault};
+use crate::{Coded, Fault, FieldFault};
 use text::decimal::read_number;
 use text::part::{count_fields, past_fields};
 
@@ -50,23 +50,19 @@ pub fn end_fault(line: &[u8], n: usize, ended: bool) -> Option<FieldFault>
     }
 }
 
-fn is_faultless(faults: &[Option<FieldFault>]) -> bool
-    ensures { result ≡ all_of (eqb 0) (codes_in faults.now) }
+pub fn is_faultless<C: Coded>(faults: &[C]) -> bool
+    ensures { result ≡ all_of (eqb 0) (map C.code_of faults.now) }
 {
-    faults.iter().all(|fault| fault.is_none())
-}
-
-fn is_kind(fault: Option<FieldFault>, kind: FieldFault) -> bool
-    ensures { result ≡ eqb (code_in fault) (fault_number kind) }
-{
-    fault == Some(kind)
+    faults.iter().all(|fault| fault.code() == 0)
 }
 
 // The leftmost field of that fault.
-fn place_of(faults: &[Option<FieldFault>], kind: FieldFault) -> Option<usize>
-    ensures { result ≡ place_in (fault_number kind) (codes_in faults.now) }
+fn place_of<C: Coded>(faults: &[C], kind: FieldFault) -> Option<usize>
+    ensures { result ≡ place_in (fault_number kind) (map C.code_of faults.now) }
 {
-    faults.iter().position(|fault| is_kind(*fault, kind))
+    faults
+        .iter()
+        .position(|fault| fault.code() == kind.number())
 }
 
 // Where the field at that place begins, from 1.
@@ -77,9 +73,10 @@ fn column_at(line: &[u8], place: usize) -> usize
     line.len() - rest.len() + 1
 }
 
-// The worst of its fields' faults refuses a line. Most lines have none, so only a faulty one is searched.
-pub fn check_line(line: &[u8], faults: &[Option<FieldFault>]) -> Result<(), Fault>
-    ensures { fault_in result ≡ fault_of line.now (codes_in faults.now) }
+// The worst of its fields' faults refuses a line; a code that is none of the four refuses nothing. Most lines have none, so only a
+// faulty one is searched.
+pub fn check_line<C: Coded>(line: &[u8], faults: &[C]) -> Result<(), Fault>
+    ensures { fault_in result ≡ fault_of line.now (map C.code_of faults.now) }
 {
     if is_faultless(faults) {
         return Ok(());

@@ -3,8 +3,8 @@
 pub mod faults;
 pub mod list;
 
-ghost use Rattle.std.specs.Prelude.{◌≡◌};
-ghost use Rattle.text_fields.specs.Said.{fault_number, fault_by};
+ghost use Rattle.std.specs.Prelude.{◌≡◌, ℕ};
+ghost use Rattle.text_fields.specs.Said.{fault_number, fault_by, code_in};
 
 use text::NumberFault;
 
@@ -25,6 +25,33 @@ impl FieldFault {
         ensures { result ≡ fault_number self }
     {
         self as u32
+    }
+}
+
+// What tells the fault of a field: its code, 0 where it has none.
+pub trait Coded {
+    ghost code_of: { Self → ℕ };
+
+    fn code(&self) -> u32
+        ensures { result ≡ code_of self.now };
+}
+
+impl Coded for Option<FieldFault> {
+    ghost code_of = { code_in };
+
+    fn code(&self) -> u32 {
+        match self {
+            None => 0,
+            Some(fault) => fault.number(),
+        }
+    }
+}
+
+impl Coded for u8 {
+    ghost code_of = { λ code. code };
+
+    fn code(&self) -> u32 {
+        u32::from(*self)
     }
 }
 

@@ -18,6 +18,9 @@ use year_write::{REPORT_MOST, write_report};
 // How many logs are done between two notes.
 const NOTED: u64 = 100;
 
+// How much of the list is read at once.
+const PART: usize = 4096;
+
 // No note is longer.
 const NOTE_MOST: usize = 64;
 
@@ -78,10 +81,11 @@ fn add_line(
 fn read_list(rt: &(impl Input + Files + Say), totals: &mut Totals) -> Result<bool, Told> {
     let mut name = [0u8; NAME_MOST];
     let mut list = ListPart::new();
+    let mut part = [0u8; PART];
     let mut plan = [0u8; READ_MOST];
     let mut log = [0u8; READ_MOST];
     for _ in 0..u64::MAX {
-        let Some(line) = list.next_line(rt, &mut name)? else {
+        let Some(line) = list.next_line(rt, &mut name, &mut part)? else {
             return Ok(false);
         };
         if line.name.is_empty() {

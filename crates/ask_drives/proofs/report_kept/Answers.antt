@@ -6,9 +6,9 @@ use Rattle.ask_drives.proofs.report_kept.Goals as goal
 
 pub returns-in_default : goal.returns-in_default
 returns-in_default c =
-    sym (rw c.answer.ensures (other-kept c.args.book.now c.args.sheet (sym c.in_default.is ∙ c.seen_in.ensures) (reported_of c.args.book.now c.args.task c.args.tick)))
+    rw c.answer-both.ensures (other-kept c.args.both.now.result.book c.args.both.now.sheet (sym c.in_default.is ∙ c.seen_in.ensures) (reported_of c.args.both.now.result.book c.args.task c.args.tick))
 
 pub returns : goal.returns
 returns c =
-    let book = c.args.book.now in
-    sym (step-kept book c.args.sheet c.requires (reported_of book c.args.task c.args.tick) (report-step book c.args.task c.args.tick) (sym c.in-Some.is ∙ c.seen_in.ensures) (sym c.report_in_place-answer.ensures) c.kept_sheet-next.ensures)
+    let book = c.args.both.now.result.book in
+    step-kept book c.args.both.now.sheet c.requires (reported_of book c.args.task c.args.tick) (report-step book c.args.task c.args.tick) (sym c.in-Ok.is ∙ c.seen_in.ensures) (sym c.report_in_place-answer.ensures) c.keep_sheet.ensures

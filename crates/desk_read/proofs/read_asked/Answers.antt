@@ -4,7 +4,7 @@ use Rattle.desk_read.proofs.ReadLaws.{asked-long, asked-bound, asked-free}
 use Rattle.desk_read.proofs.read_asked.Goals as goal
 
 pub returns-then-line-gt-TYPED_MOST : goal.returns-then-line-gt-TYPED_MOST
-returns-then-line-gt-TYPED_MOST c = asked-long _ _ c.args.line.now c.if-line-gt-TYPED_MOST.true refl
+returns-then-line-gt-TYPED_MOST c = asked-long _ _ c.args.line.now c.if-line-gt-TYPED_MOST.true (rw c.misspelt.ensures)
 
 pub returns-then-not-free : goal.returns-then-not-free
 returns-then-not-free c = asked-bound _ _ c.args.line.now c.if-line-gt-TYPED_MOST.false c.if-not-free.true c.by_word.ensures
@@ -21,4 +21,4 @@ returns-in-Ok-Chosen c =
 
 pub returns-in-Err : goal.returns-in-Err
 returns-in-Err c =
-    asked-free _ _ c.args.line.now c.if-line-gt-TYPED_MOST.false c.if-not-free.false c.read_choice.ensures refl (rw (said-malformed c.in-Err.is))
+    asked-free _ _ c.args.line.now c.if-line-gt-TYPED_MOST.false c.if-not-free.false c.read_choice.ensures refl (rw (said-malformed c.in-Err.is, c.misspelt-in-Err.ensures))

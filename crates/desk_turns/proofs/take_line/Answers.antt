@@ -1,7 +1,6 @@
 use mathlib.Core.Path.{ap}
 use Rattle.desk_read.proofs.ReadLaws.{step-near}
 use Rattle.desk_read.specs.Asked.{asked}
-use Rattle.text_fields.specs.Said.{fault_number}
 use Rattle.log_read.specs.Said.Entry.{Refused}
 use Rattle.desk_turns.proofs.TurnLaws.{asks, turn_step, turn-rule, turn-early, turn-exact, turn-now, turn-drive, turn-why, near-short}
 use Rattle.desk_turns.proofs.take_line.Goals as goal
@@ -11,7 +10,7 @@ take_entry-requires c =
     near-short _ (step-near _ _ c.args.line.now c.read_asked.ensures (asks c.in-Ok-Step.is c.in-Ok-Step.field-0-is))
 
 pub take_entry-requires-in-Err : goal.take_entry-requires-in-Err
-take_entry-requires-in-Err c = near-short (Refused (fault_number c.in-Err.fault.kind) c.in-Err.fault.column) (step-near _ _ c.args.line.now c.read_asked.ensures (ap asked c.in-Err.is))
+take_entry-requires-in-Err c = near-short (Refused c.in-Err.fault.number c.in-Err.fault.column) (step-near _ _ c.args.line.now c.read_asked.ensures (ap asked c.in-Err.is))
 
 pub returns-in-Ok-Step : goal.returns-in-Ok-Step
 returns-in-Ok-Step c =

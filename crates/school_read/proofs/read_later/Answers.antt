@@ -5,11 +5,11 @@ use lib.Seq.{length-take-le}
 use Rattle.std.proofs.Common.{rules}
 use Rattle.text.proofs.Parts.{found-le}
 use Rattle.school_read.proofs.WalkLaws.{rest-less, line-placed, walk_start, walk_room, walk-unended, walk_end, walk-stops, walk-on}
-use Rattle.school_read.proofs.NoteLaws.{nothing_of}
+use Rattle.school_read.proofs.NoteLaws.{begun_of}
 use Rattle.school_read.proofs.read_later.Goals as goal
 
 pub loop-rest-init : goal.loop-rest-init
-loop-rest-init c = walk_start _ _ _ (nothing_of c.none.ensures c.none-2.ensures) (search rules)
+loop-rest-init c = walk_start _ _ _ (begun_of c.none.ensures c.none-2.ensures) (search rules)
 
 pub overflow_add-lines : goal.overflow_add-lines
 overflow_add-lines c = record { fits = walk_room c.loop-rest.invariant }

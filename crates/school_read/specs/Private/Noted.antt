@@ -1,5 +1,5 @@
 -- What is noted of the starts, or of the ends, with one more.
-use Rattle.std.specs.Prelude.{ℕ, ◌<◌, cond, eqb, replicate, set}
+use Rattle.std.specs.Prelude.{ℕ, ◌+◌, ◌<◌, min, cond, eqb, replicate, set}
 use Rattle.plan.specs.Value.{at}
 use Rattle.school.specs.declared.LogLine as line
 use Rattle.school.specs.declared.LogLine.TheVariants as read
@@ -22,8 +22,14 @@ IsPlaced (read.Start at) = at.place < 64
 IsPlaced (read.End at) = at.place < 64
 IsPlaced read.Remark = Unit
 
+-- one, or more
+abbrev pub with_one : ℕ → ℕ
+with_one n = min n 1 + 1
+
 abbrev pub found_with : Found → line.LogLine → Found
 found_with found (read.Start moment) =
-    record found { starts = noted_at moment.place found.starts moment.board moment.tick }
-found_with found (read.End moment) = record found { ends = noted_at moment.place found.ends moment.board moment.tick }
-found_with found read.Remark = found
+    record found { starts = noted_at moment.place found.starts moment.board moment.tick; endless = with_one found.endless }
+found_with found (read.End moment) =
+    record found { ends = noted_at moment.place found.ends moment.board moment.tick; startless = with_one found.startless }
+found_with found read.Remark =
+    record found { startless = with_one found.startless; endless = with_one found.endless }

@@ -4,7 +4,7 @@ use mathlib.Core.List.{List, [], ◌∷◌}
 use native.Mathlib.Omega.{arith}
 use Rattle.std.specs.Prelude.{Option, Ok}
 use Rattle.std.proofs.lemmas.Result.{err_from_is_err_and}
-use Rattle.text_fields.specs.Said.{codes_in}
+use Rattle.text_fields.proofs.Codes.{codes_in}
 use Rattle.text_fields.specs.declared.FieldFault.{FieldFault}
 use Rattle.text_fields.proofs.FaultLaws.{zero-at}
 use Rattle.text_fields.proofs.UnlessLaws.{right-codes}

@@ -1,6 +1,6 @@
-use Rattle.text_fields.specs.Said.{codes_in}
+use mathlib.Core.List.{map}
 use Rattle.text_fields.proofs.FaultLaws.{WorstFrom}
 use Rattle.text_fields.proofs.faults.check_line.Given as goal
 
 abbrev pub invariant-loop-kind : goal.invariant-loop-kind
-invariant-loop-kind l = WorstFrom l.kind-items (codes_in l.faults) l.kind-index
+invariant-loop-kind g l = WorstFrom l.kind-items (map g.C.Coded.code_of l.faults) l.kind-index
