@@ -31,8 +31,9 @@ impl ListPart {
     // The next byte, and none at the end of the list. Where the part has been taken, or is not so long, the next one is read.
     fn next(&mut self, rt: &(impl Input + Say), part: &mut [u8]) -> Result<Option<u8>, Told> {
         if self.at >= self.filled || self.filled > part.len() {
+            // nothing is left of it where the next one cannot be read
+            (self.at, self.filled) = (0, 0);
             self.filled = read_piece(rt, part)?.len();
-            self.at = 0;
         }
         if self.filled == 0 {
             return Ok(None);
