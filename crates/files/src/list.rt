@@ -29,7 +29,9 @@ impl ListPart {
     }
 
     // The next byte, and none at the end of the list. Where the part has been taken, or is not so long, the next one is read.
-    fn next(&mut self, rt: &(impl Input + Say), part: &mut [u8]) -> Result<Option<u8>, Told> {
+    fn next(&mut self, rt: &(impl Input + Say), part: &mut [u8]) -> Result<Option<u8>, Told>
+        ensures { self.new.filled ≤ length part.new }
+    {
         if self.at >= self.filled || self.filled > part.len() {
             // nothing is left of it where the next one cannot be read
             (self.at, self.filled) = (0, 0);
@@ -50,7 +52,8 @@ impl ListPart {
         name: &'n mut [u8],
         part: &mut [u8],
     ) -> Result<Option<Line<'n>>, Told>
-        ensures { IfOk result (λ found. IfSome found (λ line. length line.name.now ≤ length name.old)) }
+        ensures line { IfOk result (λ found. IfSome found (λ line. length line.name.now ≤ length name.old)) }
+        ensures part { self.new.filled ≤ length part.new }
     {
         let mut length = 0;
         while let Some(byte) = self.next(rt, part)? {
