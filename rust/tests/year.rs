@@ -186,7 +186,7 @@ fn lists_are_read_to_their_last_name() {
     expect_report(&folder, whole.as_os_str().as_bytes(), &once);
 }
 
-/// A list is read in parts of 4,096 bytes: names of three bytes lie across the borders of this one.
+/// A list is read in parts of 4,096 bytes: lines of three bytes lie across the borders of this one.
 #[test]
 fn a_list_is_read_part_by_part() {
     let folder = folder_with("year-parts", &[b"a"]);
