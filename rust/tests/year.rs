@@ -186,17 +186,6 @@ fn lists_are_read_to_their_last_name() {
     expect_report(&folder, whole.as_os_str().as_bytes(), &once);
 }
 
-/// A list is read in parts of 4,096 bytes: lines of three bytes lie across the borders of this one.
-#[test]
-fn a_list_is_read_part_by_part() {
-    let folder = folder_with("year-parts", &[b"a"]);
-    let report = format!(
-        "logs\t3000\t0\nboard\t1\t6000\t15000\t3\t2\nboard\t2\t9000\t30000\t6\t1\n{}all\t15000\t45000\t6\t1\n",
-        idle_from(3)
-    );
-    expect_report(&folder, &b"a/\n".repeat(3000), &report);
-}
-
 /// An empty file is there, and counts as what it is.
 #[test]
 fn what_is_refused_is_counted_apart() {

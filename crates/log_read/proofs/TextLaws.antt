@@ -1,6 +1,6 @@
 -- The line that begins a text: what it says, and how many bytes it uses up.
 use Prim.Native.Nat.{ℕ, suc, ◌+◌, ◌≤◌, ◌<◌}
-use mathlib.Core.Path.{◌≡◌, refl, sym, ap, ◌∙◌}
+use mathlib.Core.Path.{◌≡◌, refl, sym, ap, ◌∙◌, subst}
 use mathlib.Core.Logic.{◌≢◌}
 use mathlib.Core.Bool.{Bool, true, false}
 use mathlib.Core.List.{List, [], ◌∷◌}
@@ -112,33 +112,41 @@ line-used s z =
     let i = ltb-true (index_of LF s) (length s) w.0 in
     omega (arith, w.1, length-take (index_of LF s) s, length-drop (suc (index_of LF s)) s)
 
--- ---- a line that is refused has a code
+-- ---- the number that refuses a line: what is so of the worst of any codes is so of it
 
-unless-code :
-    (fault : Fault) (entry : Entry) {code column : ℕ} → (entry ≡ Refused code column → ⊥) → unless_fault fault Refused entry ≡ Refused code column
-    → code ≢ 0
-unless-code fault entry {code} {column} other e z =
-    by_bool (eqb fault.code 0)
-    (λ t. other (rw t at e))
-    (λ t.
-    let q : Refused fault.code fault.column ≡ Refused code column = rw t at e in
-    let i : fault.code ≡ code = cc in
-    eqb-false fault.code 0 t (i ∙ z))
+module _ (P : ℕ → Type 0) where
+  unless-refused :
+      (fault : Fault) (entry : Entry) {code column : ℕ} → (fault.code ≢ 0 → P fault.code) → (entry ≡ Refused code column → ⊥)
+      → unless_fault fault Refused entry ≡ Refused code column → P code
+  unless-refused fault entry {code} {column} so other e =
+      by_bool (eqb fault.code 0)
+      (λ t. absurd (other (rw t at e)))
+      (λ t.
+      let q : Refused fault.code fault.column ≡ Refused code column = rw t at e in
+      let i : fault.code ≡ code = cc in
+      subst P i (so (eqb-false fault.code 0 t)))
 
-refused-code : (ended : Bool) (line : List ℕ) {code column : ℕ} → entry_of ended line ≡ Refused code column → code ≢ 0
-unfolding entry_of
-refused-code ended line e =
-    by_bool (same (field line 0) (bytes "drop"))
-    (λ t. unless-code (fault_of line (drop_codes ended line)) (Drop (value_of (field line 1))) (λ x. cc) (rw t at e))
-    (λ t. unless-code (fault_of line (end_codes ended line)) (End (value_of (field line 1)) (value_of (field line 2))) (λ x. cc) (rw t at e))
+  module _ (so : (codes : List ℕ) → worst codes ≢ 0 → P (worst codes)) where
+    faulty : (line codes : List ℕ) → (fault_of line codes).code ≢ 0 → P (fault_of line codes).code
+    unfolding fault_of
+    faulty line codes = so codes
 
-next-refused : (s : List ℕ) {code column : ℕ} → next_entry s ≡ Refused code column → code ≢ 0
-unfolding next_entry
-next-refused s e = refused-code (has_line s) (before LF s) e
+    pub entry-refused : (ended : Bool) (line : List ℕ) {code column : ℕ} → entry_of ended line ≡ Refused code column → P code
+    unfolding entry_of
+    entry-refused ended line e =
+        let drops = faulty line (drop_codes ended line) in
+        let ends = faulty line (end_codes ended line) in
+        by_bool (same (field line 0) (bytes "drop"))
+        (λ t. unless-refused (fault_of line (drop_codes ended line)) (Drop (value_of (field line 1))) drops (λ x. cc) (rw t at e))
+        (λ t. unless-refused (fault_of line (end_codes ended line)) (End (value_of (field line 1)) (value_of (field line 2))) ends (λ x. cc) (rw t at e))
+
+    pub next-refused : (s : List ℕ) {code column : ℕ} → next_entry s ≡ Refused code column → P code
+    unfolding next_entry
+    next-refused s e = entry-refused (has_line s) (before LF s) e
 
 pub stops-code : (s : List ℕ) (r : Result entry.Entry LineFault) → said r ≡ next_entry s → is_err r ≡ true → entry_code (next_entry s) ≢ 0
 stops-code s (Ok entry) e h = true-false h refl
-stops-code s (Err fault) e h = λ z. let z' : fault.number ≡ 0 = rw (← e) at z in next-refused s (sym e) z'
+stops-code s (Err fault) e h = λ z. let z' : fault.number ≡ 0 = rw (← e) at z in next-refused (λ n. n ≢ 0) (λ codes some. some) s (sym e) z'
 
 pub goes-code : (s : List ℕ) (r : Result entry.Entry LineFault) → said r ≡ next_entry s → is_err r ≡ false → entry_code (next_entry s) ≡ 0
 goes-code s (Ok (read.End task tick)) e h = ap entry_code (sym e)
